@@ -1,41 +1,47 @@
--- The numbers that 01 gives to subtypes, array kinds and refusals.
+-- The port's own enums as the layout's, and the numbers of the refusals.
 use Prim.Native.Nat.{ℕ}
-use mathlib.Core.Bool.{Bool, true, false}
-use lib.Dec.{eqb}
+use Rattle.layout.specs.Field.{Subtype, Subtyped, Kind, fp32, fp64, string, blob, float, raw, known, unknown, unsigneds, signeds, floats}
+use Rattle.layout.specs.Field.{subtypeNumber, subtypeOf, kindNumber}
 use Rattle.types.specs.declared.FixlenType.{FixlenType}
 use Rattle.types.specs.declared.FixlenType.the-variants as Fix
 use Rattle.types.specs.declared.RawFixlen.{RawFixlen}
-use Rattle.types.specs.declared.RawFixlen.the-variants as Raw
+use Rattle.types.specs.declared.RawFixlen.the-variants as RawFix
 use Rattle.types.specs.declared.ArrayKind.{ArrayKind}
-use Rattle.types.specs.declared.ArrayKind.the-variants as Kind
+use Rattle.types.specs.declared.ArrayKind.the-variants as ArrayKinds
 use Rattle.types.specs.declared.Error.{Error}
 use Rattle.types.specs.declared.Error.the-variants as Err
 
--- "Subtype 0 is fp32, 1 fp64, 2 string, 3 blob."
-abbrev pub fixlenRaw : FixlenType → ℕ
-fixlenRaw Fix.Fp32 = 0
-fixlenRaw Fix.Fp64 = 1
-fixlenRaw Fix.Str = 2
-fixlenRaw Fix.Blob = 3
+abbrev pub subtype : FixlenType → Subtype
+subtype Fix.Fp32 = float fp32
+subtype Fix.Fp64 = float fp64
+subtype Fix.Str = raw string
+subtype Fix.Blob = raw blob
 
-abbrev pub pickRaw : Bool → RawFixlen → RawFixlen → RawFixlen
-pickRaw true a b = a
-pickRaw false a b = b
+abbrev pub fixlenType : Subtype → FixlenType
+fixlenType (float fp32) = Fix.Fp32
+fixlenType (float fp64) = Fix.Fp64
+fixlenType (raw string) = Fix.Str
+fixlenType (raw blob) = Fix.Blob
 
--- The subtype of a number; 4 to 7 have none.
+abbrev pub rawFixlen : Subtyped → RawFixlen
+rawFixlen (known s) = RawFix.Known (fixlenType s)
+rawFixlen unknown = RawFix.Unknown
+
+abbrev pub kind : ArrayKind → Kind
+kind ArrayKinds.Unsigned = unsigneds
+kind ArrayKinds.Signed = signeds
+kind ArrayKinds.Fp32 = floats fp32
+kind ArrayKinds.Fp64 = floats fp64
+
+-- the numbers on the wire, and of the event list
 abbrev pub rawOf : ℕ → RawFixlen
-rawOf n =
-    pickRaw (eqb n 0) (Raw.Known Fix.Fp32)
-    (pickRaw (eqb n 1) (Raw.Known Fix.Fp64)
-    (pickRaw (eqb n 2) (Raw.Known Fix.Str)
-    (pickRaw (eqb n 3) (Raw.Known Fix.Blob) Raw.Unknown)))
+rawOf n = rawFixlen (subtypeOf n)
 
--- "Array kind 0 to 3", in the Rust's order.
+abbrev pub fixlenRaw : FixlenType → ℕ
+fixlenRaw s = subtypeNumber (subtype s)
+
 abbrev pub kindRaw : ArrayKind → ℕ
-kindRaw Kind.Unsigned = 0
-kindRaw Kind.Signed = 1
-kindRaw Kind.Fp32 = 2
-kindRaw Kind.Fp64 = 3
+kindRaw k = kindNumber (kind k)
 
 -- "Refused, in checking order": the number of each refusal.
 abbrev pub numberOf : Error → ℕ

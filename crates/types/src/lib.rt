@@ -1,4 +1,4 @@
-// Shared types and wire constants: the Rust's types.rs, the configuration of its lib.rs, and the refusals by 01's numbers.
+// Shared types and wire constants: the Rust's types.rs, the configuration of its lib.rs, and the refusals by their numbers.
 ghost use mathlib.Core.Path.{_≡_};
 ghost use Rattle.types.specs.Types.{fixlenRaw, kindRaw, rawOf, numberOf};
 

@@ -1,7 +1,7 @@
 -- `types::FixlenType::from_raw` meets its contract: each number's subtype, and none above 3.
 use mathlib.Core.Path.{_≡_, sym, ap}
-use borrow.Author.Tests.{ne-eqb}
-use Rattle.types.specs.Types.{rawOf}
+use Rattle.types.specs.Types.{rawOf, rawFixlen}
+use Rattle.types.proofs.Subtypes.{none}
 use Rattle.types.proofs.FixlenType.from_raw.Statement.{statement}
 use Rattle.types.proofs.FixlenType.from_raw.Tie as tie
 
@@ -20,7 +20,7 @@ returns-4 c = sym (ap rawOf (c .match .keys4))
 returns-5 : tie.Need-returns-5
 returns-5 c =
     let n = c .match .rest in
-    simp (ne-eqb _ 0 (n .0 .0 .0 .1), ne-eqb _ 1 (n .0 .0 .1), ne-eqb _ 2 (n .0 .1), ne-eqb _ 3 (n .1))
+    sym (ap rawFixlen (none _ (n .0 .0 .0 .1) (n .0 .0 .1) (n .0 .1) (n .1)))
 
 pub from-raw-spec : {M : Type 1} → statement M
 from-raw-spec = tie.close (tie.spec returns returns-2 returns-3 returns-4 returns-5)

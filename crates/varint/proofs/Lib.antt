@@ -1,0 +1,5 @@
+-- `Laws` is what callers of the step cite; `Step`, `Shortest` and `Zigzag` are laws of the layout's own definitions, over any width.
+-- `Digits` and `Sign` say what the machine's operations come to.
+pub mod Digits
+pub mod Step
+pub mod Laws

@@ -1,0 +1,77 @@
+// Base-128 varints and zigzag: the Rust's varint.rs, with the step of the decoder (`Core::push` and `payload_at` of its istream.rs).
+// The step takes its state by value, so a varint may be cut anywhere between two bytes.
+ghost use mathlib.Core.Path.{_≡_};
+ghost use Prim.Native.Nat.{_+_, _*_, _%_, _^_, _<_, _≤_};
+ghost use lib.ListN.{length, getD};
+ghost use mir.Syntax.{w64};
+ghost use mir.Val.{ofZ};
+ghost use Rattle.layout.specs.Varint.{digit, shortest};
+ghost use Rattle.layout.specs.Zigzag.{zigzag, unzigzag};
+ghost use Rattle.varint.specs.Varint.{Sound, soundAcc, start, pushed};
+
+// A varint under way: how many bytes it had, and what they came to.
+pub struct Acc {
+    pub value: u64,
+    pub taken: u8,
+}
+
+// What one more byte makes of it.
+pub enum Push {
+    More(Acc),
+    Value(u64),
+    Overlong,
+}
+
+// The seven payload bits of b, moved to place k.
+fn payload_at(b: u8, k: u8) -> u64
+    requires { ⌜ k ≤ 8 ⌝ }
+    ensures { λ r. ⌜ r ≡ digit k b ⌝ }
+{
+    ((b & 0x7f) as u64) << (k * 7)
+}
+
+impl Acc {
+    pub fn new() -> Acc
+        ensures { λ r. ⌜ r ≡ start ⌝ }
+    {
+        Acc { value: 0, taken: 0 }
+    }
+
+    // Whether such bytes can have come before.
+    pub fn sound(self) -> bool
+        ensures { λ r. ⌜ r ≡ soundAcc self ⌝ }
+    {
+        let taken = self.taken;
+        let value = self.value;
+        if 9 < taken {
+            return false;
+        }
+        value >> (taken * 7) == 0
+    }
+
+    // Every way past 64 bits lies at the tenth byte: bit 7 set, or a payload above 1.
+    pub fn push(self, b: u8) -> Push
+        requires { ⌜ Sound self ⌝ }
+        ensures { λ r. ⌜ r ≡ pushed self b ⌝ }
+    {
+        let taken = self.taken;
+        let held = self.value;
+        if taken < 9 {
+            let value = held | payload_at(b, taken);
+            if b < 128 {
+                Push::Value(value)
+            } else {
+                Push::More(Acc {
+                    value,
+                    taken: taken + 1,
+                })
+            }
+        } else {
+            if 1 < b {
+                Push::Overlong
+            } else {
+                Push::Value(held | ((b as u64) << 63))
+            }
+        }
+    }
+}

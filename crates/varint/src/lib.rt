@@ -75,3 +75,52 @@ impl Acc {
         }
     }
 }
+
+// The two's complement bits of v.
+fn bits(v: i64) -> u64
+    ensures { λ r. ⌜ r ≡ ofZ w64 v ⌝ }
+{
+    if v < 0 { !((!v) as u64) } else { v as u64 }
+}
+
+// Doubling wraps, so that the lowest value is no special case; below 0 every bit is flipped.
+pub fn zigzag_encode(v: i64) -> u64
+    ensures { λ r. ⌜ r ≡ zigzag v ⌝ }
+{
+    let b = bits(v);
+    let doubled = std::num::wrapping_add_u64(b, b);
+    if v < 0 { !doubled } else { doubled }
+}
+
+pub fn zigzag_decode(u: u64) -> i64
+    ensures { λ r. ⌜ r ≡ unzigzag u ⌝ }
+{
+    let half = (u >> 1) as i64;
+    if u % 2 == 0 { half } else { !half }
+}
+
+// How many bytes the shortest varint of v has.
+pub fn varint_len(v: u64) -> usize
+    ensures { λ r. ⌜ r ≡ length (shortest v) ⌝ }
+{
+    let mut rest = v;
+    let mut len: usize = 1;
+    while 128 <= rest {
+        rest = rest >> 7;
+        len += 1;
+    }
+    len
+}
+
+// The byte at a place of the shortest varint of v: bit 7 where another follows.
+pub fn varint_byte(v: u64, place: usize) -> u8
+    requires { ⌜ place < length (shortest v) ⌝ }
+    ensures { λ r. ⌜ r ≡ getD (shortest v) place 0 ⌝ }
+{
+    let rest = v >> (place * 7);
+    if rest < 128 {
+        rest as u8
+    } else {
+        (rest % 128 + 128) as u8
+    }
+}

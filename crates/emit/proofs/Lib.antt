@@ -3,3 +3,4 @@ pub mod Writes
 pub mod Turns
 pub mod Low
 pub mod Segments
+pub mod Elements

@@ -18,6 +18,9 @@ use Rattle.emit.proofs.Writes.{put-put, put-none, reached-is, reached-r
 abbrev pub Emitted : Cursor → List ℕ → List ℕ → Cursor → List ℕ → Type 0
 Emitted c b s c′ b′ = (c′ ≡ moved c b s) × (b′ ≡ placed c b s)
 
+pub respelled : (c : Cursor) (b s t : List ℕ) (c′ : Cursor) (b′ : List ℕ) → s ≡ t → Emitted c b s c′ b′ → Emitted c b t c′ b′
+respelled c b s t c′ b′ e h = subst (λ (l : List ℕ). Emitted c b l c′ b′) e h
+
 -- what is left of it, t, goes from the cursor on
 pub some-left : (c : Cursor) (b s t : List ℕ) (end n : ℕ) (b′ : List ℕ) → n ≡ c .skip - length s → t ≡ drop (c .skip) s → end ≡ reached b (c .pos) t
     → b′ ≡ put b (c .pos) t → Emitted c b s (record { pos = end; skip = n }) b′
@@ -88,3 +91,8 @@ stays-in c b s c1 b1 h (e, f) = (
   subst (λ (d : Cursor). d .pos ≤ length b1) (sym e) (subst (λ (l : List ℕ). moved c b s .pos ≤ length l) (sym f) (moved-le c b s h)),
   ap length f ∙ length-placed c b s h,
 )
+
+pub joined-three : (c : Cursor) (b s : List ℕ) (c1 : Cursor) (b1 t : List ℕ) (c2 : Cursor) (b2 u : List ℕ) (c3 : Cursor) (b3 : List ℕ) → c .pos ≤ length b → Emitted c b s c1 b1
+    → Emitted c1 b1 t c2 b2 → Emitted c2 b2 u c3 b3 → Emitted c b (s ++ (t ++ u)) c3 b3
+joined-three c b s c1 b1 t c2 b2 u c3 b3 h e f g =
+    joined c b s c1 b1 (t ++ u) c3 b3 h e (joined c1 b1 t c2 b2 u c3 b3 (stays-in c b s c1 b1 h e .0) f g)

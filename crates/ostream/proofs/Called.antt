@@ -1,0 +1,74 @@
+-- The three ways that a call ends, and what a sound state is known to be.
+use mathlib.Core.Path.{_≡_, refl, sym, ap, _∙_, subst}
+use mathlib.Core.List.{List, [], _∷_, _++_}
+use mathlib.Core.Bool.{Bool, true, false, _&&_, not}
+use Prim.Native.Nat.{ℕ, zero, suc, _+_, _-_, _≤_, _<_}
+use native.Mathlib.Omega.{arith}
+use lib.Dec.{leb, eqb, ltb}
+use lib.ListN.{length, take, drop}
+use borrow.Author.Tests.{leb-true, lt-ltb, le-ltb, not-true, not-false}
+use Rattle.layout.specs.Limits.{base}
+use Rattle.types.specs.declared.Error.{Error}
+use Rattle.types.specs.declared.Error.the-variants.{PlaceBeyond}
+use Rattle.emit.specs.declared.Cursor.{Cursor}
+use Rattle.emit.specs.Cursor.{placed, moved}
+use Rattle.emit.proofs.Segments.{Emitted}
+use Rattle.ostream.specs.declared.OStream.{OStream}
+use Rattle.ostream.specs.declared.Written.{Written}
+use Rattle.ostream.specs.Stream.{every, soundStream, lazyDepth}
+use Rattle.ostream.specs.Emission.{Call, Verdict, accepted, refusedWith, judged, refused, answered, left, start, calledBy, leavesBy, called, leaves}
+
+-- ---- a sound state
+
+pub record Sound (s : OStream) (size : ℕ) : Type 0 where
+  pub inside : s .offset ≤ size
+  pub few : s .npending ≤ lazyDepth
+  pub nested : s .npending ≤ s .depth
+  pub shallow : s .depth ≤ base .depth
+  pub legal : every (λ x. leb x (base .id)) (take (s .npending) (s .pending)) ≡ true
+  pub zeros : every (λ x. eqb x 0) (drop (s .npending) (s .pending)) ≡ true
+
+pub both : (a b : Bool) → (a && b) ≡ true → (a ≡ true) × (b ≡ true)
+both true b e = (refl, e)
+both false b e = let z : _≡_ {A = ℕ} 0 1 = cc in absurd (omega arith)
+
+pub is-sound : (s : OStream) (size : ℕ) → soundStream s size ≡ true → Sound s size
+unfolding soundStream
+is-sound s size e =
+    let a = both _ _ e in
+    let b = both _ _ (a .1) in
+    let c = both _ _ (b .1) in
+    let d = both _ _ (c .1) in
+    let f = both _ _ (d .1) in
+    record { inside = leb-true _ _ (a .0); few = leb-true _ _ (b .0); nested = leb-true _ _ (c .0); shallow = leb-true _ _ (d .0); legal = f .0; zeros = f .1 }
+
+-- ---- how a call ends
+
+module _ (k : Call) (s : OStream) (b : List ℕ) (place : ℕ) (r : Written) where
+  pub refuses : (e : Error) → judged (k .tests) ≡ refusedWith e → r ≡ refused s e → (r ≡ called k s b place) × (b ≡ leaves k s b place)
+  unfolding called leaves calledBy leavesBy
+  refuses e j h = (h ∙ sym (ap (λ (v : Verdict). calledBy v k s b place) j), sym (ap (λ (v : Verdict). leavesBy v k s b place) j))
+
+  pub beyond : judged (k .tests) ≡ accepted → length (k .output) < place → r ≡ refused s PlaceBeyond → (r ≡ called k s b place) × (b ≡ leaves k s b place)
+  unfolding called leaves calledBy leavesBy answered left
+  beyond j l h = (
+    h ∙ sym (ap (λ (v : Verdict). calledBy v k s b place) j ∙ simp (lt-ltb _ _ l)),
+    sym (ap (λ (v : Verdict). leavesBy v k s b place) j ∙ simp (lt-ltb _ _ l)),
+  )
+
+  -- all of the output goes to the emission
+  pub sends : (b′ : List ℕ) (c′ : Cursor) → judged (k .tests) ≡ accepted → place ≤ length (k .output) → r ≡ answered s (length b) (length (k .output)) place (k .done)
+      → Emitted (start s place) b (k .output) c′ b′ → (r ≡ called k s b place) × (b′ ≡ leaves k s b place)
+  unfolding called leaves calledBy leavesBy left placed
+  sends b′ c′ j l h e = (
+    h ∙ sym (ap (λ (v : Verdict). calledBy v k s b place) j),
+    e .1 ∙ sym (ap (λ (v : Verdict). leavesBy v k s b place) j ∙ simp (le-ltb _ _ l)),
+  )
+
+-- ---- what the code's tests say
+
+pub tested-unsound : (t : Bool) (s : OStream) (size : ℕ) → t ≡ soundStream s size → not t ≡ true → soundStream s size ≡ false
+tested-unsound t s size e h = sym e ∙ not-true t h
+
+pub tested-sound : (t : Bool) (s : OStream) (size : ℕ) → t ≡ soundStream s size → not t ≡ false → soundStream s size ≡ true
+tested-sound t s size e h = sym e ∙ not-false t h

@@ -1,0 +1,4 @@
+-- What the writer's calls come to. Read in this order: Stream (the state), Emission (one call), Calls (each call).
+pub mod Stream
+pub mod Emission
+pub mod Calls

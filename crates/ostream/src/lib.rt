@@ -1,0 +1,257 @@
+// The writer: fields into a lent buffer, and the caller drains it. The Rust's ostream.rs; each call takes the state and hands the new
+// one back. A call that meets the buffer's end answers "full" with how many of its bytes are out, and goes on from that place when it
+// is made again.
+use emit::Cursor;
+use types::Error;
+use types::ID_MAX;
+use types::T_SEQUENCE_START;
+use types::T_VARINT_UNSIGNED;
+use varint::varint_len;
+ghost use mathlib.Core.Path.{_≡_};
+ghost use Prim.Native.Nat.{_+_, _-_, _*_, _≤_, _<_};
+ghost use lib.Dec.{leb, eqb};
+ghost use lib.ListN.{length, take, drop};
+ghost use Rattle.layout.specs.Limits.{base};
+ghost use Rattle.ostream.specs.Stream.{every, soundStream, heldBytes, headBytes, zeroed, committed};
+ghost use Rattle.emit.specs.Cursor.{placed, moved};
+ghost use Rattle.ostream.specs.Emission.{start, answered, refused, called, leaves};
+ghost use Rattle.ostream.specs.Calls.{varintCall, unsignedCall};
+
+// A writer's state. `offset` is where the next byte goes; `depth` counts the open sequences; `pending` has the ids of the innermost
+// `npending` of them, whose headers are held back, and zero elsewhere.
+pub struct OStream {
+    pub offset: usize,
+    pub depth: u16,
+    pub pending: [u32; 8],
+    pub npending: u16,
+}
+
+// What a call comes to: all its bytes are out; the buffer is full, and that many are out; or refused.
+pub enum Answer {
+    Done,
+    Full(usize),
+    Refused(Error),
+}
+
+pub struct Written {
+    pub answer: Answer,
+    pub stream: OStream,
+}
+
+// Whether the first n ids are legal.
+fn ids_legal(pending: [u32; 8], n: usize) -> bool
+    requires { ⌜ n ≤ 8 ⌝ }
+    ensures { λ r. ⌜ r ≡ every (λ x. leb x (base .id)) (take n pending) ⌝ }
+{
+    let mut i: usize = 0;
+    while i < n {
+        if 2147483647 < pending[i] {
+            return false;
+        }
+        i += 1;
+    }
+    true
+}
+
+// Whether the places from n on are zero.
+fn unused_zero(pending: [u32; 8], n: usize) -> bool
+    requires { ⌜ n ≤ 8 ⌝ }
+    ensures { λ r. ⌜ r ≡ every (λ x. eqb x 0) (drop n pending) ⌝ }
+{
+    let mut i = n;
+    while i < 8 {
+        if pending[i] != 0 {
+            return false;
+        }
+        i += 1;
+    }
+    true
+}
+
+// The first n of some places zeroed.
+fn clear(places: [u32; 8], n: usize) -> [u32; 8]
+    requires { ⌜ n ≤ 8 ⌝ }
+    ensures { λ r. ⌜ r ≡ zeroed n places ⌝ }
+{
+    let mut cleared = places;
+    let mut i: usize = 0;
+    while i < n {
+        cleared[i] = 0;
+        i += 1;
+    }
+    cleared
+}
+
+// A header's number, and a fixed-length word's.
+fn tagged(n: u32, tag: u8) -> u64
+    ensures { λ r. ⌜ r ≡ n * 8 + tag ⌝ }
+{
+    (n as u64) * 8 + (tag as u64)
+}
+
+impl OStream {
+    // Whether the state can be that of a writer over a buffer of this size.
+    fn sound(self, size: usize) -> bool
+        ensures { λ r. ⌜ r ≡ soundStream self size ⌝ }
+    {
+        let offset = self.offset;
+        let depth = self.depth;
+        let held = self.npending;
+        let pending = self.pending;
+        if size < offset {
+            return false;
+        }
+        if 8 < held {
+            return false;
+        }
+        if depth < held {
+            return false;
+        }
+        if 255 < depth {
+            return false;
+        }
+        if ids_legal(pending, held as usize) {
+            unused_zero(pending, held as usize)
+        } else {
+            false
+        }
+    }
+
+    fn refuse(self, e: Error) -> Written
+        ensures { λ r. ⌜ r ≡ refused self e ⌝ }
+    {
+        Written {
+            answer: Answer::Refused(e),
+            stream: self,
+        }
+    }
+
+    // How many bytes the headers that are held back take.
+    fn held_len(self) -> usize
+        requires { ⌜ self .npending ≤ 8 ⌝ }
+        ensures { λ r. ⌜ (r ≡ length (heldBytes self)) × (r ≤ 80) ⌝ }
+    {
+        let pending = self.pending;
+        let held = self.npending as usize;
+        let mut len: usize = 0;
+        let mut i: usize = 0;
+        while i < held {
+            let id = pending[i];
+            len += varint_len(tagged(id, T_SEQUENCE_START));
+            i += 1;
+        }
+        len
+    }
+
+    // Those headers, outermost first, from a place in the call's output on.
+    fn put_held(self, buf: &mut [u8], place: usize) -> Cursor
+        requires { ⌜ (self .npending ≤ 8) × (self .offset ≤ length (now buf)) ⌝ }
+        ensures { λ r. ⌜ (r ≡ moved (start self place) (now (buf .entry)) (heldBytes self)) × (now (buf .exit) ≡ placed (start self place) (now (buf .entry)) (heldBytes self)) ⌝ }
+    {
+        let pending = self.pending;
+        let held = self.npending as usize;
+        let mut cursor = Cursor {
+            pos: self.offset,
+            skip: place,
+        };
+        let mut i: usize = 0;
+        while i < held {
+            let id = pending[i];
+            cursor = cursor.put_varint(buf, tagged(id, T_SEQUENCE_START));
+            i += 1;
+        }
+        cursor
+    }
+
+    // What a call answers whose output has `total` bytes, those from the place on being out as far as there is room.
+    fn finish(mut self, size: usize, total: usize, place: usize, mut next: OStream) -> Written
+        requires { ⌜ self .offset ≤ size ⌝ }
+        ensures { λ r. ⌜ r ≡ answered self size total place next ⌝ }
+    {
+        if total < place {
+            return self.refuse(Error::PlaceBeyond);
+        }
+        let owed = total - place;
+        let offset = self.offset;
+        let room = size - offset;
+        if owed <= room {
+            next.offset = offset + owed;
+            Written {
+                answer: Answer::Done,
+                stream: next,
+            }
+        } else {
+            self.offset = size;
+            Written {
+                answer: Answer::Full(place + room),
+                stream: self,
+            }
+        }
+    }
+
+    // The state once no id is held any more, at a depth.
+    fn commit(mut self, depth: u16) -> OStream
+        requires { ⌜ self .npending ≤ 8 ⌝ }
+        ensures { λ r. ⌜ r ≡ committed self depth ⌝ }
+    {
+        let pending = self.pending;
+        let cleared = clear(pending, self.npending as usize);
+        self.pending = cleared;
+        self.npending = 0;
+        self.depth = depth;
+        self
+    }
+
+    // The answer of a call that writes: once all is out, no id is held any more.
+    fn complete(self, size: usize, total: usize, place: usize, depth: u16) -> Written
+        requires { ⌜ (self .npending ≤ 8) × (self .offset ≤ size) ⌝ }
+        ensures { λ r. ⌜ r ≡ answered self size total place (committed self depth) ⌝ }
+    {
+        self.finish(size, total, place, self.commit(depth))
+    }
+
+    // How many bytes the held headers, a field's header and the varint after it take.
+    fn head_len(self, header: u64, second: u64) -> usize
+        requires { ⌜ self .npending ≤ 8 ⌝ }
+        ensures { λ r. ⌜ (r ≡ length (headBytes self header second)) × (r ≤ 100) ⌝ }
+    {
+        self.held_len() + varint_len(header) + varint_len(second)
+    }
+
+    // Those bytes.
+    fn put_head(self, buf: &mut [u8], header: u64, second: u64, place: usize) -> Cursor
+        requires { ⌜ (self .npending ≤ 8) × (self .offset ≤ length (now buf)) ⌝ }
+        ensures { λ r. ⌜ (r ≡ moved (start self place) (now (buf .entry)) (headBytes self header second)) × (now (buf .exit) ≡ placed (start self place) (now (buf .entry)) (headBytes self header second)) ⌝ }
+    {
+        let held = self.put_held(buf, place);
+        let head = held.put_varint(buf, header);
+        head.put_varint(buf, second)
+    }
+
+    // A field of a header and one varint.
+    fn write_varint(self, buf: &mut [u8], id: u32, wire: u8, value: u64, place: usize) -> Written
+        ensures { λ r. ⌜ (r ≡ called (varintCall self (length (now (buf .entry))) id wire value) self (now (buf .entry)) place) × (now (buf .exit) ≡ leaves (varintCall self (length (now (buf .entry))) id wire value) self (now (buf .entry)) place) ⌝ }
+    {
+        let size = buf.len();
+        if !self.sound(size) {
+            return self.refuse(Error::UnsoundWriter);
+        }
+        if ID_MAX < id {
+            return self.refuse(Error::IdTooLarge);
+        }
+        let header = tagged(id, wire);
+        let total = self.head_len(header, value);
+        if total < place {
+            return self.refuse(Error::PlaceBeyond);
+        }
+        self.put_head(buf, header, value, place);
+        self.complete(size, total, place, self.depth)
+    }
+
+    // An unsigned integer.
+    pub fn write_unsigned(mut self, buf: &mut [u8], id: u32, value: u64, place: usize) -> Written
+        ensures { λ r. ⌜ (r ≡ called (unsignedCall self (length (now (buf .entry))) id value) self (now (buf .entry)) place) × (now (buf .exit) ≡ leaves (unsignedCall self (length (now (buf .entry))) id value) self (now (buf .entry)) place) ⌝ }
+    {
+        self.write_varint(buf, id, T_VARINT_UNSIGNED, value, place)
+    }
+}

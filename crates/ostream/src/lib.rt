@@ -9,12 +9,14 @@ use types::T_VARINT_UNSIGNED;
 use varint::varint_len;
 ghost use mathlib.Core.Path.{_≡_};
 ghost use Prim.Native.Nat.{_+_, _-_, _*_, _≤_, _<_};
+ghost use mathlib.Core.Bool.{true, false};
 ghost use lib.Dec.{leb, eqb};
 ghost use lib.ListN.{length, take, drop};
 ghost use Rattle.layout.specs.Limits.{base};
-ghost use Rattle.ostream.specs.Stream.{every, soundStream, heldBytes, headBytes, zeroed, committed};
+ghost use Rattle.ostream.specs.Stream.{every, soundStream, heldBytes, headBytes, zeroed, committed, opened};
 ghost use Rattle.emit.specs.Cursor.{placed, moved};
 ghost use Rattle.ostream.specs.Emission.{start, answered, refused, called, leaves};
+ghost use Rattle.ostream.specs.Buffer.{badBuffer, opening, draining, changing};
 ghost use Rattle.ostream.specs.Calls.{varintCall, unsignedCall};
 
 // A writer's state. `offset` is where the next byte goes; `depth` counts the open sequences; `pending` has the ids of the innermost
@@ -35,6 +37,17 @@ pub enum Answer {
 
 pub struct Written {
     pub answer: Answer,
+    pub stream: OStream,
+}
+
+// What a call comes to that answers a position: that many bytes stand below it.
+pub enum Count {
+    Bytes(usize),
+    Refused(Error),
+}
+
+pub struct Counted {
+    pub answer: Count,
     pub stream: OStream,
 }
 
@@ -89,7 +102,115 @@ fn tagged(n: u32, tag: u8) -> u64
     (n as u64) * 8 + (tag as u64)
 }
 
+// Whether a buffer of this size cannot be written from the offset on; one that is to be drained needs a byte.
+fn unfit(size: usize, offset: usize, drained: bool) -> bool
+    ensures { λ r. ⌜ r ≡ badBuffer size offset drained .fails ⌝ }
+{
+    if drained {
+        size <= offset
+    } else {
+        size < offset
+    }
+}
+
 impl OStream {
+    // A writer at the offset, with no sequence open.
+    fn install(offset: usize) -> OStream
+        ensures { λ r. ⌜ r ≡ opened offset ⌝ }
+    {
+        OStream {
+            offset,
+            depth: 0,
+            pending: [0; 8],
+            npending: 0,
+        }
+    }
+
+    fn open(size: usize, offset: usize, drained: bool) -> Written
+        ensures { λ r. ⌜ r ≡ opening size offset drained ⌝ }
+    {
+        if unfit(size, offset, drained) {
+            OStream::install(0).refuse(Error::BadBuffer)
+        } else {
+            Written {
+                answer: Answer::Done,
+                stream: OStream::install(offset),
+            }
+        }
+    }
+
+    // A writer over the buffer, which is not drained.
+    pub fn new(buf: &[u8]) -> OStream
+        ensures { λ r. ⌜ r ≡ opened 0 ⌝ }
+    {
+        OStream::install(0)
+    }
+
+    // The same, with the buffer's first bytes reserved.
+    pub fn with_offset(buf: &[u8], offset: usize) -> Written
+        ensures { λ r. ⌜ r ≡ opening (length (now (buf .entry))) offset false ⌝ }
+    {
+        OStream::open(buf.len(), offset, false)
+    }
+
+    // A writer over a buffer that the caller drains.
+    pub fn with_flush(buf: &[u8], offset: usize) -> Written
+        ensures { λ r. ⌜ r ≡ opening (length (now (buf .entry))) offset true ⌝ }
+    {
+        OStream::open(buf.len(), offset, true)
+    }
+
+    // How many bytes of the buffer are used.
+    pub fn bytes_used(self) -> usize
+        ensures { λ r. ⌜ r ≡ self .offset ⌝ }
+    {
+        self.offset
+    }
+
+    // The caller drains the buffer: as many bytes as answered are to be sent, and writing starts at 0.
+    pub fn flush(mut self, buf: &[u8]) -> Counted
+        ensures { λ r. ⌜ r ≡ draining self (length (now (buf .entry))) ⌝ }
+    {
+        if self.sound(buf.len()) {
+            let used = self.offset;
+            self.offset = 0;
+            Counted {
+                answer: Count::Bytes(used),
+                stream: self,
+            }
+        } else {
+            Counted {
+                answer: Count::Refused(Error::UnsoundWriter),
+                stream: self,
+            }
+        }
+    }
+
+    // Another buffer from the offset on. The answer counts the old one's bytes, which the caller of a drained writer still sends.
+    pub fn buffer_set(mut self, old: &[u8], new: &[u8], offset: usize, drained: bool) -> Counted
+        ensures { λ r. ⌜ r ≡ changing self (length (now (old .entry))) (length (now (new .entry))) offset drained ⌝ }
+    {
+        if unfit(new.len(), offset, drained) {
+            return Counted {
+                answer: Count::Refused(Error::BadBuffer),
+                stream: self,
+            };
+        }
+        if self.sound(old.len()) {
+            let used = self.offset;
+            self.offset = offset;
+            Counted {
+                answer: Count::Bytes(used),
+                stream: self,
+            }
+        } else {
+            Counted {
+                answer: Count::Refused(Error::UnsoundWriter),
+                stream: self,
+            }
+        }
+    }
+
     // Whether the state can be that of a writer over a buffer of this size.
     fn sound(self, size: usize) -> bool
         ensures { λ r. ⌜ r ≡ soundStream self size ⌝ }

@@ -1,0 +1,3 @@
+pub mod Readings
+pub mod Bridge
+pub mod Prefix

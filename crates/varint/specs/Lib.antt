@@ -1,0 +1,2 @@
+-- What the functions of varint are held to, beside the layout's own definitions.
+pub mod Varint

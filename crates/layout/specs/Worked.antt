@@ -50,7 +50,7 @@ bad bs es n = record { bytes = bs; fields = []; events = es; verdict = brokenAt 
 abbrev part : List ℕ → List Event → Row
 part bs es = record { bytes = bs; fields = []; events = es; verdict = incomplete; copy = [] }
 
--- the lowest signed value's varint after its header, but for its tenth byte
+-- signed, id 2: the lowest signed value but for its varint's tenth byte
 abbrev nine : ℕ → List ℕ
 nine b = 0x11 ∷ (replicate 9 0xFF ++ (b ∷ []))
 
@@ -103,7 +103,7 @@ table =
       copy = 0x36 ∷ 0x07 ∷ [];
     }
     ∷ bad (0x07 ∷ []) [] 1
-    -- the bytes of "nine plain opens, ids 1 to 9, then nine plain closes"; and "empty input is complete"
+    -- the bytes of "nine plain opens, ids 1 to 9, then nine plain closes"; and empty input
     ∷ good (0x0E ∷ 0x16 ∷ 0x1E ∷ 0x26 ∷ 0x2E ∷ 0x36 ∷ 0x3E ∷ 0x46 ∷ 0x4E ∷ replicate 9 0x07)
     (begin 1 ∷ begin 2 ∷ begin 3 ∷ begin 4 ∷ begin 5 ∷ begin 6 ∷ begin 7 ∷ begin 8 ∷ begin 9 ∷ replicate 9 (end 0))
     (Begin 1 ∷ Begin 2 ∷ Begin 3 ∷ Begin 4 ∷ Begin 5 ∷ Begin 6 ∷ Begin 7 ∷ Begin 8 ∷ Begin 9 ∷ replicate 9 End)

@@ -1,3 +1,4 @@
 pub mod Readings
 pub mod Bridge
 pub mod Prefix
+pub mod Calls

@@ -162,7 +162,7 @@ pieced L d id r total o (x ∷ xs) h l =
 -- ---- reading on
 
 -- A verdict comes once the chunk is spent and is that of the place reached; an event and number 2 come at a byte read.
-abbrev Judged : State → Verdict → Type 0
+abbrev pub Judged : State → Verdict → Type 0
 Judged (reading d p) v = v ≡ verdictAt d p
 Judged (owing d id r) v = ⊥
 Judged broke v = ⊥
@@ -302,9 +302,32 @@ read-on L bs xs d p e = (
   ap (λ (w : Walk). w .events) (walk-append L 0 idle bs xs) ∙ ap (λ (q : Place). walk L 0 idle bs .events ++ walkOn L q xs .events) e,
 )
 
+-- one more call is needed where an event is due
+abbrev pub weight : State → ℕ
+weight (reading d p) = 0
+weight (owing d id r) = 1
+weight broke = 0
+
+-- An event brings the end of the chunk nearer; a verdict comes once the chunk is spent and is that of the place reached.
+abbrev pub Closes : Answer → State → State → ℕ → ℕ → Type 0
+Closes (event e) s s′ k m = 2 * (m - k) + weight s′ < 2 * m + weight s
+Closes (verdict v) s s′ k m = (k ≡ m) × Judged s′ v
+Closes invalid s s′ k m = s′ ≡ broke
+
+light : (s : State) → weight s ≤ 1
+light (reading d p) = omega arith
+light (owing d id r) = omega arith
+light broke = omega arith
+
+closes : (a : Answer) (s s′ : State) (k m : ℕ) → k ≤ m → Ends a s′ k m → Closes a s s′ k m
+closes (event e) s s′ k m l h = omega (arith, light s′)
+closes (verdict v) s s′ k m l h = h
+closes invalid s s′ k m l h = h .1
+
 -- the bytes that a call reads, and what they are
 pub record Answered (L : Limits) (bs : List ℕ) (es : List Event) (s : State) (c : List ℕ) (r : Called) : Type 0 where
   pub few : r .read ≤ length c
+  pub closes : Closes (r .answer) s (r .state) (r .read) (length c)
   pub follows : Follows L (bs ++ take (r .read) c) (es ++ given (r .answer)) (r .state)
 
 answered-scan : (L : Limits) (bs : List ℕ) (es : List Event) (d : ℕ) (p : Phase) (c : List ℕ) (r : Called) → Follows L bs es (reading d p) → Scanned L 0 d p c r → Answered L bs es (reading d p) c r
@@ -320,7 +343,11 @@ answered-scan L bs es d p c r f h =
           ∙ sym (append-assoc (bytewise es) (bytewise (given (r .answer))) (due (r .state)))
           ∙ ap (λ (l : List Event). l ++ due (r .state)) (sym (bytewise-append es (given (r .answer))));
     } in
-    record { few = omega (arith, h .few); follows = subst (λ (n : ℕ). Follows L (bs ++ take n c) (es ++ given (r .answer)) (r .state)) (sym k) at-k }
+    record {
+      few = omega (arith, h .few);
+      closes = subst (λ (n : ℕ). Closes (r .answer) (reading d p) (r .state) n (length c)) (sym k) (closes (r .answer) (reading d p) (r .state) (h .k) (length c) (h .few) (h .ends));
+      follows = subst (λ (n : ℕ). Follows L (bs ++ take n c) (es ++ given (r .answer)) (r .state)) (sym k) at-k;
+    }
 
 -- After any series of calls the events given and the one due are the layout's for the bytes read: kept by each call.
 pub call-follows : (L : Limits) (bs : List ℕ) (es : List Event) (s : State) (c : List ℕ) → Follows L bs es s → Answered L bs es s c (call L s c)
@@ -330,6 +357,7 @@ call-follows L bs es (reading d p) c f =
 call-follows L bs es (owing d id r) c f =
     record {
       few = omega arith;
+      closes = omega arith;
       follows =
           record {
             place = ap (λ (l : List ℕ). walk L 0 idle l .place) (append-nil bs) ∙ f .place;
@@ -341,6 +369,7 @@ call-follows L bs es (owing d id r) c f =
 call-follows L bs es broke c f =
     record {
       few = omega arith;
+      closes = refl;
       follows =
           record {
             place = ap (λ (l : List ℕ). walk L 0 idle l .place) (append-nil bs) ∙ f .place;

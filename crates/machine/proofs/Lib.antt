@@ -2,3 +2,4 @@ pub mod Readings
 pub mod Bridge
 pub mod Prefix
 pub mod Calls
+pub mod Runs

@@ -1,3 +1,4 @@
 pub mod Numbers
 pub mod Parser
 pub mod Varint
+pub mod Parts

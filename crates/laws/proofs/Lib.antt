@@ -2,3 +2,4 @@ pub mod Numbers
 pub mod Parser
 pub mod Varint
 pub mod Parts
+pub mod Field

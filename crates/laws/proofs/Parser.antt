@@ -1,13 +1,13 @@
 -- The two laws of a part's reader, each said once: what was written is read back; and what is read is legal, took no fewer bytes than its
 -- shortest writing, and left bytes.
 use Prim.Native.Nat.{ℕ, _+_, _≤_}
-use mathlib.Core.Path.{_≡_, refl, ap}
+use mathlib.Core.Path.{_≡_, refl, ap, _∙_, subst}
 use mathlib.Core.List.{List, _++_, append-nil}
 use native.Mathlib.Omega.{arith}
 use lib.ListN.{length}
 use Rattle.layout.specs.Varint.{Outcome, whole, short, broken}
 use Rattle.layout.specs.Event.{Event}
-use Rattle.layout.specs.Reading.{Reading, given, follow, becoming}
+use Rattle.layout.specs.Reading.{Reading, given, follow, becoming, raise, quiet}
 use Rattle.laws.specs.Legal.{Bytes}
 
 -- a was read from bs and left rest
@@ -54,3 +54,22 @@ module _ {A B : Type 0} (b : B) (rest : List ℕ) (P : List Event → Type 0) wh
           rw append-nil (k a (ap (whole a) m) q)
       go es short e k = absurd (let z : _≡_ {A = ℕ} 0 1 = cc in omega arith)
       go es (broken r) e k = absurd (let z : _≡_ {A = ℕ} 0 1 = cc in omega arith)
+
+-- what a part's law says of the value that becomes another
+module _ {A B : Type 0} {ok : A → Type 0} {enc : A → List ℕ} (b : B) (bs rest : List ℕ) (a : Bytes bs) (P : B → List Event → Type 0) (f : A → B) where
+  pub parses-whole : {p : List ℕ → Outcome A} → Parses p ok enc → (e : A → List Event) → given (p bs) (λ x mid. raise (e x) (quiet (whole (f x) mid))) .outcome ≡ whole b rest →
+      ((x : A) → Got ok enc bs x rest → P (f x) (e x)) → P b (given (p bs) (λ x mid. raise (e x) (quiet (whole (f x) mid))) .events)
+  parses-whole {p} reads e s k =
+      given-whole b rest (P b) (p bs) (λ x mid. raise (e x) (quiet (whole (f x) mid))) s
+      (λ x mid q t.
+      let m : mid ≡ rest = cc in
+      let w : f x ≡ b = cc in
+      rw append-nil (subst (λ y. P y (e x)) w (k x (reads .back bs x rest a (q ∙ ap (whole x) m)))))
+
+  pub reads-whole : {r : List ℕ → Reading A} {evs : A → List Event} → Reads r ok enc evs → becoming f (r bs) .outcome ≡ whole b rest →
+      ((x : A) → Got ok enc bs x rest → P (f x) (evs x)) → P b (becoming f (r bs) .events)
+  reads-whole {r} {evs} reads s k =
+      becoming-whole b rest (P b) (r bs) f s
+      (λ x q w.
+      let h = reads .back bs x rest a q in
+      rw (h .raised) (subst (λ y. P y (evs x)) w (k x (h .got))))

@@ -1,0 +1,149 @@
+-- A field: its shortest bytes are read back as it, a close with id 0; and a field that is read is legal, nests, raised its own events and took
+-- no fewer bytes than its shortest.
+use Prim.Native.Nat.{ℕ, zero, suc, _+_, _*_, _/_, _%_, _^_, _<_, _≤_}
+use mathlib.Core.Path.{_≡_, refl, sym, ap, _∙_, subst}
+use mathlib.Core.Bool.{Bool, true, false}
+use mathlib.Core.List.{List, [], _∷_, _++_, map, append-assoc, append-nil}
+use native.Mathlib.Omega.{arith}
+use lib.ListN.{length, length-append}
+use lib.Dec.{leb, ltb, eqb}
+use borrow.Author.Tests.{le-leb, leb-true, lt-ltb, ltb-true, eq-eqb, eqb-true, ne-eqb, eqb-false}
+use Rattle.layout.specs.Limits.{Limits, pick}
+use Rattle.layout.specs.Varint.{Outcome, whole, short, broken, varint, shortest}
+use Rattle.layout.specs.Zigzag.{zigzag}
+use Rattle.layout.specs.Field.{Width, Raw, Subtype, Subtyped, Kind, Wire, Field, bytesOf, subtypeOf, subtypeNumber, wireOf, wireNumber, header, word, lowBytes, each}
+use Rattle.layout.specs.Field.{fp32, fp64, string, blob, float, raw, known, unknown, unsigneds, signeds, floats, T-unsigned, T-signed, T-fixlen, T-unsigneds, T-signeds, T-floats, T-begin, T-end}
+use Rattle.layout.specs.Field.{unsigned, signed, payload, unsignedArray, signedArray, floatArray, begin, end}
+use Rattle.layout.specs.Event.{Event, Unsigned, Signed, Float, Piece, Fixlen, Array, Begin, End, cutPiece}
+use Rattle.layout.specs.Reading.{Reading, quiet, raise, given, follow, becoming, lowFrom}
+use Rattle.layout.specs.Message.{headerOf, countOf, signedVarint, elements, payloadOf, fixlen, floatArrayOf, body, field}
+use Rattle.layout.specs.Copy.{fieldBytes}
+use Rattle.laws.specs.Legal.{Fit, All, Bytes, Legal, Nests, settled}
+use Rattle.laws.specs.Events.{fieldEvents}
+use Rattle.laws.proofs.Parser.{Got, Parses, Reads, given-whole, parses-whole, reads-whole}
+use Rattle.laws.proofs.Varint.{varint-parses, some}
+use Rattle.laws.proofs.Parts.{signed-parses, checked-parses, low-parses, length-low, elements-reads, payload-reads}
+
+-- ---- types and subtypes by number
+
+wire-small : (t : Wire) → wireNumber t ≤ 7
+wire-small T-unsigned = omega arith
+wire-small T-signed = omega arith
+wire-small T-fixlen = omega arith
+wire-small T-unsigneds = omega arith
+wire-small T-signeds = omega arith
+wire-small T-floats = omega arith
+wire-small T-begin = omega arith
+wire-small T-end = omega arith
+
+wire-of : (t : Wire) → wireOf (wireNumber t) ≡ t
+wire-of T-unsigned = refl
+wire-of T-signed = refl
+wire-of T-fixlen = refl
+wire-of T-unsigneds = refl
+wire-of T-signeds = refl
+wire-of T-floats = refl
+wire-of T-begin = refl
+wire-of T-end = refl
+
+wire-number : (k : ℕ) → k < 8 → wireNumber (wireOf k) ≡ k
+wire-number zero h = refl
+wire-number (suc zero) h = refl
+wire-number (suc (suc zero)) h = refl
+wire-number (suc (suc (suc zero))) h = refl
+wire-number (suc (suc (suc (suc zero)))) h = refl
+wire-number (suc (suc (suc (suc (suc zero))))) h = refl
+wire-number (suc (suc (suc (suc (suc (suc zero)))))) h = refl
+wire-number (suc (suc (suc (suc (suc (suc (suc zero))))))) h = refl
+wire-number (suc (suc (suc (suc (suc (suc (suc (suc k)))))))) h = absurd (omega arith)
+
+subtype-small : (s : Subtype) → subtypeNumber s ≤ 3
+subtype-small (float fp32) = omega arith
+subtype-small (float fp64) = omega arith
+subtype-small (raw string) = omega arith
+subtype-small (raw blob) = omega arith
+
+subtype-of : (s : Subtype) → subtypeOf (subtypeNumber s) ≡ known s
+subtype-of (float fp32) = refl
+subtype-of (float fp64) = refl
+subtype-of (raw string) = refl
+subtype-of (raw blob) = refl
+
+subtype-number : (k : ℕ) (s : Subtype) → subtypeOf k ≡ known s → subtypeNumber s ≡ k
+subtype-number zero s e = let q : s ≡ float fp32 = cc in ap subtypeNumber q
+subtype-number (suc zero) s e = let q : s ≡ float fp64 = cc in ap subtypeNumber q
+subtype-number (suc (suc zero)) s e = let q : s ≡ raw string = cc in ap subtypeNumber q
+subtype-number (suc (suc (suc zero))) s e = let q : s ≡ raw blob = cc in ap subtypeNumber q
+subtype-number (suc (suc (suc (suc k)))) s e = absurd (let z : _≡_ {A = ℕ} 0 1 = cc in omega arith)
+
+-- ---- written and read back
+
+module _ (L : Limits) (fit : Fit L) where
+  -- a header and then a body
+  headed : (d id : ℕ) (t : Wire) (bs rest : List ℕ) → id ≤ L .id → field L d (header id t ++ bs ++ rest) ≡ body L d id t (bs ++ rest)
+  unfolding field given
+  headed d id t bs rest h =
+      let q : (id * 8 + wireNumber t) / 8 ≡ id = omega (arith, wire-small t) in
+      let r : (id * 8 + wireNumber t) % 8 ≡ wireNumber t = omega (arith, wire-small t) in
+      let e : headerOf L (header id t ++ (bs ++ rest)) ≡ whole (id * 8 + wireNumber t) (bs ++ rest) =
+      checked-parses (varint-parses L) (λ h. leb (h / 8) (L .id)) .forth (id * 8 + wireNumber t) (bs ++ rest)
+      (omega (arith, wire-small t, fit .headers), le-leb ((id * 8 + wireNumber t) / 8) (L .id) (rw q h))
+      in
+      rw (append-assoc (header id t) bs rest, e, q, r, wire-of t)
+
+  -- a word and what follows it
+  worded : {B : Type 0} (f : ℕ → Subtyped → List ℕ → Reading B) (n : ℕ) (s : Subtype) (bs rest : List ℕ) → n ≤ L .size →
+      given (varint L (word n s ++ bs ++ rest)) (λ w rest. f (w / 8) (subtypeOf (w % 8)) rest) ≡ f n (known s) (bs ++ rest)
+  unfolding given
+  worded f n s bs rest h =
+      let q : (n * 8 + subtypeNumber s) / 8 ≡ n = omega (arith, subtype-small s) in
+      let r : (n * 8 + subtypeNumber s) % 8 ≡ subtypeNumber s = omega (arith, subtype-small s) in
+      rw (append-assoc (word n s) bs rest, varint-parses L .forth (n * 8 + subtypeNumber s) (bs ++ rest) (omega (arith, subtype-small s, fit .words)), q, r, subtype-of s)
+
+  -- a count and what follows it
+  counted : {B : Type 0} (f : ℕ → List ℕ → Reading B) (n : ℕ) (bs rest : List ℕ) → n ≤ L .count → given (countOf L (shortest n ++ bs ++ rest)) f ≡ f n (bs ++ rest)
+  unfolding given
+  counted f n bs rest h =
+      rw (append-assoc (shortest n) bs rest, checked-parses (varint-parses L) (λ n. leb n (L .count)) .forth n (bs ++ rest) (omega (arith, fit .counts), le-leb n (L .count) h))
+
+  -- a part that becomes the field
+  announced : {A : Type 0} {r : List ℕ → Reading A} {ok : A → Type 0} {enc : A → List ℕ} {evs : A → List Event} → Reads r ok enc evs → (f : A → Field) (e : Event) (a : A) (rest : List ℕ) → ok a →
+      raise (e ∷ []) (becoming f (r (enc a ++ rest))) ≡ record { events = e ∷ evs a; outcome = whole (f a) rest }
+  unfolding follow
+  announced {evs = evs} reads f e a rest h =
+      rw (reads .forth a rest h) (ap (λ es. record { events = e ∷ es; outcome = whole (f a) rest }) (append-nil (evs a)))
+
+  width-small : (w : Width) → bytesOf w ≤ L .size
+  width-small fp32 = omega (arith, fit .floats)
+  width-small fp64 = omega (arith, fit .floats)
+
+  word-eq : (w : Width) → eqb (bytesOf w) (bytesOf w) ≡ true
+  word-eq w = eq-eqb (bytesOf w) (bytesOf w) refl
+
+  field-forth : (d : ℕ) (x : Field) (rest : List ℕ) → Legal L x → Nests L d x → field L d (fieldBytes x ++ rest) ≡ record { events = fieldEvents x; outcome = whole (settled x) rest }
+  unfolding fieldBytes fieldEvents body fixlen floatArrayOf given
+  field-forth d (unsigned id n) rest h s = headed d id T-unsigned (shortest n) rest (h .0) ∙ rw (varint-parses L .forth n rest (h .1))
+  field-forth d (signed id z) rest h s = headed d id T-signed (shortest (zigzag z)) rest (h .0) ∙ rw (signed-parses L .forth z rest (h .1))
+  field-forth d (float id w x) rest h s =
+      headed d id T-fixlen _ rest (h .0)
+      ∙ worded (fixlen L id) (bytesOf w) (float w) (lowBytes (bytesOf w) x) rest (width-small w)
+      ∙ rw (word-eq w, low-parses (bytesOf w) .forth x rest (h .1))
+  field-forth d (payload id r bs) rest h s =
+      headed d id T-fixlen _ rest (h .0)
+      ∙ worded (fixlen L id) (length bs) (raw r) bs rest (h .1)
+      ∙ rw (le-leb (length bs) (L .size) (h .1)) (announced (payload-reads id r (length bs)) (payload id r) _ bs rest (h .2, refl))
+  field-forth d (unsignedArray id ns) rest h s =
+      headed d id T-unsigneds _ rest (h .0)
+      ∙ counted _ (length ns) (each shortest ns) rest (h .1)
+      ∙ announced (elements-reads (varint-parses L) (Unsigned id) (length ns)) (unsignedArray id) _ ns rest (h .2, refl)
+  field-forth d (signedArray id zs) rest h s =
+      headed d id T-signeds _ rest (h .0)
+      ∙ counted _ (length zs) (each (λ z. shortest (zigzag z)) zs) rest (h .1)
+      ∙ announced (elements-reads (signed-parses L) (Signed id) (length zs)) (signedArray id) _ zs rest (h .2, refl)
+  field-forth d (floatArray id w xs) rest h s =
+      headed d id T-floats _ rest (h .0)
+      ∙ counted _ (length xs) (word (bytesOf w) (float w) ++ each (lowBytes (bytesOf w)) xs) rest (h .1)
+      ∙ worded (floatArrayOf id (length xs)) (bytesOf w) (float w) (each (lowBytes (bytesOf w)) xs) rest (width-small w)
+      ∙ rw (word-eq w) (announced (elements-reads (low-parses (bytesOf w)) (Float id w) (length xs)) (floatArray id w) _ xs rest (h .2, refl))
+  field-forth d (begin id) rest h s = rw (← (append-nil (header id T-begin))) (headed d id T-begin [] rest h ∙ simp (lt-ltb d (L .depth) s))
+  field-forth d (end id) rest h s = rw (← (append-nil (header 0 T-end))) (headed d 0 T-end [] rest (omega arith) ∙ simp (ne-eqb d 0 (omega arith)))

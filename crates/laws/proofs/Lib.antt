@@ -3,3 +3,6 @@ pub mod Parser
 pub mod Varint
 pub mod Parts
 pub mod Field
+pub mod Message
+pub mod Copying
+pub mod Laws

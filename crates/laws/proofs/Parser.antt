@@ -41,6 +41,13 @@ module _ {A B : Type 0} (b : B) (rest : List ℕ) (P : List Event → Type 0) wh
   given-whole short f e k = absurd (let z : _≡_ {A = ℕ} 0 1 = cc in omega arith)
   given-whole (broken r) f e k = absurd (let z : _≡_ {A = ℕ} 0 1 = cc in omega arith)
 
+  pub follow-whole : (es : List Event) (o : Outcome A) (f : A → List ℕ → Reading B) → follow es o f .outcome ≡ whole b rest →
+      ((a : A) (mid : List ℕ) → o ≡ whole a mid → f a mid .outcome ≡ whole b rest → P (es ++ f a mid .events)) → P (follow es o f .events)
+  unfolding follow
+  follow-whole es (whole a mid) f e k = k a mid refl e
+  follow-whole es short f e k = absurd (let z : _≡_ {A = ℕ} 0 1 = cc in omega arith)
+  follow-whole es (broken r) f e k = absurd (let z : _≡_ {A = ℕ} 0 1 = cc in omega arith)
+
   pub becoming-whole : (r : Reading A) (f : A → B) → becoming f r .outcome ≡ whole b rest →
       ((a : A) → r .outcome ≡ whole a rest → f a ≡ b → P (r .events)) → P (becoming f r .events)
   unfolding follow

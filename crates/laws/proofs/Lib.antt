@@ -3,6 +3,7 @@ pub mod Parser
 pub mod Varint
 pub mod Parts
 pub mod Field
+pub mod Bytes
 pub mod Message
 pub mod Copying
 pub mod Laws

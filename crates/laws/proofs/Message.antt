@@ -48,6 +48,23 @@ settled-depth d (floatArray id w xs) = refl
 settled-depth d (begin id) = refl
 settled-depth d (end id) = refl
 
+settled-bytes : (x : Field) → fieldBytes (settled x) ≡ fieldBytes x
+unfolding fieldBytes
+settled-bytes (unsigned id n) = refl
+settled-bytes (signed id z) = refl
+settled-bytes (float id w x) = refl
+settled-bytes (payload id r bs) = refl
+settled-bytes (unsignedArray id ns) = refl
+settled-bytes (signedArray id zs) = refl
+settled-bytes (floatArray id w xs) = refl
+settled-bytes (begin id) = refl
+settled-bytes (end id) = refl
+
+pub encode-settled : (xs : List Field) → encode (map settled xs) ≡ encode xs
+unfolding encode each
+encode-settled [] = refl
+encode-settled (x ∷ xs) = rw (settled-bytes x, encode-settled xs)
+
 -- ---- fields one at a time
 
 at-end : (L : Limits) (n d : ℕ) → fieldsFrom L n d [] ≡ quiet (whole (record { list = []; depth = d }) [])

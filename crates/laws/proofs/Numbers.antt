@@ -1,18 +1,10 @@
--- Powers of 128 and 256, and the limits that fit.
+-- Powers of 128, and what the last byte of a varint can hold.
 use Prim.Native.Nat.{ℕ, zero, suc, _+_, _-_, _*_, _/_, _%_, _^_, _<_, _≤_}
 use mathlib.Core.Path.{_≡_, refl, sym, ap, _∙_}
-use native.Mathlib.Nat.{pow-suc, suc-mul}
+use native.Mathlib.Nat.{pow-suc}
 use native.Mathlib.Omega.{arith}
-use lib.Dec.{lit≤, lit<}
 use lib.Pow.{pow-add, pow-mono}
-use Rattle.layout.specs.Limits.{Limits, base, lastPlace, lastBound}
-use Rattle.laws.specs.Legal.{Fit, nesting, narrow}
-
-pub fit-nesting : (d : ℕ) → Fit (nesting d)
-fit-nesting d = record { headers = lit≤ tt; words = lit≤ tt; counts = lit< tt; floats = lit≤ tt }
-
-pub fit-narrow : (d : ℕ) → Fit (narrow d)
-fit-narrow d = record { headers = lit≤ tt; words = lit≤ tt; counts = lit< tt; floats = lit≤ tt }
+use Rattle.layout.specs.Limits.{Limits, lastPlace, lastBound}
 
 pub pow128 : (k : ℕ) → 128 ^ k ≡ 2 ^ (7 * k)
 pow128 zero = refl

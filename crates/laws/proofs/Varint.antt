@@ -18,12 +18,12 @@ use Rattle.laws.proofs.Parser.{Got, Parses}
 
 -- ---- the shortest bytes
 
-last-byte : (f n : ℕ) → n < 128 → shortestIn f n ≡ n ∷ []
+pub last-byte : (f n : ℕ) → n < 128 → shortestIn f n ≡ n ∷ []
 unfolding shortestIn
 last-byte zero n h = refl
 last-byte (suc f) n h = rw (lt-ltb n 128 h, shortestIn)
 
-one-more : (f n : ℕ) → 128 ≤ n → shortestIn (suc f) n ≡ (n % 128 + 128) ∷ shortestIn f (n / 128)
+pub one-more : (f n : ℕ) → 128 ≤ n → shortestIn (suc f) n ≡ (n % 128 + 128) ∷ shortestIn f (n / 128)
 unfolding shortestIn
 one-more f n h = simp (le-ltb n 128 h, shortestIn)
 

@@ -1,12 +1,12 @@
 -- The bytes of a message's events are the shortest bytes of its fields; and they are the same however payloads are cut into pieces.
-use Prim.Native.Nat.{ℕ, zero, suc, _+_, _-_, _<_, _≤_}
+use Prim.Native.Nat.{ℕ, suc, _-_}
 use mathlib.Core.Path.{_≡_, refl, sym, ap, _∙_}
-use mathlib.Core.List.{List, [], _∷_, _++_, map, append-assoc, append-nil}
+use mathlib.Core.List.{List, [], _∷_, _++_, map, append-assoc}
 use native.Mathlib.Omega.{arith}
 use lib.ListN.{length}
 use Rattle.layout.specs.Varint.{shortest}
 use Rattle.layout.specs.Zigzag.{zigzag}
-use Rattle.layout.specs.Field.{Raw, Field, bytesOf, header, word, lowBytes, each, float, raw, T-unsigned, T-signed, T-fixlen, T-unsigneds, T-signeds, T-floats, T-begin}
+use Rattle.layout.specs.Field.{Raw, Field, bytesOf, lowBytes, each, float}
 use Rattle.layout.specs.Field.{unsigned, signed, payload, unsignedArray, signedArray, floatArray, begin, end}
 use Rattle.layout.specs.Event.{Event, Unsigned, Signed, Float, Piece, Fixlen, Array, Begin, End, cutFrom, cutPiece, cut, bytewise}
 use Rattle.layout.specs.Copy.{fieldBytes, encode}

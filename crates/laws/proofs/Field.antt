@@ -9,20 +9,20 @@ use lib.ListN.{length, length-append}
 use lib.Dec.{leb, ltb, eqb, lit<}
 use borrow.Author.Tests.{le-leb, leb-true, lt-ltb, ltb-true, eq-eqb, eqb-true, ne-eqb, eqb-false}
 use Rattle.layout.specs.Limits.{Limits, pick}
-use Rattle.layout.specs.Varint.{Outcome, whole, short, broken, varint, shortest}
+use Rattle.layout.specs.Varint.{Outcome, whole, broken, varint, shortest}
 use Rattle.layout.specs.Zigzag.{zigzag}
-use Rattle.layout.specs.Field.{Width, Raw, Subtype, Subtyped, Kind, Wire, Field, bytesOf, subtypeOf, subtypeNumber, wireOf, wireNumber, header, word, lowBytes, each}
+use Rattle.layout.specs.Field.{Width, Subtype, Subtyped, Kind, Wire, Field, bytesOf, subtypeOf, subtypeNumber, wireOf, wireNumber, header, word, lowBytes, each}
 use Rattle.layout.specs.Field.{fp32, fp64, string, blob, float, raw, known, unknown, unsigneds, signeds, floats, T-unsigned, T-signed, T-fixlen, T-unsigneds, T-signeds, T-floats, T-begin, T-end}
 use Rattle.layout.specs.Field.{unsigned, signed, payload, unsignedArray, signedArray, floatArray, begin, end}
-use Rattle.layout.specs.Event.{Event, Unsigned, Signed, Float, Piece, Fixlen, Array, Begin, End, cutPiece}
-use Rattle.layout.specs.Reading.{Reading, quiet, raise, given, follow, becoming, lowFrom}
-use Rattle.layout.specs.Message.{headerOf, countOf, signedVarint, elements, payloadOf, fixlen, floatArrayOf, body, field}
+use Rattle.layout.specs.Event.{Event, Unsigned, Signed, Float, Fixlen, Array, Begin, End, cutPiece}
+use Rattle.layout.specs.Reading.{Reading, quiet, raise, given, follow, becoming}
+use Rattle.layout.specs.Message.{headerOf, countOf, elements, fixlen, floatArrayOf, body, field}
 use Rattle.layout.specs.Copy.{fieldBytes}
 use Rattle.laws.specs.Legal.{Fit, All, Bytes, Legal, Nests, settled}
 use Rattle.laws.specs.Events.{fieldEvents}
 use Rattle.laws.proofs.Parser.{Got, Parses, Reads, given-whole, parses-whole, reads-whole}
 use Rattle.laws.proofs.Varint.{varint-parses, shortest-last, some}
-use Rattle.laws.proofs.Parts.{signed-parses, checked-parses, low-parses, length-low, elements-reads, payload-reads}
+use Rattle.laws.proofs.Parts.{signed-parses, checked-parses, low-parses, elements-reads, payload-reads}
 
 -- ---- types and subtypes by number
 
@@ -221,6 +221,20 @@ module _ (L : Limits) (d id m : ℕ) (x : Field) (rest : List ℕ) (i : id ≤ L
       let g = checked-parses (varint-parses L) (λ n. leb n (L .count)) .back bs n mid a q in
       k n mid (g .bytes) (leb-true n (L .count) (g .legal .1)) (g .shorter) t)
 
+  -- an array's elements, after its announcement
+  array-back : {A : Type 0} {p : List ℕ → Outcome A} {ok : A → Type 0} {enc : A → List ℕ} → Parses p ok enc → (e : A → Event) (f : List A → Field) (k : Kind) →
+      ((xs : List A) → All ok xs → length xs ≤ L .count → Legal L (f xs) × Nests L d (f xs)) →
+      ((xs : List A) → fieldEvents (f xs) ≡ Array id k (length xs) ∷ map e xs) →
+      (n : ℕ) (bs : List ℕ) → Bytes bs → n ≤ L .count →
+      ((xs : List A) → length xs ≡ n → length (each enc xs) + length rest ≤ length bs → length (fieldBytes (f xs)) + length rest ≤ m) →
+      becoming f (elements p e n bs) .outcome ≡ whole x rest → Back L d m rest x (Array id k n ∷ becoming f (elements p e n bs) .events)
+  array-back reads e f k legal events n bs a c size s =
+      reads-whole x bs rest a (λ x es. Back L d m rest x (Array id k n ∷ es)) f (elements-reads reads e n) s
+      (λ xs g.
+      let n≡ : length xs ≡ n = g .legal .1 in
+      let l = legal xs (g .legal .0) (rw n≡ c) in
+      record { legal = l .0; nests = l .1; events = ap (λ n. Array id k n ∷ map e xs) (sym n≡) ∙ sym (events xs); shorter = size xs n≡ (g .shorter); bytes = g .bytes })
+
   floats-back : (n k : ℕ) (s : Subtype) (bs : List ℕ) → Bytes bs → n ≤ L .count → length (header id T-floats) + (length (shortest n) + (length (word k s) + length bs)) ≤ m →
       floatArrayOf id n k (known s) bs .outcome ≡ whole x rest → Back L d m rest x (floatArrayOf id n k (known s) bs .events)
   unfolding floatArrayOf fieldBytes fieldEvents
@@ -231,16 +245,8 @@ module _ (L : Limits) (d id m : ℕ) (x : Field) (rest : List ℕ) (i : id ≤ L
       let h′ : length (header id T-floats) + (length (shortest n) + (length (word (bytesOf w) (float w)) + length bs)) ≤ m =
       subst (λ k. length (header id T-floats) + (length (shortest n) + (length (word k (float w)) + length bs)) ≤ m) k≡ h
       in
-      reads-whole x bs rest a (λ x es. Back L d m rest x (Array id (floats w) n ∷ es)) (floatArray id w) (elements-reads (low-parses (bytesOf w)) (Float id w) n) t
-      (λ xs g.
-      let n≡ : length xs ≡ n = g .legal .1 in
-      record {
-        legal = (i, rw n≡ c, g .legal .0);
-        nests = tt;
-        events = ap (λ k. Array id (floats w) k ∷ map (Float id w) xs) (sym n≡);
-        shorter = simp (length-append, n≡) (omega (arith, g .shorter));
-        bytes = g .bytes;
-      }))
+      array-back (low-parses (bytesOf w)) (Float id w) (floatArray id w) (floats w) (λ xs l c. ((i, c, l), tt)) (λ xs. refl) n bs a c
+      (λ xs n≡ g. simp (length-append, n≡) (omega arith)) t)
   floats-back n k (raw r) bs a c h s = absurd (let z : _≡_ {A = ℕ} 0 1 = cc in omega arith)
 
   end-back : (t : Bool) (bs : List ℕ) → Bytes bs → length (header id T-end) + length bs ≤ m → eqb d 0 ≡ t →
@@ -272,29 +278,13 @@ module _ (L : Limits) (d id m : ℕ) (x : Field) (rest : List ℕ) (i : id ≤ L
   body-back T-unsigneds bs a h s =
       counted-back bs a _ (Back L d m rest x) s
       (λ n mid a′ c h′ t.
-      reads-whole x mid rest a′ (λ x es. Back L d m rest x (Array id unsigneds n ∷ es)) (unsignedArray id) (elements-reads (varint-parses L) (Unsigned id) n) t
-      (λ xs g.
-      let n≡ : length xs ≡ n = g .legal .1 in
-      record {
-        legal = (i, rw n≡ c, g .legal .0);
-        nests = tt;
-        events = ap (λ k. Array id unsigneds k ∷ map (Unsigned id) xs) (sym n≡);
-        shorter = simp (length-append, n≡) (omega (arith, g .shorter));
-        bytes = g .bytes;
-      }))
+      array-back (varint-parses L) (Unsigned id) (unsignedArray id) unsigneds (λ xs l c. ((i, c, l), tt)) (λ xs. refl) n mid a′ c
+      (λ xs n≡ g. simp (length-append, n≡) (omega arith)) t)
   body-back T-signeds bs a h s =
       counted-back bs a _ (Back L d m rest x) s
       (λ n mid a′ c h′ t.
-      reads-whole x mid rest a′ (λ x es. Back L d m rest x (Array id signeds n ∷ es)) (signedArray id) (elements-reads (signed-parses L) (Signed id) n) t
-      (λ xs g.
-      let n≡ : length xs ≡ n = g .legal .1 in
-      record {
-        legal = (i, rw n≡ c, g .legal .0);
-        nests = tt;
-        events = ap (λ k. Array id signeds k ∷ map (Signed id) xs) (sym n≡);
-        shorter = simp (length-append, n≡) (omega (arith, g .shorter));
-        bytes = g .bytes;
-      }))
+      array-back (signed-parses L) (Signed id) (signedArray id) signeds (λ xs l c. ((i, c, l), tt)) (λ xs. refl) n mid a′ c
+      (λ xs n≡ g. simp (length-append, n≡) (omega arith)) t)
   body-back T-floats bs a h s =
       counted-back bs a _ (Back L d m rest x) s
       (λ n mid a′ c h′ t.

@@ -1,3 +1,4 @@
+-- The laws' proofs. `Laws` has the theorems; the others have their lemmas, each on those above it.
 pub mod Numbers
 pub mod Parser
 pub mod Varint

@@ -1,6 +1,6 @@
 -- Fields one after another: what was written is read back; and fields that are read are whole, legal and balanced, raised their own events and
 -- took no fewer bytes than their shortest.
-use Prim.Native.Nat.{ℕ, zero, suc, _+_, _*_, _<_, _≤_}
+use Prim.Native.Nat.{ℕ, zero, suc, _+_, _*_, _≤_}
 use mathlib.Core.Path.{_≡_, refl, sym, ap, _∙_, subst}
 use mathlib.Core.List.{List, [], _∷_, _++_, map, append-nil}
 use native.Mathlib.Omega.{arith}
@@ -11,10 +11,10 @@ use Rattle.layout.specs.Zigzag.{zigzag}
 use Rattle.layout.specs.Field.{Field, Wire, bytesOf, wireNumber, header, word, lowBytes, each, float, raw}
 use Rattle.layout.specs.Field.{T-unsigned, T-signed, T-fixlen, T-unsigneds, T-signeds, T-floats, unsigned, signed, payload, unsignedArray, signedArray, floatArray, begin, end}
 use Rattle.layout.specs.Event.{Event}
-use Rattle.layout.specs.Reading.{Reading, quiet, raise, given, follow, becoming}
+use Rattle.layout.specs.Reading.{quiet, raise, given, follow, becoming}
 use Rattle.layout.specs.Message.{checked, field, depthAfter, Fields, prepend, fieldsFrom, WholeFields, none, next}
 use Rattle.layout.specs.Copy.{fieldBytes, encode}
-use Rattle.laws.specs.Legal.{Fit, All, Bytes, Legal, Nests, Balanced, settled}
+use Rattle.laws.specs.Legal.{Fit, All, Bytes, Legal, Balanced, settled}
 use Rattle.laws.specs.Events.{fieldEvents, fieldsEvents}
 use Rattle.laws.proofs.Parser.{follow-whole, becoming-whole}
 use Rattle.laws.proofs.Varint.{some}
@@ -142,3 +142,25 @@ wholly-read L {d} {bs = bs} (next {rest = rest} {x = x} q w) zero a l = absurd (
 wholly-read L {d} {bs = bs} (next {rest = rest} {x = x} q w) (suc n) a l =
     let g : Back L d (length bs) rest x (field L d bs .events) = field-back L d bs x rest a q in
     ap (λ r. r .outcome) (one-field L n d bs x rest q) ∙ rw (wholly-read L w n (g .bytes) (omega (arith, g .shorter, field-some x)))
+
+-- As many fields as there are bytes are enough, whatever the bytes come to.
+pub fuel-free : (L : Limits) (n m d : ℕ) (bs : List ℕ) → Bytes bs → length bs ≤ n → length bs ≤ m → fieldsFrom L n d bs ≡ fieldsFrom L m d bs
+unfolding fieldsFrom follow
+fuel-free L zero m d [] a h k = sym (at-end L m d)
+fuel-free L (suc n) m d [] a h k = sym (at-end L m d)
+fuel-free L zero m d (b ∷ bs) a h k = absurd (omega arith)
+fuel-free L (suc n) zero d (b ∷ bs) a h k = absurd (omega arith)
+fuel-free L (suc n) (suc m) d (b ∷ bs) a h k = go (field L d (b ∷ bs) .outcome) refl (fuel-free L n m)
+  where
+    es : List Event
+    es = field L d (b ∷ bs) .events
+
+    go : (o : Outcome Field) → field L d (b ∷ bs) .outcome ≡ o →
+        ((d : ℕ) (bs : List ℕ) → Bytes bs → length bs ≤ n → length bs ≤ m → fieldsFrom L n d bs ≡ fieldsFrom L m d bs) →
+        follow es o (λ x rest. becoming (prepend x) (fieldsFrom L n (depthAfter d x) rest)) ≡ follow es o (λ x rest. becoming (prepend x) (fieldsFrom L m (depthAfter d x) rest))
+    go (whole x rest) q ih =
+        let g = field-back L d (b ∷ bs) x rest a q in
+        let l : length rest ≤ length bs = omega (arith, g .shorter, field-some x) in
+        ap (λ r. raise es (becoming (prepend x) r)) (ih (depthAfter d x) rest (g .bytes) (omega arith) (omega arith))
+    go short q ih = refl
+    go (broken r) q ih = refl

@@ -1,9 +1,9 @@
 -- The parts of a field: signed values, checked values, floats, elements and payloads meet the laws of a reader.
-use Prim.Native.Nat.{ℕ, zero, suc, _+_, _*_, _/_, _%_, _^_, _<_, _≤_}
+use Prim.Native.Nat.{ℕ, zero, suc, _+_, _*_, _/_, _%_, _^_, _<_}
 use mathlib.Core.Path.{_≡_, refl, sym, ap, _∙_, subst}
 use mathlib.Core.Bool.{Bool, true, false}
 use mathlib.Core.List.{List, [], _∷_, _++_, map, append-assoc, append-nil}
-use native.Mathlib.Nat.{div-add-mod, pow-suc, mul-le-mul-right}
+use native.Mathlib.Nat.{pow-suc}
 use native.Mathlib.Numerals.{add-one}
 use native.Mathlib.Omega.{arith}
 use lib.ListN.{length, length-append}
@@ -11,12 +11,12 @@ use lib.IntN.{ℤ, pos, negsuc}
 use borrow.Author.Tests.{eq-eqb, ne-eqb}
 use lib.Dec.{eqb}
 use borrow.Author.Tests.{eqb-true, eqb-false}
-use Rattle.layout.specs.Limits.{Limits, pick}
+use Rattle.layout.specs.Limits.{Limits}
 use Rattle.layout.specs.Varint.{Outcome, whole, short, broken, varint, shortest}
 use Rattle.layout.specs.Zigzag.{zigzag, unzigzag}
 use Rattle.layout.specs.Field.{Raw, lowBytes, each}
 use Rattle.layout.specs.Event.{Event, Piece, cutFrom, cutPiece}
-use Rattle.layout.specs.Reading.{Reading, given, follow, becoming, raise, lowFrom}
+use Rattle.layout.specs.Reading.{given, follow, lowFrom}
 use Rattle.layout.specs.Message.{checked, unzigzagged, signedVarint, elements, payloadFrom, payloadOf}
 use Rattle.laws.specs.Legal.{All, Bytes}
 use Rattle.laws.proofs.Parser.{Got, Parses, Had, Reads, given-whole, becoming-whole}

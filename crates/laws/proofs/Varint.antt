@@ -9,9 +9,9 @@ use native.Mathlib.Omega.{arith}
 use lib.ListN.{length}
 use lib.Dec.{ltb, leb, lit<}
 use lib.Pow.{pow-pos}
-use borrow.Author.Tests.{ltb-true, ltb-false, leb-true, leb-false, lt-ltb, le-ltb, le-leb, lt-leb}
+use borrow.Author.Tests.{ltb-true, ltb-false, leb-true, leb-false, lt-ltb, le-ltb, lt-leb}
 use Rattle.layout.specs.Limits.{Limits, lastPlace, lastBound}
-use Rattle.layout.specs.Varint.{Outcome, whole, short, broken, push, varintFrom, varint, shortestIn, shortest, digit, more, value, overrun}
+use Rattle.layout.specs.Varint.{whole, broken, push, varintFrom, varint, shortestIn, shortest, digit, more, value, overrun}
 use Rattle.laws.specs.Legal.{Bytes}
 use Rattle.laws.proofs.Numbers.{last-small, last-whole}
 use Rattle.laws.proofs.Parser.{Got, Parses}

@@ -1,5 +1,5 @@
 -- The limits that fit, byte strings, and the fields and lists of fields that a message may hold.
-use Prim.Native.Nat.{ℕ, zero, suc, _+_, _*_, _^_, _<_, _≤_}
+use Prim.Native.Nat.{ℕ, _+_, _*_, _^_, _<_, _≤_}
 use mathlib.Core.Path.{_≡_}
 use mathlib.Core.List.{List, [], _∷_}
 use lib.ListN.{length}

@@ -10,7 +10,15 @@ use Rattle.layout.specs.Field.{Raw, Field, bytesOf, lowBytes, each, float}
 use Rattle.layout.specs.Field.{unsigned, signed, payload, unsignedArray, signedArray, floatArray, begin, end}
 use Rattle.layout.specs.Event.{Event, Unsigned, Signed, Float, Piece, Fixlen, Array, Begin, End, cutFrom, cutPiece, cut, bytewise}
 use Rattle.layout.specs.Copy.{fieldBytes, encode}
-use Rattle.laws.specs.Events.{fieldEvents, fieldsEvents, eventBytes, dueAfter, encodeEvents}
+use Rattle.laws.specs.Events.{fieldEvents, fieldsEvents, eventBytes, dueAfter, dueAfterAll, encodeEvents}
+
+-- events in two parts, as a copier has written the first
+pub encode-append : (due : ℕ) (es fs : List Event) → encodeEvents due (es ++ fs) ≡ encodeEvents due es ++ encodeEvents (dueAfterAll due es) fs
+unfolding encodeEvents dueAfterAll
+encode-append due [] fs = refl
+encode-append due (e ∷ es) fs =
+    ap (λ bs. eventBytes due e ++ bs) (encode-append (dueAfter due e) es fs)
+    ∙ sym (append-assoc (eventBytes due e) (encodeEvents (dueAfter due e) es) (encodeEvents (dueAfterAll (dueAfter due e) es) fs))
 
 -- an array's elements, where each writes its bare bytes and counts one off
 elements-bytes : {A : Type 0} (e : A → Event) (enc : A → List ℕ) → ((k : ℕ) (a : A) → eventBytes (suc k) (e a) ≡ enc a) → ((k : ℕ) (a : A) → dueAfter (suc k) (e a) ≡ k) →

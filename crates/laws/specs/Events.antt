@@ -26,7 +26,7 @@ unfoldable pub fieldsEvents : List Field → List Event
 fieldsEvents [] = []
 fieldsEvents (x ∷ xs) = fieldEvents x ++ fieldsEvents xs
 
--- what an array's announcement writes after its header: its count, and a float array's word
+-- an array's announcement: its header and its count, and a float array's word
 abbrev pub arrayBytes : ℕ → Kind → ℕ → List ℕ
 arrayBytes id unsigneds n = header id T-unsigneds ++ shortest n
 arrayBytes id signeds n = header id T-signeds ++ shortest n
@@ -37,7 +37,8 @@ abbrev pub numberBytes : ℕ → List ℕ → List ℕ → List ℕ
 numberBytes zero h bs = h ++ bs
 numberBytes (suc due) h bs = bs
 
--- The bytes of one event, where so many elements of an array are still due.
+-- The bytes of one event, where so many elements of an array are still due. A float is bare in any case: its word is in the announcement
+-- before it.
 unfoldable pub eventBytes : ℕ → Event → List ℕ
 eventBytes due (Unsigned id n) = numberBytes due (header id T-unsigned) (shortest n)
 eventBytes due (Signed id z) = numberBytes due (header id T-signed) (shortest (zigzag z))
@@ -59,6 +60,12 @@ dueAfter due (Array id k n) = n
 dueAfter due (Begin id) = due
 dueAfter due End = due
 
+-- the elements still due after some events
+unfoldable pub dueAfterAll : ℕ → List Event → ℕ
+dueAfterAll due [] = due
+dueAfterAll due (e ∷ es) = dueAfterAll (dueAfter due e) es
+
+-- The bytes of some events.
 unfoldable pub encodeEvents : ℕ → List Event → List ℕ
 encodeEvents due [] = []
 encodeEvents due (e ∷ es) = eventBytes due e ++ encodeEvents (dueAfter due e) es

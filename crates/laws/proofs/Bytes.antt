@@ -13,24 +13,22 @@ use Rattle.layout.specs.Zigzag.{zigzag}
 use Rattle.layout.specs.Field.{Field, bytesOf, subtypeNumber, word, lowBytes, each, float, raw}
 use Rattle.layout.specs.Field.{unsigned, signed, payload, unsignedArray, signedArray, floatArray, begin, end}
 use Rattle.layout.specs.Copy.{fieldBytes, encode}
-use Rattle.laws.specs.Legal.{All, Bytes, Legal}
-use Rattle.laws.proofs.Varint.{last-byte, one-more}
+use Rattle.layout.specs.Message.{All, Bytes}
+use Rattle.laws.specs.Legal.{Legal}
+use Rattle.varint.proofs.Shortest.{by-groups, shortest-one, shortest-more}
 
 bytes-append : (s t : List ℕ) → Bytes s → Bytes t → Bytes (s ++ t)
 bytes-append [] t a b = b
 bytes-append (x ∷ s) t a b = (a .0, bytes-append s t (a .1) b)
 
-shortest-in-bytes : (f n : ℕ) → n ≤ f → Bytes (shortestIn f n)
-shortest-in-bytes zero n h = subst Bytes (sym (last-byte zero n (omega arith))) (omega arith, tt)
-shortest-in-bytes (suc f) n h = go (ltb n 128) refl (shortest-in-bytes f (n / 128))
-  where
-    go : (t : Bool) → ltb n 128 ≡ t → (n / 128 ≤ f → Bytes (shortestIn f (n / 128))) → Bytes (shortestIn (suc f) n)
-    go true e ih = subst Bytes (sym (last-byte (suc f) n (ltb-true n 128 e))) (omega (arith, ltb-true n 128 e), tt)
-    go false e ih = subst Bytes (sym (one-more f n (ltb-false n 128 e))) (omega arith, ih (omega (arith, ltb-false n 128 e)))
-
 shortest-bytes : (n : ℕ) → Bytes (shortest n)
-unfolding shortest
-shortest-bytes n = shortest-in-bytes n n (omega arith)
+shortest-bytes = by-groups (λ (n : ℕ). Bytes (shortest n)) one more
+  where
+    one : (n : ℕ) → n < 128 → Bytes (shortest n)
+    one n h = subst Bytes (sym (shortest-one n h)) (omega arith, tt)
+
+    more : (n : ℕ) → 128 ≤ n → Bytes (shortest (n / 128)) → Bytes (shortest n)
+    more n h i = subst Bytes (sym (shortest-more n h)) (omega arith, i)
 
 -- bytes behind a varint
 behind : (n : ℕ) (bs : List ℕ) → Bytes bs → Bytes (shortest n ++ bs)

@@ -18,10 +18,12 @@ use Rattle.layout.specs.Event.{Event, Unsigned, Signed, Float, Fixlen, Array, B
 use Rattle.layout.specs.Reading.{Reading, quiet, raise, given, follow, becoming}
 use Rattle.layout.specs.Message.{headerOf, countOf, elements, fixlen, floatArrayOf, body, field}
 use Rattle.layout.specs.Copy.{fieldBytes}
-use Rattle.laws.specs.Legal.{Fit, All, Bytes, Legal, Nests, settled}
+use Rattle.layout.specs.Message.{All, Bytes}
+use Rattle.laws.specs.Legal.{Fit, Legal, Nests, settled}
 use Rattle.laws.specs.Events.{fieldEvents}
 use Rattle.laws.proofs.Parser.{Got, Parses, Reads, given-whole, parses-whole, reads-whole}
-use Rattle.laws.proofs.Varint.{varint-parses, shortest-last, some}
+use Rattle.laws.proofs.Varint.{varint-parses}
+use Rattle.varint.proofs.Shortest.{shortest-one, length-some}
 use Rattle.laws.proofs.Parts.{signed-parses, checked-parses, low-parses, elements-reads, payload-reads}
 
 -- ---- types and subtypes by number
@@ -262,7 +264,7 @@ module _ (L : Limits) (d id m : ℕ) (x : Field) (rest : List ℕ) (i : id ≤ L
         legal = i;
         nests = omega (arith, eqb-false d 0 q);
         events = refl;
-        shorter = omega (arith, ap length (shortest-last 7 (lit< tt)), ap length b≡, some (id * 8 + 7));
+        shorter = omega (arith, ap length (shortest-one 7 (lit< tt)), ap length b≡, length-some (id * 8 + 7));
         bytes = subst Bytes b≡ a;
       })
 

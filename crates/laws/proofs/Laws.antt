@@ -15,7 +15,8 @@ use Rattle.layout.specs.Field.{Field}
 use Rattle.layout.specs.Event.{Event, bytewise}
 use Rattle.layout.specs.Message.{Fields, message, eventsOf, fieldsOf, wholeOf, judged, verdictOf, complete, incomplete, WholeFields, Complete}
 use Rattle.layout.specs.Copy.{encode, plainCopy}
-use Rattle.laws.specs.Legal.{Fit, All, Bytes, Legal, Balanced, settled, nesting, narrow}
+use Rattle.layout.specs.Message.{All, Bytes}
+use Rattle.laws.specs.Legal.{Fit, Legal, Balanced, settled, nesting, narrow}
 use Rattle.laws.specs.Events.{fieldsEvents, encodeEvents}
 use Rattle.laws.proofs.Bytes.{encode-bytes}
 use Rattle.laws.proofs.Message.{encode-settled, fields-forth, Run, fields-back, wholly-read}

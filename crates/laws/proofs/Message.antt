@@ -14,14 +14,15 @@ use Rattle.layout.specs.Event.{Event}
 use Rattle.layout.specs.Reading.{quiet, raise, given, follow, becoming}
 use Rattle.layout.specs.Message.{checked, field, depthAfter, Fields, prepend, fieldsFrom, WholeFields, none, next}
 use Rattle.layout.specs.Copy.{fieldBytes, encode}
-use Rattle.laws.specs.Legal.{Fit, All, Bytes, Legal, Balanced, settled}
+use Rattle.layout.specs.Message.{All, Bytes}
+use Rattle.laws.specs.Legal.{Fit, Legal, Balanced, settled}
 use Rattle.laws.specs.Events.{fieldEvents, fieldsEvents}
 use Rattle.laws.proofs.Parser.{follow-whole, becoming-whole}
-use Rattle.laws.proofs.Varint.{some}
+use Rattle.varint.proofs.Shortest.{length-some}
 use Rattle.laws.proofs.Field.{field-forth, Back, field-back}
 
 headed-some : (id : ℕ) (t : Wire) (bs : List ℕ) → 1 ≤ length (header id t ++ bs)
-headed-some id t bs = simp length-append (omega (arith, some (id * 8 + wireNumber t)))
+headed-some id t bs = simp length-append (omega (arith, length-some (id * 8 + wireNumber t)))
 
 -- a field has bytes
 field-some : (x : Field) → 1 ≤ length (fieldBytes x)
@@ -33,8 +34,8 @@ field-some (payload id r bs) = headed-some id T-fixlen (word (length bs) (raw r)
 field-some (unsignedArray id ns) = headed-some id T-unsigneds (shortest (length ns) ++ each shortest ns)
 field-some (signedArray id zs) = headed-some id T-signeds (shortest (length zs) ++ each (λ z. shortest (zigzag z)) zs)
 field-some (floatArray id w xs) = headed-some id T-floats (shortest (length xs) ++ (word (bytesOf w) (float w) ++ each (lowBytes (bytesOf w)) xs))
-field-some (begin id) = some (id * 8 + 6)
-field-some (end id) = some 7
+field-some (begin id) = length-some (id * 8 + 6)
+field-some (end id) = length-some 7
 
 settled-depth : (d : ℕ) (x : Field) → depthAfter d (settled x) ≡ depthAfter d x
 unfolding depthAfter

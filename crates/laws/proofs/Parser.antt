@@ -8,7 +8,7 @@ use lib.ListN.{length}
 use Rattle.layout.specs.Varint.{Outcome, whole, short, broken}
 use Rattle.layout.specs.Event.{Event}
 use Rattle.layout.specs.Reading.{Reading, given, follow, becoming, raise, quiet}
-use Rattle.laws.specs.Legal.{Bytes}
+use Rattle.layout.specs.Message.{Bytes}
 
 -- a was read from bs and left rest
 pub record Got {A : Type 0} (ok : A → Type 0) (enc : A → List ℕ) (bs : List ℕ) (a : A) (rest : List ℕ) : Type 0 where

@@ -18,7 +18,7 @@ use Rattle.layout.specs.Field.{Raw, lowBytes, each}
 use Rattle.layout.specs.Event.{Event, Piece, cutFrom, cutPiece}
 use Rattle.layout.specs.Reading.{given, follow, lowFrom}
 use Rattle.layout.specs.Message.{checked, unzigzagged, signedVarint, elements, payloadFrom, payloadOf}
-use Rattle.laws.specs.Legal.{All, Bytes}
+use Rattle.layout.specs.Message.{All, Bytes}
 use Rattle.laws.proofs.Parser.{Got, Parses, Had, Reads, given-whole, becoming-whole}
 use Rattle.laws.proofs.Varint.{varint-parses}
 

@@ -12,56 +12,19 @@ use lib.Pow.{pow-pos}
 use borrow.Author.Tests.{ltb-true, ltb-false, leb-true, leb-false, lt-ltb, le-ltb, lt-leb}
 use Rattle.layout.specs.Limits.{Limits, lastPlace, lastBound}
 use Rattle.layout.specs.Varint.{whole, broken, push, varintFrom, varint, shortestIn, shortest, digit, more, value, overrun}
-use Rattle.laws.specs.Legal.{Bytes}
+use Rattle.varint.proofs.Shortest.{one-in, more-in, shortest-one, shortest-more, length-some}
+use Rattle.layout.specs.Message.{Bytes}
 use Rattle.laws.proofs.Numbers.{last-small, last-whole}
 use Rattle.laws.proofs.Parser.{Got, Parses}
 
 -- ---- the shortest bytes
-
-pub last-byte : (f n : ℕ) → n < 128 → shortestIn f n ≡ n ∷ []
-unfolding shortestIn
-last-byte zero n h = refl
-last-byte (suc f) n h = rw (lt-ltb n 128 h, shortestIn)
-
-pub one-more : (f n : ℕ) → 128 ≤ n → shortestIn (suc f) n ≡ (n % 128 + 128) ∷ shortestIn f (n / 128)
-unfolding shortestIn
-one-more f n h = simp (le-ltb n 128 h, shortestIn)
-
-fuel : (f g n : ℕ) → n ≤ f → n ≤ g → shortestIn f n ≡ shortestIn g n
-fuel zero g n h k = last-byte zero n (omega arith) ∙ sym (last-byte g n (omega arith))
-fuel (suc f) zero n h k = last-byte (suc f) n (omega arith) ∙ sym (last-byte zero n (omega arith))
-fuel (suc f) (suc g) n h k = go (ltb n 128) refl (fuel f g (n / 128))
-  where
-    go : (t : Bool) → ltb n 128 ≡ t → (n / 128 ≤ f → n / 128 ≤ g → shortestIn f (n / 128) ≡ shortestIn g (n / 128)) → shortestIn (suc f) n ≡ shortestIn (suc g) n
-    go true e ih = last-byte (suc f) n (omega (arith, ltb-true)) ∙ sym (last-byte (suc g) n (omega (arith, ltb-true)))
-    go false e ih =
-        let b : 128 ≤ n = ltb-false n 128 e in
-        one-more f n b ∙ ap (λ t. (n % 128 + 128) ∷ t) (ih (omega arith) (omega arith)) ∙ sym (one-more g n b)
-
-pub shortest-last : (n : ℕ) → n < 128 → shortest n ≡ n ∷ []
-unfolding shortest
-shortest-last n h = last-byte n n h
-
-pub shortest-more : (n : ℕ) → 128 ≤ n → shortest n ≡ (n % 128 + 128) ∷ shortest (n / 128)
-unfolding shortest
-shortest-more n h =
-    fuel n (suc n) n (omega arith) (omega arith)
-    ∙ one-more n n h
-    ∙ ap (λ t. (n % 128 + 128) ∷ t) (fuel n (n / 128) (n / 128) (omega arith) (omega arith))
-
-pub some : (n : ℕ) → 1 ≤ length (shortest n)
-some n = go (ltb n 128) refl
-  where
-    go : (t : Bool) → ltb n 128 ≡ t → 1 ≤ length (shortest n)
-    go true e = rw (shortest-last n (ltb-true n 128 e)) (omega arith)
-    go false e = rw (shortest-more n (ltb-false n 128 e)) (omega arith)
 
 -- seven bits more are at most a byte more
 longer : (c m : ℕ) → c < 128 → length (shortest (c + m * 128)) ≤ suc (length (shortest m))
 longer c m h = go (ltb (c + m * 128) 128) refl
   where
     go : (t : Bool) → ltb (c + m * 128) 128 ≡ t → length (shortest (c + m * 128)) ≤ suc (length (shortest m))
-    go true e = rw (shortest-last (c + m * 128) (ltb-true _ _ e)) (omega arith)
+    go true e = rw (shortest-one (c + m * 128) (ltb-true _ _ e)) (omega arith)
     go false e =
         let q : (c + m * 128) / 128 ≡ m = omega arith in
         rw (shortest-more (c + m * 128) (ltb-false _ _ e), q) (omega arith)
@@ -127,7 +90,7 @@ regroup v r p =
 read-back : (L : Limits) (f k v r : ℕ) (rest : List ℕ) → r ≤ f → k ≤ lastPlace L → r * 128 ^ k < 2 ^ L .bits → varintFrom L k v (shortestIn f r ++ rest) ≡ whole (v + r * 128 ^ k) rest
 read-back L zero k v r rest h l s =
     let b : r < 128 = omega arith in
-    rw (last-byte zero r b) (step-value L k v r _ rest (push-last L k v r (not-over L k r l s) b))
+    rw (one-in zero r b) (step-value L k v r _ rest (push-last L k v r (not-over L k r l s) b))
 read-back L (suc f) k v r rest h l s = go (ltb r 128) refl (read-back L f (k + 1) (v + digit k (r % 128 + 128)) (r / 128) rest)
   where
     go : (t : Bool) → ltb r 128 ≡ t →
@@ -136,14 +99,14 @@ read-back L (suc f) k v r rest h l s = go (ltb r 128) refl (read-back L f (k + 1
         varintFrom L k v (shortestIn (suc f) r ++ rest) ≡ whole (v + r * 128 ^ k) rest
     go true e ih =
         let b : r < 128 = ltb-true _ _ e in
-        rw (last-byte (suc f) r b) (step-value L k v r _ rest (push-last L k v r (not-over L k r l s) b))
+        rw (one-in (suc f) r b) (step-value L k v r _ rest (push-last L k v r (not-over L k r l s) b))
     go false e ih =
         let b : 128 ≤ r = ltb-false _ _ e in
         let l′ : k < lastPlace L = goes-on L k r l s b in
         let t : over L k (r % 128 + 128) ≡ false = simp (lt-leb (lastPlace L) k l′) in
         let p : 128 ^ (k + 1) ≡ 128 ^ k * 128 = simp (add-one, pow-suc) in
         let q : v + digit k (r % 128 + 128) + r / 128 * 128 ^ (k + 1) ≡ v + r * 128 ^ k = rw p (regroup v r (128 ^ k)) in
-        rw (one-more f r b)
+        rw (more-in f r b)
         (step-more L k v (r % 128 + 128) (k + 1) _ _ (push-more L k v (r % 128 + 128) t (omega arith))
         ∙ ih (omega arith) (omega arith) (omega arith)
         ∙ ap (λ n. whole n rest) q)
@@ -214,7 +177,7 @@ read L (b ∷ bs) k v n rest l h a e = go (over L k b) refl (ltb b 128) refl (re
           digits = b;
           is = sym n≡;
           fits = rw (← n≡) (in-width L k v b l h t (ltb-true _ _ s));
-          shorter = rw (← r≡, shortest-last b (ltb-true _ _ s)) (omega arith);
+          shorter = rw (← r≡, shortest-one b (ltb-true _ _ s)) (omega arith);
           bytes = subst Bytes r≡ (a .1);
         }
     go false t false s ih =

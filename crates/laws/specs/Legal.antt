@@ -1,4 +1,4 @@
--- The limits that fit, byte strings, and the fields and lists of fields that a message may hold.
+-- The limits that fit, and the fields and lists of fields that a message may hold.
 use Prim.Native.Nat.{ℕ, _+_, _*_, _^_, _<_, _≤_}
 use mathlib.Core.Path.{_≡_}
 use mathlib.Core.List.{List, [], _∷_}
@@ -6,7 +6,7 @@ use lib.ListN.{length}
 use Rattle.layout.specs.Limits.{Limits}
 use Rattle.layout.specs.Zigzag.{zigzag}
 use Rattle.layout.specs.Field.{Field, bytesOf, unsigned, signed, float, payload, unsignedArray, signedArray, floatArray, begin, end}
-use Rattle.layout.specs.Message.{depthAfter}
+use Rattle.layout.specs.Message.{All, Bytes, depthAfter}
 
 -- Limits whose headers, words and counts are values of the width. 8 is the length of the longest float.
 pub record Fit (L : Limits) : Type 0 where
@@ -21,15 +21,6 @@ nesting d = record { bits = 64; id = 2147483647; size = 2147483647; count = 2147
 
 abbrev pub narrow : ℕ → Limits
 narrow d = record { bits = 32; id = 536870911; size = 536870911; count = 2147483647; depth = d }
-
--- each of a list
-abbrev pub All : {A : Type 0} → (A → Type 0) → List A → Type 0
-All P [] = Unit {0}
-All P (x ∷ xs) = P x × All P xs
-
--- a byte string
-abbrev pub Bytes : List ℕ → Type 0
-Bytes bs = All (λ b. b < 256) bs
 
 -- A field that a message may hold at some depth: its id, its value, its bytes or its count and elements are within the limits.
 abbrev pub Legal : Limits → Field → Type 0

@@ -8,7 +8,8 @@ use mathlib.Core.List.{List, [], _∷_, _++_, append-assoc, append-nil}
 use lib.ListN.{length, take, drop, length-append, length-take, length-drop, take-append-drop}
 use lib.Seq.{take-add, take-length}
 use Rattle.layout.specs.Limits.{Limits}
-use Rattle.layout.specs.Event.{Event, bytewise}
+use Rattle.layout.specs.Field.{Raw}
+use Rattle.layout.specs.Event.{Event, Unsigned, Signed, Float, Piece, Fixlen, Array, Begin, End, cutFrom, cutPiece, cut, bytewise}
 use Rattle.layout.specs.Varint.{Outcome, whole, short, broken}
 use Rattle.layout.specs.Message.{Verdict, incomplete, brokenAt, verdictOf, eventsOf}
 use Rattle.machine.specs.Machine.{Phase, idle, inHeader, inUnsigned, inSigned, inWord, inUnsignedCount, inSignedCount, inFloatCount, inArrayWord, inFloat, inPayload}
@@ -17,7 +18,7 @@ use Rattle.machine.specs.Call.{State, reading, owing, broke, fresh, Answ
 use Rattle.machine.specs.Run.{given, due, Follows, Chunk, more, calls, chunk, seen, Read, chunks, verdictsOf, join}
 use Rattle.machine.proofs.Bridge.{events-walk, verdict-walk}
 use Rattle.machine.proofs.Prefix.{broken-stays}
-use Rattle.machine.proofs.Calls.{Judged, Closes, weight, Answered, call-follows, fresh-follows}
+use Rattle.machine.proofs.Calls.{Judged, Closes, weight, Answered, bytewise-append, call-follows, fresh-follows}
 
 -- ---- a chunk
 
@@ -185,3 +186,38 @@ calling-ends L bs es s c e f h = subst (λ (a : Answer). Final a (chunk L s c .s
     enough (reading d p) = omega arith
     enough (owing d id r) = omega arith
     enough broke = omega arith
+
+-- ---- joined
+
+cut-from-again : (id : ℕ) (r : Raw) (total o : ℕ) (bs : List ℕ) → bytewise (cutFrom id r total o bs) ≡ cutFrom id r total o bs
+unfolding cutFrom bytewise cut cutPiece
+cut-from-again id r total o [] = refl
+cut-from-again id r total o (b ∷ bs) = ap (λ (l : List Event). Piece id r total o (b ∷ []) ∷ l) (cut-from-again id r total (suc o) bs)
+
+cut-again : (e : Event) → bytewise (cut e) ≡ cut e
+unfolding bytewise cut cutPiece
+cut-again (Unsigned id n) = refl
+cut-again (Signed id z) = refl
+cut-again (Float id w x) = refl
+cut-again (Piece id r total o []) = refl
+cut-again (Piece id r total o (b ∷ bs)) = cut-from-again id r total o (b ∷ bs)
+cut-again (Fixlen id s total) = refl
+cut-again (Array id k n) = refl
+cut-again (Begin id) = refl
+cut-again End = refl
+
+bytewise-again : (es : List Event) → bytewise (bytewise es) ≡ bytewise es
+unfolding bytewise
+bytewise-again [] = refl
+bytewise-again (e ∷ es) = bytewise-append (cut e) (bytewise es) ∙ ap (λ (l : List Event). l ++ bytewise (bytewise es)) (cut-again e) ∙ ap (λ (l : List Event). cut e ++ l) (bytewise-again es)
+
+-- The layout's own events have their pieces cut into bytes already.
+pub events-bytewise : (L : Limits) (bs : List ℕ) → bytewise (eventsOf L bs) ≡ eventsOf L bs
+unfolding join
+events-bytewise L bs =
+    let r = reads L (bs ∷ []) .0 ∙ ap (eventsOf L) (append-nil bs) in
+    ap bytewise (sym r) ∙ bytewise-again (chunks L fresh 0 (bs ∷ []) .events) ∙ r
+
+-- Any two ways to cut a message into chunks give the same events, pieces joined.
+pub same-events : (L : Limits) (cs ds : List (List ℕ)) → join cs ≡ join ds → bytewise (chunks L fresh 0 cs .events) ≡ bytewise (chunks L fresh 0 ds .events)
+same-events L cs ds e = reads L cs .0 ∙ ap (eventsOf L) e ∙ sym (reads L ds .0)

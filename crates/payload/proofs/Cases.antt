@@ -8,52 +8,41 @@ use lib.ListN.{length}
 use lib.Seq.{paste}
 use lib.Dec.{eqb}
 use borrow.Author.Tests.{lt-ltb, le-ltb, le-leb, lt-leb, eq-eqb, ne-eqb}
-use Rattle.types.specs.declared.Error.the-variants as Err
 use Rattle.payload.specs.declared.PayloadAcc.{PayloadAcc}
-use Rattle.payload.specs.declared.Answer.the-variants.{Nothing, InChunk, InBuffer, Refused}
-use Rattle.payload.specs.declared.Fed.{Fed}
-use Rattle.payload.specs.Gather.{Gathered, fresh, begun, owed, copied, atOnce, accepted, gathered}
-
--- r and b are what g says
-abbrev pub Leaves : Fed → List ℕ → Gathered → Type 0
-Leaves r b g = (r ≡ g .fed) × (b ≡ g .buf)
+use Rattle.payload.specs.Gather.{Gathered, nothing, inChunk, inBuffer, number, fresh, begun, untouched, owed, copied, atOnce, accepted, gathered}
 
 -- ---- the copy, of n bytes into what is then b′
 
 module _ (a : PayloadAcc) (b b′ chunk : List ℕ) (total n : ℕ) (hn : n ≡ owed (a .len) total (length chunk)) (hb : b′ ≡ paste b (a .len) chunk n) where
-  kept : b′ ≡ copied a b total chunk .buf
+  pub partial : a .complete ≡ false → a .len + n < total → untouched nothing (record { len = a .len + n; complete = a .complete }) b′ ≡ copied a b total chunk
   unfolding copied
-  kept = hb ∙ ap (paste b (a .len) chunk) hn
+  partial e h = simp (← hn, lt-leb _ _ h, e, hb)
 
-  pub partial : a .complete ≡ false → a .len + n < total → Leaves (record { answer = Nothing; acc = record { len = a .len + n; complete = a .complete } }) b′ (copied a b total chunk)
+  pub filled : total ≤ a .len + n → untouched (inBuffer total) (record { len = a .len + n; complete = true }) b′ ≡ copied a b total chunk
   unfolding copied
-  partial e h = (simp (← hn, lt-leb _ _ h, e), kept)
-
-  pub filled : total ≤ a .len + n → Leaves (record { answer = InBuffer total; acc = record { len = a .len + n; complete = true } }) b′ (copied a b total chunk)
-  unfolding copied
-  filled h = (simp (← hn, le-leb _ _ h), kept)
+  filled h = simp (← hn, le-leb _ _ h, hb)
 
 -- ---- the tests of a sound state, in their order
 
 module _ (a : PayloadAcc) (b : List ℕ) (total offset : ℕ) (chunk : List ℕ) where
-  pub over-already : a .complete ≡ true → Leaves (record { answer = Nothing; acc = a }) b (accepted a b total offset chunk)
+  pub over-already : a .complete ≡ true → untouched nothing a b ≡ accepted a b total offset chunk
   unfolding accepted
-  over-already e = (simp e, simp e)
+  over-already e = simp e
 
   module _ (e : a .complete ≡ false) where
-    pub too-long : length b < total → Leaves (record { answer = Refused Err.PayloadTooLong; acc = a }) b (accepted a b total offset chunk)
+    pub too-long : length b < total → untouched (number 4) a b ≡ accepted a b total offset chunk
     unfolding accepted
-    too-long h = (simp (e, lt-ltb _ _ h), simp (e, lt-ltb _ _ h))
+    too-long h = simp (e, lt-ltb _ _ h)
 
     module _ (h : total ≤ length b) where
-      pub whole-chunk : atOnce total offset (length chunk) ≡ true → Leaves (record { answer = InChunk total; acc = record { len = 0; complete = true } }) b (accepted a b total offset chunk)
+      pub whole-chunk : atOnce total offset (length chunk) ≡ true → untouched (inChunk total) (record { len = 0; complete = true }) b ≡ accepted a b total offset chunk
       unfolding accepted
-      whole-chunk w = (simp (e, le-ltb _ _ h, w), simp (e, le-ltb _ _ h, w))
+      whole-chunk w = simp (e, le-ltb _ _ h, w)
 
       module _ (w : atOnce total offset (length chunk) ≡ false) where
-        pub elsewhere : (offset ≡ a .len → ⊥) → Leaves (record { answer = Nothing; acc = a }) b (accepted a b total offset chunk)
+        pub elsewhere : (offset ≡ a .len → ⊥) → untouched nothing a b ≡ accepted a b total offset chunk
         unfolding accepted
-        elsewhere d = (simp (e, le-ltb _ _ h, w, ne-eqb _ _ d), simp (e, le-ltb _ _ h, w, ne-eqb _ _ d))
+        elsewhere d = simp (e, le-ltb _ _ h, w, ne-eqb _ _ d)
 
         pub next : offset ≡ a .len → accepted a b total offset chunk ≡ copied a b total chunk
         unfolding accepted
@@ -62,9 +51,9 @@ module _ (a : PayloadAcc) (b : List ℕ) (total offset : ℕ) (chunk : List ℕ)
 -- ---- the test of the state
 
 module _ (a : PayloadAcc) (b : List ℕ) (total offset : ℕ) (chunk : List ℕ) where
-  pub unsound : length b < a .len → Leaves (record { answer = Refused Err.UnsoundGatherer; acc = a }) b (gathered a b total offset chunk)
+  pub unsound : length b < a .len → untouched (number 3) a b ≡ gathered a b total offset chunk
   unfolding gathered
-  unsound h = (simp (lt-leb _ _ h), simp (lt-leb _ _ h))
+  unsound h = simp (lt-leb _ _ h)
 
   pub in-order : a .len ≤ length b → gathered a b total offset chunk ≡ accepted (begun a offset) b total offset chunk
   unfolding gathered
@@ -77,11 +66,3 @@ begun-within a s offset n e h = subst (λ (x : PayloadAcc). x .len ≤ n) (sym e
     go : (t : Bool) → cond t fresh a .len ≤ n
     go true = omega arith
     go false = h
-
--- what is left by one definition is left by an equal one
-pub carried : {r : Fed} {b : List ℕ} {g h : Gathered} → g ≡ h → Leaves r b h → Leaves r b g
-carried {r} {b} e l = subst (Leaves r b) (sym e) l
-
-pub fed-on : (a : PayloadAcc) (b : List ℕ) (total offset : ℕ) (chunk : List ℕ) {s : PayloadAcc} {r : Fed} {b′ : List ℕ} → a .len ≤ length b → s ≡ begun a offset
-    → Leaves r b′ (accepted s b total offset chunk) → Leaves r b′ (gathered a b total offset chunk)
-fed-on a b total offset chunk h e l = carried (in-order a b total offset chunk h ∙ ap (λ (x : PayloadAcc). accepted x b total offset chunk) (sym e)) l

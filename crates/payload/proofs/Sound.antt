@@ -16,7 +16,7 @@ pub sound-fresh : (b : List ℕ) → sound fresh b ≡ true
 sound-fresh b = le-leb 0 (length b) (omega arith)
 
 record Within (g : Gathered) : Type 0 where
-  pub held : g .fed .acc .len ≤ length (g .buf)
+  pub held : g .acc .len ≤ length (g .buf)
 
 either : {x y : Gathered} (t : Bool) → (t ≡ true → Within x) → (t ≡ false → Within y) → Within (cond t x y)
 either true f g = f refl
@@ -38,7 +38,7 @@ accepted-within a b total offset chunk h =
     either (eqb offset (a .len)) (λ e. copied-within a b total chunk h (ltb-false _ _ fits)) λ e. record { held = h }
 
 pub sound-kept : (a : PayloadAcc) (b : List ℕ) (total offset : ℕ) (chunk : List ℕ) → sound a b ≡ true
-    → sound (gathered a b total offset chunk .fed .acc) (gathered a b total offset chunk .buf) ≡ true
+    → sound (gathered a b total offset chunk .acc) (gathered a b total offset chunk .buf) ≡ true
 sound-kept a b total offset chunk s =
     let h : a .len ≤ length b = leb-true _ _ s in
     le-leb _ _ (subst Within (sym (in-order a b total offset chunk h)) (accepted-within (begun a offset) b total offset chunk (begun-within a _ offset _ refl h)) .held)

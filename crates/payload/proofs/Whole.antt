@@ -9,11 +9,8 @@ use lib.Dec.{eqb, leb, ltb}
 use lib.ListN.{length, take, replicate, length-append}
 use lib.Seq.{paste, length-paste, take-paste, take-length, length-take-le}
 use borrow.Author.Tests.{lt-ltb, le-ltb, le-leb, lt-leb, eq-eqb, ne-eqb, leb-true}
-use Rattle.types.specs.declared.Error.the-variants as Err
 use Rattle.payload.specs.declared.PayloadAcc.{PayloadAcc}
-use Rattle.payload.specs.declared.Answer.{Answer}
-use Rattle.payload.specs.declared.Answer.the-variants.{Nothing, InChunk, InBuffer, Refused}
-use Rattle.payload.specs.Gather.{Gathered, sound, fresh, begun, untouched, owed, copied, atOnce, accepted, gathered, partOf, named}
+use Rattle.payload.specs.Gather.{nothing, inChunk, inBuffer, number, Gathered, sound, fresh, begun, untouched, owed, copied, atOnce, accepted, gathered, partOf, named}
 use Rattle.payload.specs.Run.{Outcome, nothingYet, whole, refused, told, Handed, handed, outcomes, joined, Split, one, more, Pieces, empty, split, handedWhole, atLast}
 use Rattle.payload.proofs.Cases.{in-order, next}
 
@@ -21,13 +18,13 @@ use Rattle.payload.proofs.Cases.{in-order, next}
 
 module _ (a : PayloadAcc) (b : List ℕ) (total offset : ℕ) (p : List ℕ) (ps : List (List ℕ)) (g : Gathered) where
   first-call : gathered a b total offset p ≡ g
-      → handed a b total offset (p ∷ ps) ≡ record { outcome = told g p; buf = g .buf } ∷ handed (g .fed .acc) (g .buf) total (offset + length p) ps
+      → handed a b total offset (p ∷ ps) ≡ record { outcome = told g p; buf = g .buf } ∷ handed (g .acc) (g .buf) total (offset + length p) ps
   unfolding handed
-  first-call e = ap (λ (x : Gathered). record { outcome = told x p; buf = x .buf } ∷ handed (x .fed .acc) (x .buf) total (offset + length p) ps) e
+  first-call e = ap (λ (x : Gathered). record { outcome = told x p; buf = x .buf } ∷ handed (x .acc) (x .buf) total (offset + length p) ps) e
 
   first-outcome : {o : Outcome} {os : List Outcome} → gathered a b total offset p ≡ g → told g p ≡ o
-      → outcomes (handed (g .fed .acc) (g .buf) total (offset + length p) ps) ≡ os → outcomes (handed a b total offset (p ∷ ps)) ≡ o ∷ os
-  first-outcome {o} {os} e t r = ap outcomes (first-call e) ∙ ap (λ (x : Outcome). x ∷ outcomes (handed (g .fed .acc) (g .buf) total (offset + length p) ps)) t ∙ ap (λ (l : List Outcome). o ∷ l) r
+      → outcomes (handed (g .acc) (g .buf) total (offset + length p) ps) ≡ os → outcomes (handed a b total offset (p ∷ ps)) ≡ o ∷ os
+  first-outcome {o} {os} e t r = ap outcomes (first-call e) ∙ ap (λ (x : Outcome). x ∷ outcomes (handed (g .acc) (g .buf) total (offset + length p) ps)) t ∙ ap (λ (l : List Outcome). o ∷ l) r
 
 -- ---- n bytes held of a payload that is not whole
 
@@ -36,10 +33,10 @@ holding n = record { len = n; complete = false }
 
 -- a piece that is not the last, and the last one
 abbrev grown : List ℕ → ℕ → List ℕ → Gathered
-grown b n p = record { fed = record { answer = Nothing; acc = holding (n + length p) }; buf = paste b n p (length p) }
+grown b n p = record { said = nothing; acc = holding (n + length p); buf = paste b n p (length p) }
 
 abbrev ended : List ℕ → ℕ → List ℕ → ℕ → Gathered
-ended b n p total = record { fed = record { answer = InBuffer total; acc = record { len = n + length p; complete = true } }; buf = paste b n p (length p) }
+ended b n p total = record { said = inBuffer total; acc = record { len = n + length p; complete = true }; buf = paste b n p (length p) }
 
 module _ (b : List ℕ) (n total : ℕ) (p : List ℕ) where
   taken : n + length p ≤ total → owed n total (length p) ≡ length p
@@ -117,7 +114,7 @@ module _ (a : PayloadAcc) (b : List ℕ) (total : ℕ) (p : List ℕ) (s : sound
   starts : gathered a b total 0 p ≡ accepted fresh b total 0 p
   starts = in-order a b total 0 p (leb-true _ _ s)
 
-  starts-whole : total ≤ length p → gathered a b total 0 p ≡ untouched (InChunk total) (record { len = 0; complete = true }) b
+  starts-whole : total ≤ length p → gathered a b total 0 p ≡ untouched (inChunk total) (record { len = 0; complete = true }) b
   unfolding accepted
   starts-whole h = starts ∙ simp (le-ltb _ _ fits, le-leb _ _ h)
 
@@ -125,11 +122,11 @@ module _ (a : PayloadAcc) (b : List ℕ) (total : ℕ) (p : List ℕ) (s : sound
   starts-split h = starts ∙ next fresh b total 0 p refl fits (lt-leb _ _ h) refl
 
 -- a payload whole in its one chunk
-at-once-told : (b p w : List ℕ) → w ≡ p → told (untouched (InChunk (length w)) (record { len = 0; complete = true }) b) p ≡ whole w
+at-once-told : (b p w : List ℕ) → w ≡ p → told (untouched (inChunk (length w)) (record { len = 0; complete = true }) b) p ≡ whole w
 at-once-told b p w e =
     let s : 0 ≤ length b = omega arith in
     let f : length p ≤ length p = omega arith in
-    ap (λ (y : List ℕ). told (untouched (InChunk (length y)) (record { len = 0; complete = true }) b) p) e ∙ simp (le-leb _ _ s, le-leb _ _ f, take-length p, e)
+    ap (λ (y : List ℕ). told (untouched (inChunk (length y)) (record { len = 0; complete = true }) b) p) e ∙ simp (le-leb _ _ s, le-leb _ _ f, take-length p, e)
 
 -- The pieces of one payload, in order, to a gatherer in any sound state, over any buffer that is long enough.
 pub whole-at-last : (a : PayloadAcc) (b : List ℕ) (ps : List (List ℕ)) → Pieces ps → sound a b ≡ true → length (joined ps) ≤ length b
@@ -165,7 +162,7 @@ still-fresh offset = go (eqb offset 0)
     go true = refl
     go false = refl
 
-too-long : (b : List ℕ) (total offset : ℕ) (p : List ℕ) → length b < total → accepted fresh b total offset p ≡ untouched (Refused Err.PayloadTooLong) fresh b
+too-long : (b : List ℕ) (total offset : ℕ) (p : List ℕ) → length b < total → accepted fresh b total offset p ≡ untouched (number 4) fresh b
 unfolding accepted
 too-long b total offset p h = simp (lt-ltb _ _ h)
 
@@ -173,7 +170,7 @@ all-refused : (b : List ℕ) (total offset : ℕ) (ps : List (List ℕ)) → len
 unfolding handed
 all-refused b total offset [] h = refl
 all-refused b total offset (p ∷ ps) h =
-    let e : gathered fresh b total offset p ≡ untouched (Refused Err.PayloadTooLong) fresh b =
+    let e : gathered fresh b total offset p ≡ untouched (number 4) fresh b =
     in-order fresh b total offset p (omega arith) ∙ ap (λ (a : PayloadAcc). accepted a b total offset p) (still-fresh offset) ∙ too-long b total offset p h in
     first-call fresh b total offset p ps _ e ∙ ap (λ (l : List Handed). refusedOver b ∷ l) (all-refused b total (offset + length p) ps h)
 
@@ -184,5 +181,5 @@ unfolding handed
 too-long-throughout a b [] s h = refl
 too-long-throughout a b (p ∷ ps) s h =
     let total : ℕ = length (p ++ joined ps) in
-    let e : gathered a b total 0 p ≡ untouched (Refused Err.PayloadTooLong) fresh b = in-order a b total 0 p (leb-true _ _ s) ∙ too-long b total 0 p h in
+    let e : gathered a b total 0 p ≡ untouched (number 4) fresh b = in-order a b total 0 p (leb-true _ _ s) ∙ too-long b total 0 p h in
     first-call a b total 0 p ps _ e ∙ ap (λ (l : List Handed). refusedOver b ∷ l) (all-refused b total (0 + length p) ps h)

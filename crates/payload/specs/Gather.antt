@@ -6,17 +6,35 @@ use mathlib.Core.List.{List, []}
 use lib.ListN.{length, take}
 use lib.Seq.{paste}
 use lib.Dec.{eqb, leb, ltb}
-use Rattle.types.specs.declared.Error.{Error}
-use Rattle.types.specs.declared.Error.the-variants as Err
+use Rattle.types.specs.Types.{numberOf}
 use Rattle.payload.specs.declared.PayloadAcc.{PayloadAcc}
 use Rattle.payload.specs.declared.Answer.{Answer}
 use Rattle.payload.specs.declared.Answer.the-variants.{Nothing, InChunk, InBuffer, Refused}
 use Rattle.payload.specs.declared.Fed.{Fed}
 
--- What a call leaves: its answer beside its state, and the lent buffer.
+-- What `feed` says, in 01's words: "nothing yet"; whole, as the first so many bytes of the chunk or of the buffer; or a refusal's number.
+pub data Said : Type 0 where
+  nothing : Said
+  inChunk : ℕ → Said
+  inBuffer : ℕ → Said
+  number : ℕ → Said
+
+-- 01's words and number of each answer.
+abbrev pub saidOf : Answer → Said
+saidOf Nothing = nothing
+saidOf (InChunk n) = inChunk n
+saidOf (InBuffer n) = inBuffer n
+saidOf (Refused e) = number (numberOf e)
+
+-- What a call of `feed` says and leaves: the state, and the lent buffer.
 pub record Gathered : Type 0 where
-  pub fed : Fed
+  pub said : Said
+  pub acc : PayloadAcc
   pub buf : List ℕ
+
+-- The same of the code's result, and of the buffer as the call leaves it.
+abbrev pub leftBy : Fed → List ℕ → Gathered
+leftBy r b = record { said = saidOf (r .answer); acc = r .acc; buf = b }
 
 -- "Gatherer: length held at most the lent buffer's."
 abbrev pub sound : PayloadAcc → List ℕ → Bool
@@ -30,8 +48,8 @@ abbrev pub begun : PayloadAcc → ℕ → PayloadAcc
 begun a offset = cond (eqb offset 0) fresh a
 
 -- The answer of a call that leaves the buffer as it is.
-abbrev pub untouched : Answer → PayloadAcc → List ℕ → Gathered
-untouched w a b = record { fed = record { answer = w; acc = a }; buf = b }
+abbrev pub untouched : Said → PayloadAcc → List ℕ → Gathered
+untouched w a b = record { said = w; acc = a; buf = b }
 
 -- "The bytes still owed", of so many given: none where "`total` shrinks below the length held".
 abbrev pub owed : ℕ → ℕ → ℕ → ℕ
@@ -43,7 +61,8 @@ copied a b total chunk =
     let n = owed (a .len) total (length chunk) in
     let whole = leb total (a .len + n) in
     record {
-      fed = record { answer = cond whole (InBuffer total) Nothing; acc = record { len = a .len + n; complete = whole } };
+      said = cond whole (inBuffer total) nothing;
+      acc = record { len = a .len + n; complete = whole };
       buf = paste b (a .len) chunk n;
     }
 
@@ -56,29 +75,29 @@ atOnce total offset given = eqb offset 0 && leb total given
 unfoldable pub accepted : PayloadAcc → List ℕ → ℕ → ℕ → List ℕ → Gathered
 unfolding copied
 accepted a b total offset chunk =
-    cond (a .complete) (untouched Nothing a b)
-    (cond (ltb (length b) total) (untouched (Refused Err.PayloadTooLong) a b)
-    (cond (atOnce total offset (length chunk)) (untouched (InChunk total) (record { len = 0; complete = true }) b)
+    cond (a .complete) (untouched nothing a b)
+    (cond (ltb (length b) total) (untouched (number 4) a b)
+    (cond (atOnce total offset (length chunk)) (untouched (inChunk total) (record { len = 0; complete = true }) b)
     (cond (eqb offset (a .len)) (copied a b total chunk)
-    (untouched Nothing a b))))
+    (untouched nothing a b))))
 
 -- A call of `feed`. "Number 3: the gatherer state isn't sound; state and buffer return unaltered."
 unfoldable pub gathered : PayloadAcc → List ℕ → ℕ → ℕ → List ℕ → Gathered
 unfolding accepted
 gathered a b total offset chunk =
-    cond (sound a b) (accepted (begun a offset) b total offset chunk) (untouched (Refused Err.UnsoundGatherer) a b)
+    cond (sound a b) (accepted (begun a offset) b total offset chunk) (untouched (number 3) a b)
 
 -- The first n bytes, or none where there are fewer.
 abbrev pub firstOf : List ℕ → ℕ → List ℕ
 firstOf l n = cond (leb n (length l)) (take n l) []
 
 -- The part that an answer names, of the buffer or of the chunk.
-abbrev pub named : Answer → List ℕ → List ℕ → List ℕ
-named Nothing b chunk = []
-named (InChunk n) b chunk = firstOf chunk n
-named (InBuffer n) b chunk = firstOf b n
-named (Refused e) b chunk = []
+abbrev pub named : Said → List ℕ → List ℕ → List ℕ
+named nothing b chunk = []
+named (inChunk n) b chunk = firstOf chunk n
+named (inBuffer n) b chunk = firstOf b n
+named (number k) b chunk = []
 
 -- A call of `payload`. "It returns an empty part where that answer isn't whole, the state isn't sound or the slice lent is too short."
-abbrev pub partOf : Answer → PayloadAcc → List ℕ → List ℕ → List ℕ
+abbrev pub partOf : Said → PayloadAcc → List ℕ → List ℕ → List ℕ
 partOf w a b chunk = cond (sound a b) (named w b chunk) []

@@ -3,11 +3,8 @@
 use Prim.Native.Nat.{ℕ, _+_, _-_}
 use mathlib.Core.List.{List, [], _∷_, _++_}
 use lib.ListN.{length, replicate}
-use Rattle.types.specs.Types.{numberOf}
 use Rattle.payload.specs.declared.PayloadAcc.{PayloadAcc}
-use Rattle.payload.specs.declared.Answer.{Answer}
-use Rattle.payload.specs.declared.Answer.the-variants.{Nothing, InChunk, InBuffer, Refused}
-use Rattle.payload.specs.Gather.{Gathered, gathered, partOf}
+use Rattle.payload.specs.Gather.{Said, nothing, inChunk, inBuffer, number, Gathered, gathered, partOf}
 
 -- What the two calls tell: "nothing yet", the whole payload, or a refusal by its number.
 pub data Outcome : Type 0 where
@@ -15,16 +12,16 @@ pub data Outcome : Type 0 where
   whole : List ℕ → Outcome
   refused : ℕ → Outcome
 
--- 01's words for each answer of the first call, and the part that the second returns.
-abbrev pub outcomeOf : Answer → List ℕ → Outcome
-outcomeOf Nothing part = nothingYet
-outcomeOf (InChunk n) part = whole part
-outcomeOf (InBuffer n) part = whole part
-outcomeOf (Refused e) part = refused (numberOf e)
+-- What the first call said, with the part that the second returned.
+abbrev pub outcomeOf : Said → List ℕ → Outcome
+outcomeOf nothing part = nothingYet
+outcomeOf (inChunk n) part = whole part
+outcomeOf (inBuffer n) part = whole part
+outcomeOf (number k) part = refused k
 
 -- "The second is given the first one's answer, the state, the buffer and the chunk."
 abbrev pub told : Gathered → List ℕ → Outcome
-told g chunk = outcomeOf (g .fed .answer) (partOf (g .fed .answer) (g .fed .acc) (g .buf) chunk)
+told g chunk = outcomeOf (g .said) (partOf (g .said) (g .acc) (g .buf) chunk)
 
 -- What a piece brought: the outcome, and the buffer as it then is.
 pub record Handed : Type 0 where
@@ -36,7 +33,7 @@ unfoldable pub handed : PayloadAcc → List ℕ → ℕ → ℕ → List (List �
 handed a b total offset [] = []
 handed a b total offset (p ∷ ps) =
     let g = gathered a b total offset p in
-    record { outcome = told g p; buf = g .buf } ∷ handed (g .fed .acc) (g .buf) total (offset + length p) ps
+    record { outcome = told g p; buf = g .buf } ∷ handed (g .acc) (g .buf) total (offset + length p) ps
 
 abbrev pub outcomes : List Handed → List Outcome
 outcomes [] = []

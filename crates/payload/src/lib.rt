@@ -6,7 +6,7 @@ ghost use mathlib.Core.Bool.{false};
 ghost use Prim.Native.Nat.{_+_, _≤_};
 ghost use lib.ListN.{length};
 ghost use lib.Seq.{paste};
-ghost use Rattle.payload.specs.Gather.{fresh, begun, owed, atOnce, accepted, copied, gathered, firstOf, partOf};
+ghost use Rattle.payload.specs.Gather.{saidOf, leftBy, fresh, begun, owed, atOnce, accepted, copied, gathered, firstOf, partOf};
 
 // How much of the current payload the lent buffer holds, and whether that payload was already whole.
 pub struct PayloadAcc {
@@ -83,7 +83,7 @@ impl PayloadAcc {
     // The next bytes of the payload held, and no more than it owes.
     fn append(mut self, buf: &mut [u8], total: usize, chunk: &[u8]) -> Fed
         requires { ⌜ (self .len ≤ length (now buf)) × (total ≤ length (now buf)) × (self .complete ≡ false) ⌝ }
-        ensures { λ r. ⌜ (r ≡ copied self (now (buf .entry)) total (now (chunk .entry)) .fed) × (now (buf .exit) ≡ copied self (now (buf .entry)) total (now (chunk .entry)) .buf) ⌝ }
+        ensures { λ r. ⌜ leftBy r (now (buf .exit)) ≡ copied self (now (buf .entry)) total (now (chunk .entry)) ⌝ }
     {
         let held = self.len;
         let n = owing(held, total, chunk.len());
@@ -106,7 +106,7 @@ impl PayloadAcc {
     // The order of the tests is 01's: a payload already whole, number 4, whole in the chunk, another offset than the length held.
     fn accept(mut self, buf: &mut [u8], total: usize, offset: usize, chunk: &[u8]) -> Fed
         requires { ⌜ self .len ≤ length (now buf) ⌝ }
-        ensures { λ r. ⌜ (r ≡ accepted self (now (buf .entry)) total offset (now (chunk .entry)) .fed) × (now (buf .exit) ≡ accepted self (now (buf .entry)) total offset (now (chunk .entry)) .buf) ⌝ }
+        ensures { λ r. ⌜ leftBy r (now (buf .exit)) ≡ accepted self (now (buf .entry)) total offset (now (chunk .entry)) ⌝ }
     {
         if self.complete {
             return Fed {
@@ -139,7 +139,7 @@ impl PayloadAcc {
 
     // Takes one piece of a payload of `total` bytes: the chunk, which starts at `offset` in it.
     pub fn feed(self, buf: &mut [u8], total: usize, offset: usize, chunk: &[u8]) -> Fed
-        ensures { λ r. ⌜ (r ≡ gathered self (now (buf .entry)) total offset (now (chunk .entry)) .fed) × (now (buf .exit) ≡ gathered self (now (buf .entry)) total offset (now (chunk .entry)) .buf) ⌝ }
+        ensures { λ r. ⌜ leftBy r (now (buf .exit)) ≡ gathered self (now (buf .entry)) total offset (now (chunk .entry)) ⌝ }
     {
         if buf.len() < self.len {
             return Fed {
@@ -175,7 +175,7 @@ impl PayloadAcc {
 
 // The payload that an answer of `feed` calls whole, given the state and the slices that this call left: a part of one of them.
 pub fn payload<'a>(answer: Answer, acc: PayloadAcc, buf: &'a [u8], chunk: &'a [u8]) -> &'a [u8]
-    ensures { λ r. ⌜ now r ≡ partOf answer acc (now (buf .entry)) (now (chunk .entry)) ⌝ }
+    ensures { λ r. ⌜ now r ≡ partOf (saidOf answer) acc (now (buf .entry)) (now (chunk .entry)) ⌝ }
 {
     if buf.len() < acc.len {
         return &buf[..0];

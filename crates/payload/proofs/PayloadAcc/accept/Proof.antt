@@ -1,8 +1,7 @@
 -- `payload::PayloadAcc::accept` meets its contract: each test of the code is the definition's test in the same place.
-use mathlib.Core.Path.{sym, ap, _∙_}
+use mathlib.Core.Path.{sym, _∙_}
 use borrow.Author.Needs.{needs}
-use Rattle.payload.specs.Gather.{Gathered}
-use Rattle.payload.proofs.Cases.{over-already, too-long, whole-chunk, elsewhere, next, carried}
+use Rattle.payload.proofs.Cases.{over-already, too-long, whole-chunk, elsewhere, next}
 use Rattle.payload.proofs.PayloadAcc.accept.Statement.{statement}
 use Rattle.payload.proofs.PayloadAcc.accept.Tie as tie
 
@@ -37,7 +36,7 @@ returns-5 c =
     let r = c .before .before in
     let e = r .before .before .before .before in
     let t = e .before in
-    carried (next _ _ _ _ _ (t .before .before .if1 .left) (t .before .if2 .left) (sym (t .at-once .ensures) ∙ e .if3 .left) (r .before .before .if4 .left)) (r .append .ensures)
+    r .append .ensures ∙ sym (next _ _ _ _ _ (t .before .before .if1 .left) (t .before .if2 .left) (sym (t .at-once .ensures) ∙ e .if3 .left) (r .before .before .if4 .left))
 
 pub accept-spec : {M : Type 1} → statement M
 accept-spec =

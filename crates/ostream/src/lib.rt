@@ -22,7 +22,7 @@ use types::T_VARINTARRAY_UNSIGNED;
 use varint::varint_len;
 use varint::zigzag_encode;
 ghost use mathlib.Core.Path.{_≡_};
-ghost use mathlib.Core.List.{_++_};
+ghost use mathlib.Core.List.{_++_, map};
 ghost use Prim.Native.Nat.{_+_, _-_, _*_, _≤_, _<_};
 ghost use mathlib.Core.Bool.{true, false};
 ghost use lib.Dec.{leb, eqb};
@@ -656,6 +656,38 @@ impl OStream {
         self.complete(size, total, place, self.depth)
     }
 
+    // An array of floats of 32 bits. A NaN's bits are the one pattern that the logic knows.
+    pub fn write_array_fp32(
+        mut self,
+        buf: &mut [u8],
+        id: u32,
+        items: &[f32],
+        place: usize,
+    ) -> Written
+        ensures { λ r. ⌜ (r ≡ called (floatArrayCall self (length (now (buf .entry))) id fp32 (map (toBits binary32) (now (items .entry)))) self (now (buf .entry)) place) × (now (buf .exit) ≡ leaves (floatArrayCall self (length (now (buf .entry))) id fp32 (map (toBits binary32) (now (items .entry)))) self (now (buf .entry)) place) ⌝ }
+    {
+        let size = buf.len();
+        if !self.sound(size) {
+            return self.refuse(Error::UnsoundWriter);
+        }
+        if ID_MAX < id {
+            return self.refuse(Error::IdTooLarge);
+        }
+        if (ARRAY_MAX as usize) < items.len() {
+            return self.refuse(Error::TooLong);
+        }
+        let header = tagged(id, T_FIXLENARRAY);
+        let count = items.len() as u64;
+        let total = self.head_len(header, count) + (1 + items.len() * 4);
+        if total < place {
+            return self.refuse(Error::PlaceBeyond);
+        }
+        let head = self.put_head(buf, header, count, place);
+        let word = head.put_varint(buf, tagged(4, 0));
+        word.put_f32s(buf, items);
+        self.complete(size, total, place, self.depth)
+    }
+
     // An array of floats of 64 bits, by their bits.
     pub fn write_array_fp64_bits(
         mut self,
@@ -685,6 +717,38 @@ impl OStream {
         let head = self.put_head(buf, header, count, place);
         let word = head.put_varint(buf, tagged(8, 1));
         word.put_fp64s(buf, items);
+        self.complete(size, total, place, self.depth)
+    }
+
+    // An array of floats of 64 bits. A NaN's bits are the one pattern that the logic knows.
+    pub fn write_array_fp64(
+        mut self,
+        buf: &mut [u8],
+        id: u32,
+        items: &[f64],
+        place: usize,
+    ) -> Written
+        ensures { λ r. ⌜ (r ≡ called (floatArrayCall self (length (now (buf .entry))) id fp64 (map (toBits binary64) (now (items .entry)))) self (now (buf .entry)) place) × (now (buf .exit) ≡ leaves (floatArrayCall self (length (now (buf .entry))) id fp64 (map (toBits binary64) (now (items .entry)))) self (now (buf .entry)) place) ⌝ }
+    {
+        let size = buf.len();
+        if !self.sound(size) {
+            return self.refuse(Error::UnsoundWriter);
+        }
+        if ID_MAX < id {
+            return self.refuse(Error::IdTooLarge);
+        }
+        if (ARRAY_MAX as usize) < items.len() {
+            return self.refuse(Error::TooLong);
+        }
+        let header = tagged(id, T_FIXLENARRAY);
+        let count = items.len() as u64;
+        let total = self.head_len(header, count) + (1 + items.len() * 8);
+        if total < place {
+            return self.refuse(Error::PlaceBeyond);
+        }
+        let head = self.put_head(buf, header, count, place);
+        let word = head.put_varint(buf, tagged(8, 1));
+        word.put_f64s(buf, items);
         self.complete(size, total, place, self.depth)
     }
 

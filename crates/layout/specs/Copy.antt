@@ -1,17 +1,16 @@
--- The plain copy: "its fields in order, each varint as short as its value allows, each close 07, all else kept."
-use Prim.Native.Nat.{ℕ, suc, _+_, _*_}
-use mathlib.Core.List.{List, [], _∷_, _++_}
+-- The plain copy of a complete ticket: "its fields in order, each varint as short as its value allows, each close 07, all else kept."
+use Prim.Native.Nat.{ℕ}
+use mathlib.Core.List.{List, _++_}
 use lib.ListN.{length}
-use lib.IntN.{ℤ}
 use Rattle.layout.specs.Limits.{Limits}
 use Rattle.layout.specs.Varint.{shortest}
 use Rattle.layout.specs.Zigzag.{zigzag}
-use Rattle.layout.specs.Field.{Width, Field, Wire, bytesOf, header, word, lowBytes, each}
+use Rattle.layout.specs.Field.{Field, bytesOf, header, word, lowBytes, each}
 use Rattle.layout.specs.Field.{float, raw, T-unsigned, T-signed, T-fixlen, T-unsigneds, T-signeds, T-floats, T-begin, T-end}
 use Rattle.layout.specs.Field.{unsigned, signed, payload, unsignedArray, signedArray, floatArray, begin, end}
 use Rattle.layout.specs.Message.{fieldsOf}
 
--- the shortest bytes of a field
+-- the shortest bytes of a field; of a close, "the writer uses 0"
 unfoldable pub fieldBytes : Field → List ℕ
 fieldBytes (unsigned id n) = header id T-unsigned ++ shortest n
 fieldBytes (signed id z) = header id T-signed ++ shortest (zigzag z)

@@ -1,9 +1,7 @@
 -- The events of a message, in ten sorts: unsigned, signed, fp32, fp64, string piece, blob piece, the announcements of a fixed-length
 -- field and of an array, open (`Begin`) and close (`End`). Floats go by their bits.
-use Prim.Native.Nat.{ℕ, zero, suc, _+_}
-use mathlib.Core.Bool.{Bool, true, false, _&&_}
+use Prim.Native.Nat.{ℕ, suc}
 use mathlib.Core.List.{List, [], _∷_, _++_}
-use lib.ListN.{length}
 use lib.IntN.{ℤ}
 use Rattle.layout.specs.Field.{Width, Raw, Subtype, Kind}
 
@@ -17,8 +15,9 @@ pub data Event : Type 0 where
   Begin : (id : ℕ) → Event
   End : Event
 
--- "Payload pieces joined": what a list of events says however its payloads were cut. Each piece is cut into single bytes, which are the
--- same for every cut; an empty payload's one piece stays.
+-- "Each payload's pieces joined": what a list of events says however its payloads were cut. Each piece is cut into single bytes, which
+-- are the same for every cut, so two lists have the same events with their pieces joined exactly when they are equal bytewise. An empty
+-- piece stays. The layout's own events (`eventsOf`) are bytewise as they stand.
 unfoldable pub cutFrom : ℕ → Raw → ℕ → ℕ → List ℕ → List Event
 cutFrom id r total o [] = []
 cutFrom id r total o (b ∷ bs) = Piece id r total o (b ∷ []) ∷ cutFrom id r total (suc o) bs

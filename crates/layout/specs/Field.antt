@@ -1,10 +1,9 @@
--- The fields of a message, the numbers that their types have on the wire, and their bytes.
+-- The fields of a message, the numbers that their types have on the wire, and the bytes of a header, a word and a float. (Copy has the
+-- bytes of whole fields.)
 use Prim.Native.Nat.{ℕ, zero, suc, _+_, _*_, _/_, _%_}
 use mathlib.Core.List.{List, [], _∷_, _++_}
-use lib.ListN.{length}
 use lib.IntN.{ℤ}
 use Rattle.layout.specs.Varint.{shortest}
-use Rattle.layout.specs.Zigzag.{zigzag}
 
 -- floats, and the payloads that go as they are
 pub data Width : Type 0 where
@@ -13,12 +12,12 @@ pub data Width : Type 0 where
 pub data Raw : Type 0 where
   string blob : Raw
 
--- "fp32 (length 4 only), fp64 (8 only)"
+-- fp32: "length 4 only"; fp64: "8 only"
 abbrev pub bytesOf : Width → ℕ
 bytesOf fp32 = 4
 bytesOf fp64 = 8
 
--- "Subtype 0 is fp32, 1 fp64, 2 string, 3 blob." Broken: "subtype 4 to 7".
+-- Subtype 0 is fp32, 1 fp64, 2 string, 3 blob. Broken: "subtype 4 to 7".
 pub data Subtype : Type 0 where
   float : Width → Subtype
   raw : Raw → Subtype
@@ -51,8 +50,8 @@ kindNumber signeds = 1
 kindNumber (floats fp32) = 2
 kindNumber (floats fp64) = 3
 
--- The types of fields, 0 to 7: "0 unsigned; 1 signed; 2 fixed-length; 3 unsigned array, 4 signed array; 5 float array; 6 opens a
--- sequence, 7 closes one."
+-- The types of fields: 0 unsigned, 1 signed, 2 fixed-length, 3 unsigned array, 4 signed array, 5 float array, 6 opens a sequence,
+-- 7 closes one.
 pub data Wire : Type 0 where
   T-unsigned T-signed T-fixlen T-unsigneds T-signeds T-floats T-begin T-end : Wire
 

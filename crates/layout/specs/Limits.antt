@@ -7,7 +7,7 @@ pub record Limits : Type 0 where
   pub bits : ℕ
   -- largest id
   pub id : ℕ
-  -- largest length of a fixed-length field
+  -- largest length of a string or blob (a float's is 4 or 8)
   pub size : ℕ
   -- largest count of an array
   pub count : ℕ

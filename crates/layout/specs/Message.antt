@@ -1,16 +1,17 @@
 -- "A message is fields one after another." How bytes are read as fields, with the events that they raise and the verdict on them.
--- Broken, each at the byte that completes or overruns the varint: what `checked`, `fixlen`, `floatArrayOf` and `body` find.
-use Prim.Native.Nat.{ℕ, zero, suc, _+_, _-_, _/_, _%_}
+-- "Broken, each at the byte that completes or overruns the varint": an overrun in Varint's `push`, an id in `headerOf`, a count in
+-- `countOf`, subtype and length in `fixlen` and `floatArrayOf`, depth in `body`.
+use Prim.Native.Nat.{ℕ, zero, suc, _-_, _/_, _%_, _<_}
 use mathlib.Core.Path.{_≡_}
-use mathlib.Core.Bool.{Bool, true, false}
-use mathlib.Core.List.{List, [], _∷_, _++_}
+use mathlib.Core.Bool.{Bool}
+use mathlib.Core.List.{List, [], _∷_}
 use lib.ListN.{length}
 use lib.Dec.{ltb, leb, eqb}
 use lib.IntN.{ℤ}
 use Rattle.layout.specs.Limits.{Limits, pick}
 use Rattle.layout.specs.Varint.{Outcome, whole, short, broken, varint}
 use Rattle.layout.specs.Zigzag.{unzigzag}
-use Rattle.layout.specs.Field.{Width, Raw, Subtype, Subtyped, Kind, Wire, Field, bytesOf, subtypeOf, wireOf}
+use Rattle.layout.specs.Field.{Raw, Subtyped, Wire, Field, bytesOf, subtypeOf, wireOf}
 use Rattle.layout.specs.Field.{float, raw, known, unknown, unsigneds, signeds, floats}
 use Rattle.layout.specs.Field.{T-unsigned, T-signed, T-fixlen, T-unsigneds, T-signeds, T-floats, T-begin, T-end}
 use Rattle.layout.specs.Field.{unsigned, signed, payload, unsignedArray, signedArray, floatArray, begin, end}
@@ -48,7 +49,7 @@ elements p e (suc n) bs = given (p bs) (λ x rest. raise (e x ∷ []) (becoming 
 abbrev pub scalar : {A : Type 0} → Outcome A → (A → Event) → (A → Field) → Reading Field
 scalar o e f = given o (λ x rest. raise (e x ∷ []) (quiet (whole (f x) rest)))
 
--- the n payload bytes from an offset on
+-- the n payload bytes from an offset on, a piece for each byte (Event says why)
 unfoldable pub payloadFrom : ℕ → Raw → ℕ → ℕ → ℕ → List ℕ → Reading (List ℕ)
 payloadFrom id r total o zero bs = quiet (whole [] bs)
 payloadFrom id r total o (suc n) [] = quiet short
@@ -59,7 +60,8 @@ unfoldable pub payloadOf : ℕ → Raw → ℕ → List ℕ → Reading (List �
 payloadOf id r zero bs = raise (Piece id r 0 0 [] ∷ []) (quiet (whole [] bs))
 payloadOf id r (suc n) bs = payloadFrom id r (suc n) 0 (suc n) bs
 
--- "2 fixed-length: a word varint (length × 8 + subtype), then the bytes": what follows the word
+-- "2 fixed-length: a word varint (length × 8 + subtype), then the bytes": what follows the word. Broken: "subtype 4 to 7", "a float word
+-- of another length", "length above 2,147,483,647".
 unfoldable pub fixlen : Limits → ℕ → ℕ → Subtyped → List ℕ → Reading Field
 fixlen L id n (known (float w)) bs =
     pick (eqb n (bytesOf w))
@@ -70,7 +72,7 @@ fixlen L id n (known (raw r)) bs =
 fixlen L id n unknown bs = quiet (broken bs)
 
 -- "5 float array: a count, one word, the elements; the word stands even when the count is 0, and the array is announced there": what
--- follows the word. Broken: "a string or blob word in an array".
+-- follows the word. Broken: "subtype 4 to 7", "a float word of another length", "a string or blob word in an array".
 unfoldable pub floatArrayOf : ℕ → ℕ → ℕ → Subtyped → List ℕ → Reading Field
 floatArrayOf id count n (known (float w)) bs =
     pick (eqb n (bytesOf w))
@@ -123,6 +125,7 @@ prepend x fs = record { list = x ∷ fs .list; depth = fs .depth }
 -- Fields one after another from depth d on, to the end of the bytes; at most n of them: as many as there are bytes are enough.
 unfoldable pub fieldsFrom : Limits → ℕ → ℕ → List ℕ → Reading Fields
 fieldsFrom L zero d [] = quiet (whole (record { list = []; depth = d }) [])
+-- not reached from `message`
 fieldsFrom L zero d (b ∷ bs) = quiet short
 fieldsFrom L (suc n) d [] = quiet (whole (record { list = []; depth = d }) [])
 fieldsFrom L (suc n) d (b ∷ bs) = andThen (field L d (b ∷ bs)) (λ x rest. becoming (prepend x) (fieldsFrom L n (depthAfter d x) rest))
@@ -143,8 +146,8 @@ wholeOf (broken rest) = []
 unfoldable pub fieldsOf : Limits → List ℕ → List Field
 fieldsOf L bs = wholeOf (message L bs .outcome)
 
--- "Complete when no field is under way and depth is 0, else incomplete"; or broken, the nth byte being the first offending one, so that
--- n bytes are read.
+-- "Complete when no field is under way and depth is 0, else incomplete"; or broken, the nth byte being the first offending one,
+-- counted from 1 at the message's first byte.
 pub data Verdict : Type 0 where
   complete incomplete : Verdict
   brokenAt : (n : ℕ) → Verdict
@@ -159,11 +162,20 @@ verdictOf L bs = judged (length bs) (message L bs .outcome)
 
 -- ---- complete
 
+-- each of a list
+abbrev pub All : {A : Type 0} → (A → Type 0) → List A → Type 0
+All P [] = Unit {0}
+All P (x ∷ xs) = P x × All P xs
+
+-- a byte string
+abbrev pub Bytes : List ℕ → Type 0
+Bytes bs = All (λ b. b < 256) bs
+
 -- whole fields, none broken, from one depth to another
 pub data WholeFields (L : Limits) : ℕ → List ℕ → List Field → ℕ → Type 0 where
   none : {d : ℕ} → WholeFields L d [] [] d
   next : {d e : ℕ} {bs rest : List ℕ} {x : Field} {xs : List Field} → field L d bs .outcome ≡ whole x rest → WholeFields L (depthAfter d x) rest xs e → WholeFields L d bs (x ∷ xs) e
 
--- "A ticket is complete when it is whole fields, none broken, ending at depth 0."
+-- "A ticket is complete when it is whole fields, none broken, ending at depth 0." (A ticket is a byte string: theorems ask `Bytes` too.)
 abbrev pub Complete : Limits → List ℕ → Type 0
 Complete L bs = (xs : List Field) × WholeFields L 0 bs xs 0

@@ -1,7 +1,7 @@
 -- "A varint carries 7 bits a byte, low bits first, and bit 7 says that another byte follows."
 -- Its value by powers of 128, and its shortest bytes.
 use Prim.Native.Nat.{ℕ, zero, suc, _+_, _*_, _/_, _%_, _^_}
-use mathlib.Core.Bool.{Bool, true, false, _&&_}
+use mathlib.Core.Bool.{true, false, _&&_}
 use mathlib.Core.List.{List, [], _∷_}
 use lib.Dec.{ltb, leb}
 use Rattle.layout.specs.Limits.{Limits, lastPlace, lastBound, pick}
@@ -17,7 +17,7 @@ abbrev pub digit : ℕ → ℕ → ℕ
 digit k b = b % 128 * 128 ^ k
 
 -- Byte number k of a varint, b, where the k bytes before it came to v.
--- "Longer varints than needed are accepted within 64 bits." "Broken: a tenth varint byte above 1."
+-- "Longer varints than needed are accepted within 64 bits." Broken: "a tenth varint byte above 1".
 unfoldable pub push : Limits → ℕ → ℕ → ℕ → Push
 push L k v b =
     pick (leb (lastPlace L) k && leb (lastBound L) b) overrun
@@ -38,7 +38,7 @@ varintFrom L k v (b ∷ bs) = elim (push L k v b) [ more k′ v′ ↦ varintFro
 abbrev pub varint : Limits → List ℕ → Outcome ℕ
 varint L bs = varintFrom L 0 0 bs
 
--- The shortest varint of n, in at most f more bytes than one: as many as n has are more than enough.
+-- The shortest varint of n, in at most f + 1 bytes; f = n is always enough.
 unfoldable pub shortestIn : ℕ → ℕ → List ℕ
 shortestIn zero n = n ∷ []
 shortestIn (suc f) n = elim (ltb n 128) [ true ↦ n ∷ [] | false ↦ (n % 128 + 128) ∷ shortestIn f (n / 128) ]

@@ -6,8 +6,8 @@ use lib.ListN.{length, replicate}
 use lib.IntN.{ℤ, pos, negsuc}
 use Rattle.layout.specs.Limits.{base, pick, lastPlace, lastBound}
 use Rattle.layout.specs.Varint.{push, varintFrom, shortestIn, shortest}
-use Rattle.layout.specs.Field.{Field, fp32, fp64, string, blob, float, raw, unsigneds, floats, lowBytes, each}
-use Rattle.layout.specs.Field.{unsigned, signed, payload, unsignedArray, floatArray, begin, end}
+use Rattle.layout.specs.Field.{Field, fp32, fp64, string, blob, float, raw, unsigneds, signeds, floats, lowBytes, each}
+use Rattle.layout.specs.Field.{unsigned, signed, payload, unsignedArray, signedArray, floatArray, begin, end}
 use Rattle.layout.specs.Event.{Event, Unsigned, Signed, Float, Piece, Fixlen, Array, Begin, End}
 use Rattle.layout.specs.Reading.{given, follow, lowFrom}
 use Rattle.layout.specs.Message.{Verdict, complete, incomplete, brokenAt}
@@ -46,7 +46,11 @@ good bs fs es = record { bytes = bs; fields = fs; events = es; verdict = complet
 abbrev bad : List ℕ → List Event → ℕ → Row
 bad bs es n = record { bytes = bs; fields = []; events = es; verdict = brokenAt n; copy = [] }
 
--- the lowest signed value's varint after its header, but for its tenth byte
+-- a row that ends within a field
+abbrev part : List ℕ → List Event → Row
+part bs es = record { bytes = bs; fields = []; events = es; verdict = incomplete; copy = [] }
+
+-- signed, id 2: the lowest signed value but for its varint's tenth byte
 abbrev nine : ℕ → List ℕ
 nine b = 0x11 ∷ (replicate 9 0xFF ++ (b ∷ []))
 
@@ -99,13 +103,31 @@ table =
       copy = 0x36 ∷ 0x07 ∷ [];
     }
     ∷ bad (0x07 ∷ []) [] 1
-    -- the bytes of "nine plain opens, ids 1 to 9, then nine plain closes"; and "empty input is complete"
+    -- the bytes of "nine plain opens, ids 1 to 9, then nine plain closes"; and empty input
     ∷ good (0x0E ∷ 0x16 ∷ 0x1E ∷ 0x26 ∷ 0x2E ∷ 0x36 ∷ 0x3E ∷ 0x46 ∷ 0x4E ∷ replicate 9 0x07)
     (begin 1 ∷ begin 2 ∷ begin 3 ∷ begin 4 ∷ begin 5 ∷ begin 6 ∷ begin 7 ∷ begin 8 ∷ begin 9 ∷ replicate 9 (end 0))
     (Begin 1 ∷ Begin 2 ∷ Begin 3 ∷ Begin 4 ∷ Begin 5 ∷ Begin 6 ∷ Begin 7 ∷ Begin 8 ∷ Begin 9 ∷ replicate 9 End)
     ∷ good [] [] []
     -- the example of "the program that lists events": 36 08 AC 02 07
     ∷ good (0x36 ∷ 0x08 ∷ 0xAC ∷ 0x02 ∷ 0x07 ∷ []) (begin 6 ∷ unsigned 1 300 ∷ end 0 ∷ []) (Begin 6 ∷ Unsigned 1 300 ∷ End ∷ [])
+    -- broken: "length above 2,147,483,647"; "a string or blob word in an array", with count 0 and length 4 too; subtype 4 there; "an open at depth 255"
+    ∷ part (0x1A ∷ 0xFA ∷ 0xFF ∷ 0xFF ∷ 0xFF ∷ 0x3F ∷ []) (Fixlen 3 (raw string) 2147483647 ∷ [])
+    ∷ bad (0x1A ∷ 0x82 ∷ 0x80 ∷ 0x80 ∷ 0x80 ∷ 0x40 ∷ []) [] 6
+    ∷ bad (0x2D ∷ 0x00 ∷ 0x22 ∷ []) [] 3
+    ∷ bad (0x2D ∷ 0x00 ∷ 0x24 ∷ []) [] 3
+    ∷ good (replicate 255 0x06 ++ replicate 255 0x07) (replicate 255 (begin 0) ++ replicate 255 (end 0)) (replicate 255 (Begin 0) ++ replicate 255 End)
+    ∷ bad (replicate 256 0x06) (replicate 255 (Begin 0)) 256
+    -- ended within a field: what was raised before; after the count of a float array nothing; an element and a broken one
+    ∷ part (0x1A ∷ 0x12 ∷ 0x48 ∷ []) (Fixlen 3 (raw string) 2 ∷ Piece 3 string 2 0 (0x48 ∷ []) ∷ [])
+    ∷ part (0x2D ∷ 0x00 ∷ []) []
+    ∷ part (0x2D ∷ 0x02 ∷ 0x20 ∷ 0x00 ∷ 0x00 ∷ 0x80 ∷ 0x3F ∷ 0x00 ∷ []) (Array 5 (floats fp32) 2 ∷ Float 5 fp32 0x3F800000 ∷ [])
+    ∷ bad (0x2B ∷ 0x02 ∷ 0x01 ∷ replicate 9 0xFF ++ (0x02 ∷ [])) (Array 5 unsigneds 2 ∷ Unsigned 5 1 ∷ []) 13
+    -- an open alone: whole fields, and incomplete
+    ∷ record { bytes = 0x36 ∷ []; fields = begin 6 ∷ []; events = Begin 6 ∷ []; verdict = incomplete; copy = 0x36 ∷ [] }
+    -- signed array -1, 1; fp64 array of a NaN with a payload; fp32 -0
+    ∷ good (0x2C ∷ 0x02 ∷ 0x01 ∷ 0x02 ∷ []) (signedArray 5 (negsuc 0 ∷ pos 1 ∷ []) ∷ []) (Array 5 signeds 2 ∷ Signed 5 (negsuc 0) ∷ Signed 5 (pos 1) ∷ [])
+    ∷ good (0x2D ∷ 0x01 ∷ 0x41 ∷ 0x01 ∷ 0x00 ∷ 0x00 ∷ 0x00 ∷ 0x00 ∷ 0x00 ∷ 0xF0 ∷ 0x7F ∷ []) (floatArray 5 fp64 (0x7FF0000000000001 ∷ []) ∷ []) (Array 5 (floats fp64) 1 ∷ Float 5 fp64 0x7FF0000000000001 ∷ [])
+    ∷ good (0x22 ∷ 0x20 ∷ 0x00 ∷ 0x00 ∷ 0x00 ∷ 0x80 ∷ []) (float 4 fp32 0x80000000 ∷ []) (Fixlen 4 (float fp32) 4 ∷ Float 4 fp32 0x80000000 ∷ [])
     ∷ []
 
 pub worked : saidAll table ≡ table

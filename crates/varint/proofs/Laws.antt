@@ -1,16 +1,16 @@
 -- What a caller of the step may know: the test of a state and the state agree, a byte that goes on keeps it sound, a value has 64
 -- bits, and the step is the layout's.
-use mathlib.Core.Path.{_≡_, refl, sym, ap, _∙_}
+use mathlib.Core.Path.{_≡_, refl, ap, _∙_}
 use mathlib.Core.Bool.{Bool, true, false, _&&_}
-use Prim.Native.Nat.{ℕ, _+_, _/_, _*_, _^_, _<_, _≤_}
+use Prim.Native.Nat.{ℕ, _/_, _*_, _^_, _<_, _≤_}
 use native.Mathlib.Omega.{arith}
 use lib.Dec.{leb, ltb, eqb, lit<, lit≤}
 use borrow.Author.Tests.{lt-leb, le-leb, leb-true, ltb-true, lt-ltb}
-use Rattle.layout.specs.Limits.{base, lastPlace, lastBound}
+use Rattle.layout.specs.Limits.{base, lastPlace}
 use Rattle.layout.specs.Varint as layout
 use Rattle.varint.specs.declared.Acc.{Acc}
 use Rattle.varint.specs.declared.Push.{Push}
-use Rattle.varint.specs.declared.Push.the-variants.{More, Value, Overlong}
+use Rattle.varint.specs.declared.Push.the-variants.{More, Value}
 use Rattle.varint.specs.Varint.{Sound, soundAcc, start, answer, unanswer, pushed}
 use Rattle.varint.proofs.Digits.{below}
 use Rattle.varint.proofs.Step.{step-more, step-value}

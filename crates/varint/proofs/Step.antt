@@ -1,8 +1,8 @@
 -- The layout's step, over any width: its four cases, and what a byte that goes on and one that ends leave.
 use mathlib.Core.Path.{_≡_, refl, sym, ap, _∙_, subst}
 use mathlib.Core.Bool.{Bool, true, false}
-use Prim.Native.Nat.{ℕ, suc, _+_, _-_, _*_, _/_, _%_, _^_, _<_, _≤_}
-use native.Mathlib.Nat.{pow-suc, mod-lt, mod-le, mul-comm, lt-of-lt-of-le, lt-of-le-of-lt, le-trans}
+use Prim.Native.Nat.{ℕ, _+_, _-_, _*_, _%_, _^_, _<_, _≤_}
+use native.Mathlib.Nat.{pow-suc, mod-lt, mod-le, mul-comm, lt-of-lt-of-le, lt-of-le-of-lt}
 use native.Mathlib.Numerals.{add-one}
 use native.Mathlib.Omega.{arith}
 use borrow.Author.Tests.{ltb-true, ltb-false, leb-true, leb-false, lt-ltb, le-ltb, lt-leb, le-leb}
@@ -10,7 +10,7 @@ use lib.Arith.{digits-lt}
 use lib.Dec.{leb, ltb, lit<}
 use lib.Pow.{pow-add, pow-mono}
 use Rattle.layout.specs.Limits.{Limits, lastPlace, lastBound}
-use Rattle.layout.specs.Varint.{Push, more, value, overrun, digit, push}
+use Rattle.layout.specs.Varint.{more, value, overrun, digit, push}
 use Rattle.varint.proofs.Digits.{pow128}
 
 -- the last byte's bound leaves no bit 7

@@ -2,13 +2,12 @@
 -- every width w.
 use mathlib.Core.Path.{_≡_, refl, sym, ap, _∙_, subst}
 use mathlib.Core.Bool.{Bool, true, false}
-use Prim.Native.Nat.{ℕ, zero, suc, _+_, _-_, _*_, _/_, _%_, _^_, _<_, _≤_}
+use Prim.Native.Nat.{ℕ, suc, _+_, _-_, _*_, _/_, _%_, _^_, _<_, _≤_}
 use native.Mathlib.Nat.{pow-suc}
 use native.Mathlib.Omega.{arith}
 use borrow.Author.Tests.{eq-eqb, ne-eqb, eqb-true, eqb-false}
 use lib.Dec.{eqb}
 use lib.IntN.{ℤ, pos, negsuc}
-use Rattle.layout.specs.Limits.{pick}
 use Rattle.layout.specs.Zigzag.{zigzag, unzigzag}
 use Rattle.varint.specs.Varint.{SignedIn}
 

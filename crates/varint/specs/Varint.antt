@@ -1,7 +1,7 @@
 -- The decoder's step on this crate's types, through the layout's step at 01's width; and which states a varint can be in.
 -- Callers live on `Laws` of proofs/, and open none of these but `start`.
 use Prim.Native.Nat.{ℕ, _-_, _^_, _<_, _≤_}
-use mathlib.Core.Bool.{Bool, true, false, _&&_}
+use mathlib.Core.Bool.{Bool, _&&_}
 use lib.Dec.{leb, ltb}
 use lib.IntN.{ℤ, pos, negsuc}
 use Rattle.layout.specs.Limits.{base, lastPlace}

@@ -1,7 +1,7 @@
 // Base-128 varints and zigzag: the Rust's varint.rs, with the step of the decoder (`Core::push` and `payload_at` of its istream.rs).
 // The step takes its state by value, so a varint may be cut anywhere between two bytes.
 ghost use mathlib.Core.Path.{_≡_};
-ghost use Prim.Native.Nat.{_+_, _*_, _%_, _^_, _<_, _≤_};
+ghost use Prim.Native.Nat.{_+_, _*_, _%_, _<_, _≤_};
 ghost use lib.ListN.{length, getD};
 ghost use mir.Syntax.{w64};
 ghost use mir.Val.{ofZ};

@@ -1,5 +1,5 @@
 -- `varint::bits` meets its contract.
-use mathlib.Core.Path.{_≡_, sym, ap, _∙_, subst}
+use mathlib.Core.Path.{_≡_, sym, ap, _∙_}
 use Prim.Native.Nat.{ℕ, suc, _-_, _^_, _<_}
 use native.Mathlib.Omega.{arith}
 use lib.IntN.{ℤ, natAbs, pos, negsuc}

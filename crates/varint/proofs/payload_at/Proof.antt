@@ -5,26 +5,19 @@ use Rattle.varint.proofs.Digits.{shifted}
 use borrow.Author.Needs.{needs}
 use Rattle.varint.proofs.payload_at.Statement.{statement}
 use Rattle.varint.proofs.payload_at.Tie as tie
-use Rattle.varint.proofs.payload_at.Reads as reads
-use Rattle.varint.proofs.payload_at.Lts as lts
 
--- src/lib.rt:30:6
 cast-result : tie.Need-cast-result
 cast-result c = omega (arith, mask-lt (c .args .b) 7)
 
--- src/lib.rt:30:29
 mul-result : tie.Need-mul-result
 mul-result c = search needs
 
--- src/lib.rt:30:29
 cast-result-2 : tie.Need-cast-result-2
 cast-result-2 c = search needs
 
--- src/lib.rt:30:5
 shl-result : tie.Need-shl-result
 shl-result c = search needs
 
--- src/lib.rt:26:1
 returns : tie.Need-returns
 returns c = shifted (c .args .b) (c .args .k) (c .pre)
 

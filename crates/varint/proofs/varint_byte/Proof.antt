@@ -4,34 +4,25 @@ use Rattle.varint.proofs.Shortest.{length-64, shifted-last, shifted-mor
 use borrow.Author.Needs.{needs}
 use Rattle.varint.proofs.varint_byte.Statement.{statement}
 use Rattle.varint.proofs.varint_byte.Tie as tie
-use Rattle.varint.proofs.varint_byte.Reads as reads
-use Rattle.varint.proofs.varint_byte.Lts as lts
 
--- src/lib.rt:120:22
 mul-rest : tie.Need-mul-rest
 mul-rest c = omega (arith, length-64 (c .args .v) (c .fits .v .fits))
 
--- src/lib.rt:120:16
 shr-rest : tie.Need-shr-rest
 shr-rest c = omega (arith, length-64 (c .args .v) (c .fits .v .fits))
 
--- src/lib.rt:122:9
 cast-result : tie.Need-cast-result
 cast-result c = search needs
 
--- src/lib.rt:124:10
 add-result : tie.Need-add-result
 add-result c = search needs
 
--- src/lib.rt:124:9
 cast-result-2 : tie.Need-cast-result-2
 cast-result-2 c = search needs
 
--- src/lib.rt:116:1
 returns : tie.Need-returns
 returns c = let s = c .before in shifted-last (s .args .place) (s .args .v) (s .pre) (c .if1 .taken)
 
--- src/lib.rt:116:1
 returns-2 : tie.Need-returns-2
 returns-2 c = let s = c .before in shifted-more (s .args .place) (s .args .v) (s .pre) (c .if1 .left)
 

@@ -1,14 +1,12 @@
 -- `varint::varint_len` meets its contract: a turn takes one byte off the rest.
-use Prim.Native.Nat.{_+_, _≤_}
-use mathlib.Core.Path.{_≡_, refl}
+use Prim.Native.Nat.{_+_}
+use mathlib.Core.Path.{_≡_}
 use native.Mathlib.Omega.{arith}
 use lib.ListN.{length}
 use Rattle.layout.specs.Varint.{shortest}
-use Rattle.varint.proofs.Shortest.{length-one, length-more, length-some, length-64}
+use Rattle.varint.proofs.Shortest.{length-one, length-more, length-64}
 use Rattle.varint.proofs.varint_len.Statement.{statement}
 use Rattle.varint.proofs.varint_len.Tie as tie
-use Rattle.varint.proofs.varint_len.Reads as reads
-use Rattle.varint.proofs.varint_len.Lts as lts
 
 abbrev Inv-loop : tie.InvT-loop
 Inv-loop v rest₀ len₀ rest len = len + length (shortest rest) ≡ length (shortest v) + 1
@@ -16,25 +14,20 @@ Inv-loop v rest₀ len₀ rest len = len + length (shortest rest) ≡ length (sh
 abbrev μ-loop : tie.MeasureT-loop
 μ-loop v rest₀ len₀ rest len = rest
 
--- src/lib.rt:108:5
 loop-holds : tie.Need-loop-holds Inv-loop μ-loop
 loop-holds c = omega arith
 
--- src/lib.rt:110:9
 add-len : tie.Need-add-len Inv-loop μ-loop
 add-len c = omega (arith, length-64 (c .before .before .args .v) (c .before .before .fits .v .fits))
 
--- src/lib.rt:108:5
 loop-less : tie.Need-loop-less Inv-loop μ-loop
 loop-less c = omega arith
 
--- src/lib.rt:108:5
 loop-again : tie.Need-loop-again Inv-loop μ-loop
-loop-again c = omega (arith, length-more (c .before .loop .rest) (c .loop-test .taken))
+loop-again c = omega (arith, length-more (c .before .loop .rest) (omega (arith, c .loop-test .taken)))
 
--- src/lib.rt:103:1
 returns : tie.Need-returns Inv-loop μ-loop
-returns c = omega (arith, length-one (c .before .loop .rest) (c .loop-test .left))
+returns c = omega (arith, length-one (c .before .loop .rest) (omega (arith, c .loop-test .left)))
 
 pub varint-len-spec : {M : Type 1} → statement M
 varint-len-spec =

@@ -1,6 +1,6 @@
 -- `varint::zigzag_decode` meets its contract: the half, or the half with its bits flipped.
-use mathlib.Core.Path.{_≡_, sym, ap, _∙_}
-use Prim.Native.Nat.{ℕ, suc, _-_, _/_, _^_, _<_}
+use mathlib.Core.Path.{_≡_, ap, _∙_}
+use Prim.Native.Nat.{suc, _-_, _/_, _^_, _<_}
 use native.Mathlib.Omega.{arith}
 use borrow.Author.Tests.{eq-eqb, ne-eqb}
 use mir.Syntax.{w64}
@@ -9,10 +9,7 @@ use mir.Facts.{toZ-pos, toZ-neg}
 use borrow.Author.Needs.{needs}
 use Rattle.varint.proofs.zigzag_decode.Statement.{statement}
 use Rattle.varint.proofs.zigzag_decode.Tie as tie
-use Rattle.varint.proofs.zigzag_decode.Reads as reads
-use Rattle.varint.proofs.zigzag_decode.Lts as lts
 
--- src/lib.rt:28:16
 cast-half : tie.Need-cast-half
 cast-half c = search needs
 

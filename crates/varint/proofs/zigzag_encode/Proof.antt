@@ -1,6 +1,6 @@
 -- `varint::zigzag_encode` meets its contract: twice the bits, flipped below 0.
 use mathlib.Core.Path.{_≡_, sym, ap, _∙_}
-use Prim.Native.Nat.{ℕ, suc, _+_, _*_, _-_, _^_}
+use Prim.Native.Nat.{suc, _+_, _*_, _-_, _^_}
 use native.Mathlib.Omega.{arith}
 use mir.Syntax.{w64}
 use mir.Val.{ofZ}
@@ -10,16 +10,10 @@ use Rattle.varint.proofs.Sign.{negative, natural}
 use borrow.Author.Needs.{needs}
 use Rattle.varint.proofs.zigzag_encode.Statement.{statement}
 use Rattle.varint.proofs.zigzag_encode.Tie as tie
-use Rattle.varint.proofs.zigzag_encode.Reads as reads
-use Rattle.varint.proofs.zigzag_encode.Lts as lts
-use Rattle.std.proofs.num.wrapping_add_u64.Reads as wrapping-add-u64-reads
-use Rattle.varint.proofs.bits.Reads as bits-reads
 
--- src/lib.rt:20:9
 bits-requires : tie.Need-bits-requires
 bits-requires c κs = search needs
 
--- src/lib.rt:21:9
 wrapping-add-u64-requires : tie.Need-wrapping-add-u64-requires
 wrapping-add-u64-requires c κs = search needs
 

@@ -4,20 +4,26 @@
 use emit::Cursor;
 use types::Error;
 use types::ID_MAX;
+use types::MAX_DEPTH;
+use types::T_SEQUENCE_END;
 use types::T_SEQUENCE_START;
+use types::T_VARINT_SIGNED;
 use types::T_VARINT_UNSIGNED;
 use varint::varint_len;
+use varint::zigzag_encode;
 ghost use mathlib.Core.Path.{_≡_};
+ghost use mathlib.Core.List.{_++_};
 ghost use Prim.Native.Nat.{_+_, _-_, _*_, _≤_, _<_};
 ghost use mathlib.Core.Bool.{true, false};
 ghost use lib.Dec.{leb, eqb};
 ghost use lib.ListN.{length, take, drop};
-ghost use Rattle.layout.specs.Limits.{base};
-ghost use Rattle.ostream.specs.Stream.{every, soundStream, heldBytes, headBytes, zeroed, committed, opened};
+ghost use Rattle.layout.specs.Varint.{shortest};
+ghost use Rattle.layout.specs.Limits.{base, pick};
+ghost use Rattle.ostream.specs.Stream.{every, soundStream, heldBytes, headBytes, zeroed, committed, holding, dropped, opened};
 ghost use Rattle.emit.specs.Cursor.{placed, moved};
-ghost use Rattle.ostream.specs.Emission.{start, answered, refused, called, leaves};
+ghost use Rattle.ostream.specs.Emission.{start, answered, left, refused, called, leaves};
 ghost use Rattle.ostream.specs.Buffer.{badBuffer, opening, draining, changing};
-ghost use Rattle.ostream.specs.Calls.{varintCall, unsignedCall};
+ghost use Rattle.ostream.specs.Calls.{varintCall, unsignedCall, signedCall, booleanCall, beginCall, endCall, endKeepCall};
 
 // A writer's state. `offset` is where the next byte goes; `depth` counts the open sequences; `pending` has the ids of the innermost
 // `npending` of them, whose headers are held back, and zero elsewhere.
@@ -100,6 +106,12 @@ fn tagged(n: u32, tag: u8) -> u64
     ensures { λ r. ⌜ r ≡ n * 8 + tag ⌝ }
 {
     (n as u64) * 8 + (tag as u64)
+}
+
+fn bit(b: bool) -> u64
+    ensures { λ r. ⌜ r ≡ pick b 1 0 ⌝ }
+{
+    if b { 1 } else { 0 }
 }
 
 // Whether a buffer of this size cannot be written from the offset on; one that is to be drained needs a byte.
@@ -374,5 +386,112 @@ impl OStream {
         ensures { λ r. ⌜ (r ≡ called (unsignedCall self (length (now (buf .entry))) id value) self (now (buf .entry)) place) × (now (buf .exit) ≡ leaves (unsignedCall self (length (now (buf .entry))) id value) self (now (buf .entry)) place) ⌝ }
     {
         self.write_varint(buf, id, T_VARINT_UNSIGNED, value, place)
+    }
+
+    // A signed integer.
+    pub fn write_signed(mut self, buf: &mut [u8], id: u32, value: i64, place: usize) -> Written
+        ensures { λ r. ⌜ (r ≡ called (signedCall self (length (now (buf .entry))) id value) self (now (buf .entry)) place) × (now (buf .exit) ≡ leaves (signedCall self (length (now (buf .entry))) id value) self (now (buf .entry)) place) ⌝ }
+    {
+        self.write_varint(buf, id, T_VARINT_SIGNED, zigzag_encode(value), place)
+    }
+
+    // A boolean, as an unsigned 0 or 1.
+    pub fn write_boolean(mut self, buf: &mut [u8], id: u32, value: bool, place: usize) -> Written
+        ensures { λ r. ⌜ (r ≡ called (booleanCall self (length (now (buf .entry))) id value) self (now (buf .entry)) place) × (now (buf .exit) ≡ leaves (booleanCall self (length (now (buf .entry))) id value) self (now (buf .entry)) place) ⌝ }
+    {
+        self.write_unsigned(buf, id, bit(value), place)
+    }
+
+    // The held headers and one more.
+    fn write_marker(self, buf: &mut [u8], header: u64, place: usize, depth: u16) -> Written
+        requires { ⌜ (self .npending ≤ 8) × (self .offset ≤ length (now buf)) ⌝ }
+        ensures { λ r. ⌜ (r ≡ answered self (length (now (buf .entry))) (length (heldBytes self ++ shortest header)) place (committed self depth)) × (now (buf .exit) ≡ left self (now (buf .entry)) (heldBytes self ++ shortest header) place) ⌝ }
+    {
+        let size = buf.len();
+        let total = self.held_len() + varint_len(header);
+        if total < place {
+            return self.complete(size, total, place, depth);
+        }
+        let held = self.put_held(buf, place);
+        held.put_varint(buf, header);
+        self.complete(size, total, place, depth)
+    }
+
+    // The state with one more sequence held back.
+    fn hold(mut self, id: u32) -> OStream
+        requires { ⌜ (self .npending < 8) × (self .depth < 255) ⌝ }
+        ensures { λ r. ⌜ r ≡ holding self id ⌝ }
+    {
+        let last = self.npending as usize;
+        self.pending[last] = id;
+        self.npending = self.npending + 1;
+        self.depth = self.depth + 1;
+        self
+    }
+
+    // The state with the last one held back dropped, and its place zero.
+    fn unhold(mut self) -> OStream
+        requires { ⌜ (0 < self .npending) × (self .npending ≤ 8) × (self .npending ≤ self .depth) ⌝ }
+        ensures { λ r. ⌜ r ≡ dropped self ⌝ }
+    {
+        let last = self.npending as usize - 1;
+        self.pending[last] = 0;
+        self.npending = self.npending - 1;
+        self.depth = self.depth - 1;
+        self
+    }
+
+    // A sequence is opened, and its header held back until it has content.
+    pub fn write_sequence_begin_lazy(mut self, buf: &mut [u8], id: u32, place: usize) -> Written
+        ensures { λ r. ⌜ (r ≡ called (beginCall self (length (now (buf .entry))) id) self (now (buf .entry)) place) × (now (buf .exit) ≡ leaves (beginCall self (length (now (buf .entry))) id) self (now (buf .entry)) place) ⌝ }
+    {
+        let size = buf.len();
+        let depth = self.depth;
+        if !self.sound(size) {
+            return self.refuse(Error::UnsoundWriter);
+        }
+        if MAX_DEPTH <= depth as u32 {
+            return self.refuse(Error::Nesting);
+        }
+        if ID_MAX < id {
+            return self.refuse(Error::IdTooLarge);
+        }
+        if self.npending < 8 {
+            return self.finish(size, 0, place, self.hold(id));
+        }
+        self.write_marker(buf, tagged(id, T_SEQUENCE_START), place, depth + 1)
+    }
+
+    // The last opened sequence is closed; one that is held back vanishes.
+    pub fn write_sequence_end(mut self, buf: &mut [u8], place: usize) -> Written
+        ensures { λ r. ⌜ (r ≡ called (endCall self (length (now (buf .entry)))) self (now (buf .entry)) place) × (now (buf .exit) ≡ leaves (endCall self (length (now (buf .entry)))) self (now (buf .entry)) place) ⌝ }
+    {
+        let size = buf.len();
+        let depth = self.depth;
+        if !self.sound(size) {
+            return self.refuse(Error::UnsoundWriter);
+        }
+        if depth == 0 {
+            return self.refuse(Error::Nesting);
+        }
+        if self.npending == 0 {
+            return self.write_marker(buf, tagged(0, T_SEQUENCE_END), place, depth - 1);
+        }
+        self.finish(size, 0, place, self.unhold())
+    }
+
+    // The last opened sequence is closed, and written even where it is empty.
+    pub fn write_sequence_end_keep(mut self, buf: &mut [u8], place: usize) -> Written
+        ensures { λ r. ⌜ (r ≡ called (endKeepCall self (length (now (buf .entry)))) self (now (buf .entry)) place) × (now (buf .exit) ≡ leaves (endKeepCall self (length (now (buf .entry)))) self (now (buf .entry)) place) ⌝ }
+    {
+        let size = buf.len();
+        let depth = self.depth;
+        if !self.sound(size) {
+            return self.refuse(Error::UnsoundWriter);
+        }
+        if depth == 0 {
+            return self.refuse(Error::Nesting);
+        }
+        self.write_marker(buf, tagged(0, T_SEQUENCE_END), place, depth - 1)
     }
 }

@@ -25,7 +25,7 @@ use Rattle.ostream.specs.Stream.{at, soundStream}
 use Rattle.ostream.specs.Emission.{Test, Verdict, accepted, refusedWith, judged, refused, Call, answered, left, called, leaves, calledBy, leavesBy}
 use Rattle.ostream.specs.Buffer.{countedBy, draining, changing}
 use Rattle.ostream.proofs.Called.{Sound, is-sound, both}
-use Rattle.writes.specs.Series.{Op, callOf, Steady, outputs, Desk, Act, write, drain, change, wrote, none, counts, sending, writing, act, acts, whole}
+use Rattle.writes.specs.Series.{Able, Op, callOf, Steady, outputs, Desk, Act, write, drain, change, wrote, none, counts, sending, writing, act, acts, whole}
 
 -- ---- what is kept
 
@@ -34,7 +34,7 @@ Placed place s [] = place ≡ 0
 Placed place s (op ∷ ops) = place ≤ length (op .output s)
 
 pub record Fine (d : Desk) : Type 0 where
-  pub sound : soundStream (d .stream) (length (d .buf)) ≡ true
+  pub sound : Able (d .stream) (length (d .buf))
   pub reserved : d .reserved ≤ d .stream .offset
   pub steady : All Steady (d .ops)
   pub placed : Placed (d .place) (d .stream) (d .ops)
@@ -65,9 +65,9 @@ at-start s [] = refl
 at-start s (op ∷ ops) = omega arith
 
 -- a sound state at another position
-sound-at : (s : OStream) (size p q : ℕ) → soundStream s size ≡ true → p ≤ q → soundStream (at s p) q ≡ true
+sound-at : (s : OStream) (size p q : ℕ) → Able s size → p ≤ q → Able (at s p) q
 unfolding soundStream
-sound-at s size p q h l = let r = both (leb (s .offset) size) _ h in simp (le-leb p q l) (r .1)
+sound-at s size p q h l = let r = both (leb (s .offset) size) _ (h .0) in (simp (le-leb p q l) (r .1), h .1)
 
 module _ (d : Desk) (op : Op) (rest : List Op) (f : Fine d) (e : d .ops ≡ op ∷ rest) where
   abbrev s : OStream
@@ -89,7 +89,7 @@ module _ (d : Desk) (op : Op) (rest : List Op) (f : Fine d) (e : d .ops ≡ op �
   placed = subst (λ (ops : List Op). Placed (d .place) s ops) e (f .placed)
 
   inside : s .offset ≤ length b
-  inside = is-sound s (length b) (f .sound) .inside
+  inside = is-sound s (length b) (f .sound .0) .inside
 
   -- the bytes in the buffer, with those that a write adds
   grown : (xs : List ℕ) → drop (d .reserved) (take (s .offset) b ++ xs) ≡ drop (d .reserved) (take (s .offset) b) ++ xs
@@ -254,7 +254,7 @@ kept-sending d b o f h =
 
 drained-is : (d : Desk) → Fine d → draining (d .stream) (length (d .buf)) ≡ record { answer = Counts.Bytes (d .stream .offset); stream = at (d .stream) 0 }
 unfolding draining
-drained-is d f = simp (f .sound)
+drained-is d f = simp (f .sound .0)
 
 fit : (size o : ℕ) (drained : Bool) → pick drained (leb size o) (ltb size o) ≡ false → o ≤ size
 fit size o true h = omega (arith, leb-false size o h)
@@ -268,7 +268,7 @@ change-refused d b o drained t = simp t
 change-taken : (d : Desk) (b : List ℕ) (o : ℕ) (drained : Bool) → Fine d → pick drained (leb (length b) o) (ltb (length b) o) ≡ false
     → changing (d .stream) (length (d .buf)) (length b) o drained ≡ record { answer = Counts.Bytes (d .stream .offset); stream = at (d .stream) o }
 unfolding changing
-change-taken d b o drained f t = simp (t, f .sound)
+change-taken d b o drained f t = simp (t, f .sound .0)
 
 kept-change : (d : Desk) (b : List ℕ) (o : ℕ) (drained : Bool) → Fine d → Kept d (act (change b o drained) d)
 unfolding act changing
@@ -331,7 +331,7 @@ sends-one d l c = go (d .full) refl (none (d .ops)) (ltb 0 (d .stream .offset)) 
 
 lean-sending : (d : Desk) (b : List ℕ) → Fine d → Lean d → 1 ≤ length b → Lean (sending d (Counts.Bytes (d .stream .offset)) (at (d .stream) 0) b 0)
 lean-sending d b f l h =
-    let i : d .stream .offset ≤ length (d .buf) = is-sound (d .stream) (length (d .buf)) (f .sound) .inside in
+    let i : d .stream .offset ≤ length (d .buf) = is-sound (d .stream) (length (d .buf)) (f .sound .0) .inside in
     let n : length (drop (d .reserved) (take (d .stream .offset) (d .buf))) ≡ d .stream .offset =
             length-drop (d .reserved) (take (d .stream .offset) (d .buf)) ∙ ap (λ (x : ℕ). x - d .reserved) (length-take (d .stream .offset) (d .buf)) ∙ least (d .stream .offset) (length (d .buf)) (d .reserved) i (l .start) in
     let m : length (d .sent ++ drop (d .reserved) (take (d .stream .offset) (d .buf))) ≡ length (d .sent) + d .stream .offset = length-append (d .sent) _ ∙ ap (λ (x : ℕ). length (d .sent) + x) n in
@@ -348,7 +348,7 @@ lean-writing : (d : Desk) (ops : List Op) → Fine d → Lean d → d .ops ≡ o
 unfolding writing
 lean-writing d [] f l e = l
 lean-writing d (op ∷ rest) f l e =
-    let i : d .stream .offset ≤ length (d .buf) = is-sound (d .stream) (length (d .buf)) (f .sound) .inside in
+    let i : d .stream .offset ≤ length (d .buf) = is-sound (d .stream) (length (d .buf)) (f .sound .0) .inside in
     let n : length (put (d .buf) (d .stream .offset) (drop (d .place) (op .output (d .stream)))) ≡ length (d .buf) = length-put (d .buf) (d .stream .offset) _ i in
     by-write Lean d op rest f e
     (λ a r. record { room = omega (arith, n, l .room); start = l .start; few = l .few; filled = λ x. let w : _≡_ {A = ℕ} 0 1 = cc in absurd (omega arith) })
@@ -432,7 +432,7 @@ write-ready d (op ∷ rest) r z e =
     let o = op .output s in
     let t : Taken s (op ∷ rest) = subst (Taken s) e (r .taken) in
     let h : All Steady (op ∷ rest) = subst (All Steady) e (f .steady) in
-    let i : s .offset ≤ length (d .buf) = is-sound s (length (d .buf)) (f .sound) .inside in
+    let i : s .offset ≤ length (d .buf) = is-sound s (length (d .buf)) (f .sound .0) .inside in
     let n : length (put (d .buf) (s .offset) (drop (d .place) o)) ≡ length (d .buf) = length-put (d .buf) (s .offset) _ i in
     let pl : d .place ≤ length o = subst (λ (ops : List Op). Placed (d .place) s ops) e (f .placed) in
     let R : List ℕ = outputs (op .done s) rest in

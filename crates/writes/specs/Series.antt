@@ -14,11 +14,15 @@ use Rattle.ostream.specs.declared.Written.{Written}
 use Rattle.ostream.specs.declared.Count.{Count}
 use Rattle.ostream.specs.declared.Count.the-variants as Counts
 use Rattle.ostream.specs.declared.Counted.{Counted}
-use Rattle.ostream.specs.Stream.{at, soundStream}
+use Rattle.ostream.specs.Stream.{at, soundStream, lazyDepth}
 use Rattle.ostream.specs.Emission.{Test, Verdict, accepted, judged, Call, called, leaves}
 use Rattle.ostream.specs.Buffer.{draining, changing}
 
 -- ---- a write
+
+-- a state that a call leaves over a buffer of this length: sound, with its eight places
+abbrev pub Able : OStream → ℕ → Type 0
+Able s size = (soundStream s size ≡ true) × (length (s .pending) ≡ lazyDepth)
 
 -- what a writing call tests, puts out and leaves, from any state
 pub record Op : Type 0 where
@@ -33,7 +37,7 @@ callOf op s size = record { tests = op .tests s size; output = op .output s; don
 pub record Steady (op : Op) : Type 0 where
   pub outputs : (s : OStream) (p : ℕ) → op .output (at s p) ≡ op .output s
   pub leaves : (s : OStream) (p q : ℕ) → at (op .done (at s p)) q ≡ at (op .done s) q
-  pub sound : (s : OStream) (size p q : ℕ) → soundStream s size ≡ true → judged (op .tests s size) ≡ accepted → p ≤ q → soundStream (at (op .done s) p) q ≡ true
+  pub sound : (s : OStream) (size p q : ℕ) → Able s size → judged (op .tests s size) ≡ accepted → p ≤ q → Able (at (op .done s) p) q
 
 -- the whole output of some writes, one after another
 unfoldable pub outputs : OStream → List Op → List ℕ

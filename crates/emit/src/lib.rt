@@ -2,11 +2,13 @@
 // A call that goes on from a place skips the bytes that are out already. Every write stops at the buffer's end, so a call may emit
 // all its segments with no test between them; how much went follows from the lengths.
 ghost use mathlib.Core.Path.{_≡_};
-ghost use Prim.Native.Nat.{_+_, _-_, _≤_, min};
+ghost use Prim.Native.Nat.{_+_, _-_, _*_, _≤_, min};
 ghost use lib.ListN.{length, drop};
 use varint::varint_len;
+use varint::zigzag_encode;
 ghost use Rattle.layout.specs.Varint.{shortest};
-ghost use Rattle.layout.specs.Field.{lowBytes};
+ghost use Rattle.layout.specs.Field.{lowBytes, each};
+ghost use Rattle.layout.specs.Zigzag.{zigzag};
 ghost use Rattle.emit.specs.Put.{put, reached};
 ghost use Rattle.emit.specs.Cursor.{placed, moved};
 
@@ -143,4 +145,104 @@ impl Cursor {
     {
         self.put_bits(buf, bits, 8)
     }
+
+    // The varints of an unsigned array's elements.
+    pub fn put_varints(self, buf: &mut [u8], items: &[u64]) -> Cursor
+        requires { ⌜ self .pos ≤ length (now buf) ⌝ }
+        ensures { λ r. ⌜ (r ≡ moved self (now (buf .entry)) (each shortest (now (items .entry)))) × (now (buf .exit) ≡ placed self (now (buf .entry)) (each shortest (now (items .entry)))) ⌝ }
+    {
+        let mut cursor = self;
+        let mut i: usize = 0;
+        while i < items.len() {
+            let v = items[i];
+            cursor = cursor.put_varint(buf, v);
+            i += 1;
+        }
+        cursor
+    }
+
+    // The varints of a signed array's elements.
+    pub fn put_zigzags(self, buf: &mut [u8], items: &[i64]) -> Cursor
+        requires { ⌜ self .pos ≤ length (now buf) ⌝ }
+        ensures { λ r. ⌜ (r ≡ moved self (now (buf .entry)) (each (λ z. shortest (zigzag z)) (now (items .entry)))) × (now (buf .exit) ≡ placed self (now (buf .entry)) (each (λ z. shortest (zigzag z)) (now (items .entry)))) ⌝ }
+    {
+        let mut cursor = self;
+        let mut i: usize = 0;
+        while i < items.len() {
+            let v = items[i];
+            cursor = cursor.put_varint(buf, zigzag_encode(v));
+            i += 1;
+        }
+        cursor
+    }
+
+    // The elements of a float array of 32 bits, by their bits; those that are out already are not looked at.
+    pub fn put_fp32s(self, buf: &mut [u8], items: &[u32]) -> Cursor
+        requires { ⌜ self .pos ≤ length (now buf) ⌝ }
+        ensures { λ r. ⌜ (r ≡ moved self (now (buf .entry)) (each (lowBytes 4) (now (items .entry)))) × (now (buf .exit) ≡ placed self (now (buf .entry)) (each (lowBytes 4) (now (items .entry)))) ⌝ }
+    {
+        let pos = self.pos;
+        let skip = self.skip;
+        let mut i = least(skip / 4, items.len());
+        let mut cursor = Cursor {
+            pos,
+            skip: skip - i * 4,
+        };
+        while i < items.len() {
+            let bits = items[i];
+            cursor = cursor.put_fp32(buf, bits);
+            i += 1;
+        }
+        cursor
+    }
+
+    // The elements of a float array of 64 bits.
+    pub fn put_fp64s(self, buf: &mut [u8], items: &[u64]) -> Cursor
+        requires { ⌜ self .pos ≤ length (now buf) ⌝ }
+        ensures { λ r. ⌜ (r ≡ moved self (now (buf .entry)) (each (lowBytes 8) (now (items .entry)))) × (now (buf .exit) ≡ placed self (now (buf .entry)) (each (lowBytes 8) (now (items .entry)))) ⌝ }
+    {
+        let pos = self.pos;
+        let skip = self.skip;
+        let mut i = least(skip / 8, items.len());
+        let mut cursor = Cursor {
+            pos,
+            skip: skip - i * 8,
+        };
+        while i < items.len() {
+            let bits = items[i];
+            cursor = cursor.put_fp64(buf, bits);
+            i += 1;
+        }
+        cursor
+    }
+}
+
+// How many bytes the varints of an unsigned array's elements take.
+pub fn varints_len(items: &[u64]) -> usize
+    requires { ⌜ length (now items) ≤ 2147483647 ⌝ }
+    ensures { λ r. ⌜ (r ≡ length (each shortest (now (items .entry)))) × (r ≤ 10 * length (now (items .entry))) ⌝ }
+{
+    let mut len: usize = 0;
+    let mut i: usize = 0;
+    while i < items.len() {
+        let v = items[i];
+        len += varint_len(v);
+        i += 1;
+    }
+    len
+}
+
+// The same of a signed array's.
+pub fn zigzags_len(items: &[i64]) -> usize
+    requires { ⌜ length (now items) ≤ 2147483647 ⌝ }
+    ensures { λ r. ⌜ (r ≡ length (each (λ z. shortest (zigzag z)) (now (items .entry)))) × (r ≤ 10 * length (now (items .entry))) ⌝ }
+{
+    let mut len: usize = 0;
+    let mut i: usize = 0;
+    while i < items.len() {
+        let v = items[i];
+        len += varint_len(zigzag_encode(v));
+        i += 1;
+    }
+    len
 }

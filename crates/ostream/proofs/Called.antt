@@ -1,6 +1,6 @@
 -- The three ways that a call ends, and what a sound state is known to be.
 use mathlib.Core.Path.{_≡_, refl, sym, ap, _∙_, subst}
-use mathlib.Core.List.{List, [], _∷_, _++_}
+use mathlib.Core.List.{List, [], _∷_, _++_, append-assoc}
 use mathlib.Core.Bool.{Bool, true, false, _&&_, not}
 use Prim.Native.Nat.{ℕ, zero, suc, _+_, _-_, _≤_, _<_}
 use native.Mathlib.Omega.{arith}
@@ -114,3 +114,21 @@ tested-sound t s size e h = sym e ∙ not-false t h
 pub none-held : (s : OStream) → s .npending ≡ 0 → heldBytes s ≡ []
 unfolding heldBytes each
 none-held s e = ap (λ (n : ℕ). each (λ id. header id T-begin) (take n (s .pending))) e
+
+-- held headers, a field's header and the varint after it, and the rest
+pub grouped : (held a b c : List ℕ) → held ++ (a ++ b) ++ c ≡ held ++ (a ++ (b ++ c))
+grouped held a b c = append-assoc held (a ++ b) c ∙ ap (λ (l : List ℕ). held ++ l) (append-assoc a b c)
+
+-- two calls that come to the same
+pub recalled : (k k′ : Call) (s : OStream) (b : List ℕ) (place : ℕ) → judged (k .tests) ≡ judged (k′ .tests) → k .output ≡ k′ .output → k .done ≡ k′ .done
+    → (r : Written) (b′ : List ℕ) → (r ≡ called k s b place) × (b′ ≡ leaves k s b place) → (r ≡ called k′ s b place) × (b′ ≡ leaves k′ s b place)
+unfolding called leaves calledBy leavesBy
+recalled k k′ s b place j o d r b′ (e, f) = (e ∙ ap (λ (v : Verdict). calledBy v k s b place) j ∙ answers (judged (k′ .tests)), f ∙ ap (λ (v : Verdict). leavesBy v k s b place) j ∙ buffers (judged (k′ .tests)))
+  where
+    answers : (v : Verdict) → calledBy v k s b place ≡ calledBy v k′ s b place
+    answers accepted = ap (λ (l : List ℕ). answered s (length b) (length l) place (k .done)) o ∙ ap (λ (n : OStream). answered s (length b) (length (k′ .output)) place n) d
+    answers (refusedWith e) = refl
+
+    buffers : (v : Verdict) → leavesBy v k s b place ≡ leavesBy v k′ s b place
+    buffers accepted = ap (λ (l : List ℕ). left s b l place) o
+    buffers (refusedWith e) = refl

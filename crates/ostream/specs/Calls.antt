@@ -7,13 +7,20 @@ use lib.ListN.{length}
 use lib.IntN.{ℤ}
 use Rattle.layout.specs.Limits.{base, pick}
 use Rattle.layout.specs.Varint.{shortest}
-use Rattle.layout.specs.Field.{Field, Width, Subtype, header, word, unsigned, signed, begin, end, T-unsigned, T-signed, T-fixlen, T-begin, T-end}
+use Rattle.layout.specs.Field.{Field, Width, Raw, Subtype, header, word, float, raw, string, blob, unsigned, signed, payload, begin, end, T-fixlen}
 use Rattle.layout.specs.Copy.{fieldBytes}
+use Rattle.types.specs.declared.FixlenType.{FixlenType}
+use Rattle.types.specs.Types.{subtype}
 use Rattle.types.specs.declared.Error.{Error}
 use Rattle.types.specs.declared.Error.the-variants.{UnsoundWriter, StringSubtype, Nesting, IdTooLarge, TooLong}
 use Rattle.ostream.specs.declared.OStream.{OStream}
 use Rattle.ostream.specs.Stream.{soundStream, lazyDepth, heldBytes, committed, holding, dropped}
 use Rattle.ostream.specs.Emission.{Test, Call}
+
+abbrev pub isString : Subtype → Bool
+isString (float w) = false
+isString (raw string) = true
+isString (raw blob) = false
 
 -- ---- the refusals
 
@@ -31,6 +38,14 @@ tooDeep s = record { fails = leb (base .depth) (s .depth); error = Nesting }
 
 abbrev pub noneOpen : OStream → Test
 noneOpen s = record { fails = eqb (s .depth) 0; error = Nesting }
+
+-- "Number 7: the general fixed-length writer is given the string subtype."
+abbrev pub stringSubtype : FixlenType → Test
+stringSubtype t = record { fails = isString (subtype t); error = StringSubtype }
+
+-- "Number 10: a payload or array is longer than 2,147,483,647."
+abbrev pub payloadTooLong : ℕ → Test
+payloadTooLong n = record { fails = ltb (base .size) n; error = TooLong }
 
 -- ---- a field
 
@@ -54,6 +69,27 @@ signedCall s size id z = scalar s size id (fieldBytes (signed id z))
 
 abbrev pub booleanCall : OStream → ℕ → ℕ → Bool → Call
 booleanCall s size id b = unsignedCall s size id (pick b 1 0)
+
+-- ---- fixed-length fields
+
+-- "A float subtype is written at any data length": the bytes are given, not the float.
+unfoldable pub fixlenBytes : ℕ → Subtype → List ℕ → List ℕ
+fixlenBytes id t bytes = header id T-fixlen ++ (word (length bytes) t ++ bytes)
+
+-- `write_fixlen_raw`, and the general writer above it, which "refuses the string subtype"
+abbrev pub rawCall : OStream → ℕ → ℕ → List ℕ → FixlenType → Call
+rawCall s size id bytes t = content (unsound s size ∷ idTooLarge id ∷ payloadTooLong (length bytes) ∷ []) s (fixlenBytes id (subtype t) bytes)
+
+abbrev pub fixlenCall : OStream → ℕ → ℕ → List ℕ → FixlenType → Call
+fixlenCall s size id bytes t =
+    content (unsound s size ∷ stringSubtype t ∷ idTooLarge id ∷ payloadTooLong (length bytes) ∷ []) s (fixlenBytes id (subtype t) bytes)
+
+abbrev pub floatCall : OStream → ℕ → ℕ → Width → ℕ → Call
+floatCall s size id w bits = scalar s size id (fieldBytes (float id w bits))
+
+abbrev pub payloadCall : OStream → ℕ → ℕ → Raw → List ℕ → Call
+payloadCall s size id r bytes =
+    content (unsound s size ∷ idTooLarge id ∷ payloadTooLong (length bytes) ∷ []) s (fieldBytes (payload id r bytes))
 
 -- ---- sequences
 

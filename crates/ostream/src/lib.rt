@@ -2,9 +2,14 @@
 // one back. A call that meets the buffer's end answers "full" with how many of its bytes are out, and goes on from that place when it
 // is made again.
 use emit::Cursor;
+use event::fp32_bits;
+use event::fp64_bits;
+use types::ARRAY_MAX;
 use types::Error;
+use types::FixlenType;
 use types::ID_MAX;
 use types::MAX_DEPTH;
+use types::T_FIXLEN;
 use types::T_SEQUENCE_END;
 use types::T_SEQUENCE_START;
 use types::T_VARINT_SIGNED;
@@ -18,11 +23,15 @@ ghost use mathlib.Core.Bool.{true, false};
 ghost use lib.Dec.{leb, eqb};
 ghost use lib.ListN.{length, take, drop};
 ghost use Rattle.layout.specs.Varint.{shortest};
+ghost use lib.Ieee.{binary32, binary64, toBits};
+ghost use Rattle.types.specs.Types.{subtype};
+ghost use Rattle.layout.specs.Field.{fp32, fp64, string, blob, lowBytes};
 ghost use Rattle.layout.specs.Limits.{base, pick};
 ghost use Rattle.ostream.specs.Stream.{every, soundStream, heldBytes, headBytes, zeroed, committed, holding, dropped, opened};
 ghost use Rattle.emit.specs.Cursor.{placed, moved};
 ghost use Rattle.ostream.specs.Emission.{start, answered, left, refused, called, leaves};
 ghost use Rattle.ostream.specs.Buffer.{badBuffer, opening, draining, changing};
+ghost use Rattle.ostream.specs.Calls.{isString, rawCall, fixlenCall, floatCall, payloadCall};
 ghost use Rattle.ostream.specs.Calls.{varintCall, unsignedCall, signedCall, booleanCall, beginCall, endCall, endKeepCall};
 
 // A writer's state. `offset` is where the next byte goes; `depth` counts the open sequences; `pending` has the ids of the innermost
@@ -112,6 +121,56 @@ fn bit(b: bool) -> u64
     ensures { λ r. ⌜ r ≡ pick b 1 0 ⌝ }
 {
     if b { 1 } else { 0 }
+}
+
+// Whether a subtype is a string's.
+fn is_string(t: FixlenType) -> bool
+    ensures { λ r. ⌜ r ≡ isString (subtype t) ⌝ }
+{
+    match t {
+        FixlenType::Fp32 => false,
+        FixlenType::Fp64 => false,
+        FixlenType::Str => true,
+        FixlenType::Blob => false,
+    }
+}
+
+// The four bytes of a number, low byte first.
+fn le32(x: u32) -> [u8; 4]
+    ensures { λ r. ⌜ r ≡ lowBytes 4 x ⌝ }
+{
+    let b = x / 256;
+    let c = b / 256;
+    let d = c / 256;
+    [
+        (x % 256) as u8,
+        (b % 256) as u8,
+        (c % 256) as u8,
+        (d % 256) as u8,
+    ]
+}
+
+// The eight bytes of a number, low byte first.
+fn le64(x: u64) -> [u8; 8]
+    ensures { λ r. ⌜ r ≡ lowBytes 8 x ⌝ }
+{
+    let b = x / 256;
+    let c = b / 256;
+    let d = c / 256;
+    let e = d / 256;
+    let f = e / 256;
+    let g = f / 256;
+    let h = g / 256;
+    [
+        (x % 256) as u8,
+        (b % 256) as u8,
+        (c % 256) as u8,
+        (d % 256) as u8,
+        (e % 256) as u8,
+        (f % 256) as u8,
+        (g % 256) as u8,
+        (h % 256) as u8,
+    ]
 }
 
 // Whether a buffer of this size cannot be written from the offset on; one that is to be drained needs a byte.
@@ -400,6 +459,102 @@ impl OStream {
         ensures { λ r. ⌜ (r ≡ called (booleanCall self (length (now (buf .entry))) id value) self (now (buf .entry)) place) × (now (buf .exit) ≡ leaves (booleanCall self (length (now (buf .entry))) id value) self (now (buf .entry)) place) ⌝ }
     {
         self.write_unsigned(buf, id, bit(value), place)
+    }
+
+    // A fixed-length field: the header, the word, and the bytes as they are.
+    fn write_fixlen_raw(
+        self,
+        buf: &mut [u8],
+        id: u32,
+        bytes: &[u8],
+        subtype: FixlenType,
+        place: usize,
+    ) -> Written
+        ensures { λ r. ⌜ (r ≡ called (rawCall self (length (now (buf .entry))) id (now (bytes .entry)) subtype) self (now (buf .entry)) place) × (now (buf .exit) ≡ leaves (rawCall self (length (now (buf .entry))) id (now (bytes .entry)) subtype) self (now (buf .entry)) place) ⌝ }
+    {
+        let size = buf.len();
+        if !self.sound(size) {
+            return self.refuse(Error::UnsoundWriter);
+        }
+        if ID_MAX < id {
+            return self.refuse(Error::IdTooLarge);
+        }
+        if (ARRAY_MAX as usize) < bytes.len() {
+            return self.refuse(Error::TooLong);
+        }
+        let header = tagged(id, T_FIXLEN);
+        let word = tagged(bytes.len() as u32, subtype.raw());
+        let total = self.head_len(header, word) + bytes.len();
+        if total < place {
+            return self.refuse(Error::PlaceBeyond);
+        }
+        let head = self.put_head(buf, header, word, place);
+        head.put_bytes(buf, bytes);
+        self.complete(size, total, place, self.depth)
+    }
+
+    // The same for any subtype but a string's, which has a call of its own.
+    pub fn write_fixlen(
+        mut self,
+        buf: &mut [u8],
+        id: u32,
+        bytes: &[u8],
+        subtype: FixlenType,
+        place: usize,
+    ) -> Written
+        ensures { λ r. ⌜ (r ≡ called (fixlenCall self (length (now (buf .entry))) id (now (bytes .entry)) subtype) self (now (buf .entry)) place) × (now (buf .exit) ≡ leaves (fixlenCall self (length (now (buf .entry))) id (now (bytes .entry)) subtype) self (now (buf .entry)) place) ⌝ }
+    {
+        if !self.sound(buf.len()) {
+            return self.refuse(Error::UnsoundWriter);
+        }
+        if is_string(subtype) {
+            return self.refuse(Error::StringSubtype);
+        }
+        self.write_fixlen_raw(buf, id, bytes, subtype, place)
+    }
+
+    // A string, as its bytes.
+    pub fn write_str(mut self, buf: &mut [u8], id: u32, text: &[u8], place: usize) -> Written
+        ensures { λ r. ⌜ (r ≡ called (payloadCall self (length (now (buf .entry))) id string (now (text .entry))) self (now (buf .entry)) place) × (now (buf .exit) ≡ leaves (payloadCall self (length (now (buf .entry))) id string (now (text .entry))) self (now (buf .entry)) place) ⌝ }
+    {
+        self.write_fixlen_raw(buf, id, text, FixlenType::Str, place)
+    }
+
+    // A blob.
+    pub fn write_blob(mut self, buf: &mut [u8], id: u32, bytes: &[u8], place: usize) -> Written
+        ensures { λ r. ⌜ (r ≡ called (payloadCall self (length (now (buf .entry))) id blob (now (bytes .entry))) self (now (buf .entry)) place) × (now (buf .exit) ≡ leaves (payloadCall self (length (now (buf .entry))) id blob (now (bytes .entry))) self (now (buf .entry)) place) ⌝ }
+    {
+        self.write_fixlen_raw(buf, id, bytes, FixlenType::Blob, place)
+    }
+
+    // A float of 32 bits, by its bits.
+    pub fn write_fp32_bits(mut self, buf: &mut [u8], id: u32, bits: u32, place: usize) -> Written
+        ensures { λ r. ⌜ (r ≡ called (floatCall self (length (now (buf .entry))) id fp32 bits) self (now (buf .entry)) place) × (now (buf .exit) ≡ leaves (floatCall self (length (now (buf .entry))) id fp32 bits) self (now (buf .entry)) place) ⌝ }
+    {
+        let bytes = le32(bits);
+        self.write_fixlen_raw(buf, id, &bytes, FixlenType::Fp32, place)
+    }
+
+    // A float of 64 bits, by its bits.
+    pub fn write_fp64_bits(mut self, buf: &mut [u8], id: u32, bits: u64, place: usize) -> Written
+        ensures { λ r. ⌜ (r ≡ called (floatCall self (length (now (buf .entry))) id fp64 bits) self (now (buf .entry)) place) × (now (buf .exit) ≡ leaves (floatCall self (length (now (buf .entry))) id fp64 bits) self (now (buf .entry)) place) ⌝ }
+    {
+        let bytes = le64(bits);
+        self.write_fixlen_raw(buf, id, &bytes, FixlenType::Fp64, place)
+    }
+
+    // A float; a NaN's bits are 0x7fc0_0000.
+    pub fn write_fp32(mut self, buf: &mut [u8], id: u32, value: f32, place: usize) -> Written
+        ensures { λ r. ⌜ (r ≡ called (floatCall self (length (now (buf .entry))) id fp32 (toBits binary32 value)) self (now (buf .entry)) place) × (now (buf .exit) ≡ leaves (floatCall self (length (now (buf .entry))) id fp32 (toBits binary32 value)) self (now (buf .entry)) place) ⌝ }
+    {
+        self.write_fp32_bits(buf, id, fp32_bits(value), place)
+    }
+
+    // A float; a NaN's bits are 0x7ff8_0000_0000_0000.
+    pub fn write_fp64(mut self, buf: &mut [u8], id: u32, value: f64, place: usize) -> Written
+        ensures { λ r. ⌜ (r ≡ called (floatCall self (length (now (buf .entry))) id fp64 (toBits binary64 value)) self (now (buf .entry)) place) × (now (buf .exit) ≡ leaves (floatCall self (length (now (buf .entry))) id fp64 (toBits binary64 value)) self (now (buf .entry)) place) ⌝ }
+    {
+        self.write_fp64_bits(buf, id, fp64_bits(value), place)
     }
 
     // The held headers and one more.

@@ -29,7 +29,7 @@ use Rattle.writes.specs.Series.{Able, Op, callOf, Steady, outputs, Desk,
 
 -- ---- what is kept
 
-abbrev Placed : ℕ → OStream → List Op → Type 0
+abbrev pub Placed : ℕ → OStream → List Op → Type 0
 Placed place s [] = place ≡ 0
 Placed place s (op ∷ ops) = place ≤ length (op .output s)
 
@@ -51,7 +51,7 @@ outputs-at s p [] h = refl
 outputs-at s p (op ∷ ops) h =
     ap (λ (l : List ℕ). l ++ outputs (op .done (at s p)) ops) (h .0 .outputs s p)
     ∙ ap (λ (l : List ℕ). op .output s ++ l)
-      (sym (outputs-at (op .done (at s p)) 0 ops (h .1)) ∙ ap (λ (s : OStream). outputs s ops) (h .0 .leaves s p 0) ∙ outputs-at (op .done s) 0 ops (h .1))
+    (sym (outputs-at (op .done (at s p)) 0 ops (h .1)) ∙ ap (λ (s : OStream). outputs s ops) (h .0 .leaves s p 0) ∙ outputs-at (op .done s) 0 ops (h .1))
 
 -- ---- a write
 
@@ -60,7 +60,7 @@ below : (b : List ℕ) (p : ℕ) (xs : List ℕ) → p ≤ length b → take (p 
 below b p xs h = ap (take (p + length (take (length b - p) xs))) (put-is b p xs) ∙ take-over b p (take (length b - p) xs) h
 
 -- a place in the next write
-at-start : (s : OStream) (ops : List Op) → Placed 0 s ops
+pub at-start : (s : OStream) (ops : List Op) → Placed 0 s ops
 at-start s [] = refl
 at-start s (op ∷ ops) = omega arith
 
@@ -129,9 +129,9 @@ module _ (d : Desk) (op : Op) (rest : List Op) (f : Fine d) (e : d .ops ≡ op �
       let n : length X ≡ length o - d .place = length-drop (d .place) o in
       let c : take (length b - s .offset) X ≡ X = take-all (length b - s .offset) X (omega (arith, n)) in
       let w : take (s .offset + (length o - d .place)) (put b (s .offset) X) ≡ take (s .offset) b ++ X =
-              ap (λ (m : ℕ). take (s .offset + m) (put b (s .offset) X)) (sym n)
-              ∙ ap (λ (l : List ℕ). take (s .offset + length l) (put b (s .offset) X)) (sym c)
-              ∙ below b (s .offset) X inside ∙ ap (λ (l : List ℕ). take (s .offset) b ++ l) c in
+      ap (λ (m : ℕ). take (s .offset + m) (put b (s .offset) X)) (sym n)
+      ∙ ap (λ (l : List ℕ). take (s .offset + length l) (put b (s .offset) X)) (sym c)
+      ∙ below b (s .offset) X inside ∙ ap (λ (l : List ℕ). take (s .offset) b ++ l) c in
       let l : length (put b (s .offset) X) ≡ length b = length-put b (s .offset) X inside in
       let R : List ℕ = outputs (op .done s) rest in
       record {
@@ -164,8 +164,8 @@ module _ (d : Desk) (op : Op) (rest : List Op) (f : Fine d) (e : d .ops ≡ op �
       let l : length (put b (s .offset) X) ≡ length b = length-put b (s .offset) X inside in
       let R : List ℕ = outputs (op .done s) rest in
       let q : drop (d .place + room) (outputs (at s (length b)) (d .ops)) ≡ drop room X ++ R =
-              ap (drop (d .place + room)) (outputs-at s (length b) (d .ops) (f .steady) ∙ outputs-first)
-              ∙ sym (drop-drop room (d .place) (o ++ R)) ∙ ap (drop room) (drop-append-le (d .place) o R placed) ∙ drop-append-le room X R (omega (arith, n)) in
+      ap (drop (d .place + room)) (outputs-at s (length b) (d .ops) (f .steady) ∙ outputs-first)
+      ∙ sym (drop-drop room (d .place) (o ++ R)) ∙ ap (drop room) (drop-append-le (d .place) o R placed) ∙ drop-append-le room X R (omega (arith, n)) in
       record {
         fine =
             record {
@@ -196,9 +196,9 @@ refuses d op x a = ap (λ (v : Verdict). calledBy v (callOf op (d .stream) (leng
 -- a write, by its answer
 by-write : (P : Desk → Type 0) (d : Desk) (op : Op) (rest : List Op) (f : Fine d) (e : d .ops ≡ op ∷ rest)
     → (judged (op .tests (d .stream) (length (d .buf))) ≡ accepted → length (op .output (d .stream)) - d .place ≤ length (d .buf) - d .stream .offset
-      → P (wrote d rest Done (at (op .done (d .stream)) (d .stream .offset + (length (op .output (d .stream)) - d .place))) (put (d .buf) (d .stream .offset) (drop (d .place) (op .output (d .stream))))))
+    → P (wrote d rest Done (at (op .done (d .stream)) (d .stream .offset + (length (op .output (d .stream)) - d .place))) (put (d .buf) (d .stream .offset) (drop (d .place) (op .output (d .stream))))))
     → (judged (op .tests (d .stream) (length (d .buf))) ≡ accepted → length (d .buf) - d .stream .offset < length (op .output (d .stream)) - d .place
-      → P (wrote d rest (Full (d .place + (length (d .buf) - d .stream .offset))) (at (d .stream) (length (d .buf))) (put (d .buf) (d .stream .offset) (drop (d .place) (op .output (d .stream))))))
+    → P (wrote d rest (Full (d .place + (length (d .buf) - d .stream .offset))) (at (d .stream) (length (d .buf))) (put (d .buf) (d .stream .offset) (drop (d .place) (op .output (d .stream))))))
     → ((x : Error) → judged (op .tests (d .stream) (length (d .buf))) ≡ refusedWith x → P d)
     → P (writing d (op ∷ rest))
 unfolding writing
@@ -307,7 +307,7 @@ all-sent as′ d f e =
 -- ---- how many drains
 
 -- every buffer lent has a byte and starts at 0
-abbrev Plain : Act → Type 0
+abbrev pub Plain : Act → Type 0
 Plain write = Unit {0}
 Plain drain = Unit {0}
 Plain (change b o drained) = (1 ≤ length b) × (o ≡ 0)
@@ -333,7 +333,7 @@ lean-sending : (d : Desk) (b : List ℕ) → Fine d → Lean d → 1 ≤ length 
 lean-sending d b f l h =
     let i : d .stream .offset ≤ length (d .buf) = is-sound (d .stream) (length (d .buf)) (f .sound .0) .inside in
     let n : length (drop (d .reserved) (take (d .stream .offset) (d .buf))) ≡ d .stream .offset =
-            length-drop (d .reserved) (take (d .stream .offset) (d .buf)) ∙ ap (λ (x : ℕ). x - d .reserved) (length-take (d .stream .offset) (d .buf)) ∙ least (d .stream .offset) (length (d .buf)) (d .reserved) i (l .start) in
+    length-drop (d .reserved) (take (d .stream .offset) (d .buf)) ∙ ap (λ (x : ℕ). x - d .reserved) (length-take (d .stream .offset) (d .buf)) ∙ least (d .stream .offset) (length (d .buf)) (d .reserved) i (l .start) in
     let m : length (d .sent ++ drop (d .reserved) (take (d .stream .offset) (d .buf))) ≡ length (d .sent) + d .stream .offset = length-append (d .sent) _ ∙ ap (λ (x : ℕ). length (d .sent) + x) n in
     record { room = h; start = refl; few = go (counts d) refl m; filled = λ e. let w : _≡_ {A = ℕ} 0 1 = cc in absurd (omega arith) }
   where
@@ -388,10 +388,11 @@ Taken s (op ∷ ops) = ((p size : ℕ) → p ≤ size → judged (op .tests (at 
 -- two states that differ in their position alone
 taken-same : (x y : OStream) (ops : List Op) → All Steady ops → ((q : ℕ) → at x q ≡ at y q) → Taken x ops → Taken y ops
 taken-same x y [] h e t = tt
-taken-same x y (op ∷ ops) h e t =
-    (λ p size l. subst (λ (s : OStream). judged (op .tests s size) ≡ accepted) (e p) (t .0 p size l),
-    taken-same (op .done x) (op .done y) ops (h .1)
-    (λ q. sym (h .0 .leaves x 0 q) ∙ ap (λ (s : OStream). at (op .done s) q) (e 0) ∙ h .0 .leaves y 0 q) (t .1))
+taken-same x y (op ∷ ops) h e t = (
+  λ p size l. subst (λ (s : OStream). judged (op .tests s size) ≡ accepted) (e p) (t .0 p size l),
+  taken-same (op .done x) (op .done y) ops (h .1)
+      (λ q. sym (h .0 .leaves x 0 q) ∙ ap (λ (s : OStream). at (op .done s) q) (e 0) ∙ h .0 .leaves y 0 q) (t .1),
+)
 
 -- write and drain in turn
 unfoldable pub turns : ℕ → List Act
@@ -415,8 +416,11 @@ drained-desk d f = ap (λ (r : Counted). sending d (r .answer) (r .stream) (d .b
 drain-ready : (d : Desk) → Ready d → Ready (act drain d) × (toDo (act drain d) ≡ toDo d) × (act drain d .stream .offset ≡ 0)
 drain-ready d r =
     subst (λ (x : Desk). Fine x → Ready x × (toDo x ≡ toDo d) × (x .stream .offset ≡ 0)) (sym (drained-desk d (r .fine)))
-    (λ f. (record { fine = f; room = r .room; taken = taken-same (d .stream) (at (d .stream) 0) (d .ops) (r .fine .steady) (λ q. refl) (r .taken) },
-    ap (λ (l : List ℕ). length (drop (d .place) l) + length (d .ops)) (outputs-at (d .stream) 0 (d .ops) (r .fine .steady)), refl))
+    (λ f. (
+      record { fine = f; room = r .room; taken = taken-same (d .stream) (at (d .stream) 0) (d .ops) (r .fine .steady) (λ q. refl) (r .taken) },
+      ap (λ (l : List ℕ). length (drop (d .place) l) + length (d .ops)) (outputs-at (d .stream) 0 (d .ops) (r .fine .steady)),
+      refl,
+    ))
     (keeps drain d (r .fine) .fine)
 
 -- a write from the buffer's start leaves less to do
@@ -437,30 +441,33 @@ write-ready d (op ∷ rest) r z e =
     let pl : d .place ≤ length o = subst (λ (ops : List Op). Placed (d .place) s ops) e (f .placed) in
     let R : List ℕ = outputs (op .done s) rest in
     let m : toDo d ≡ length o - d .place + length R + suc (length rest) =
-            ap (λ (ops : List Op). length (drop (d .place) (outputs s ops)) + length ops) e
-            ∙ ap (λ (x : ℕ). x + suc (length rest)) (length-drop (d .place) (o ++ R) ∙ ap (λ (x : ℕ). x - d .place) (length-append o R) ∙ apart (length o) (length R) (d .place) pl) in
+    ap (λ (ops : List Op). length (drop (d .place) (outputs s ops)) + length ops) e
+    ∙ ap (λ (x : ℕ). x + suc (length rest)) (length-drop (d .place) (o ++ R) ∙ ap (λ (x : ℕ). x - d .place) (length-append o R) ∙ apart (length o) (length R) (d .place) pl) in
     by-write (λ (x : Desk). Ready x × (toDo x ≤ toDo d - 1)) d op rest f e
-    (λ a g.
-      (record {
+    (λ a g. (
+      record {
         fine = kept-all d op rest f e a g .fine;
         room = omega (arith, n, r .room);
         taken = taken-same (op .done s) (at (op .done s) (s .offset + (length o - d .place))) rest (h .1) (λ q. refl) (t .1);
       },
-      omega (arith, m, ap length (outputs-at (op .done s) (s .offset + (length o - d .place)) rest (h .1)))))
-    (λ a g.
-      (record {
+      omega (arith, m, ap length (outputs-at (op .done s) (s .offset + (length o - d .place)) rest (h .1))),
+    ))
+    (λ a g. (
+      record {
         fine = kept-part d op rest f e a g .fine;
         room = omega (arith, n, r .room);
         taken = taken-same s (at s (length (d .buf))) (d .ops) (f .steady) (λ q. refl) (r .taken);
       },
-      omega
-      (arith,
-      m,
-      r .room,
-      ap length e,
-      length-drop (d .place + (length (d .buf) - s .offset)) (outputs (at s (length (d .buf))) (d .ops)),
-      ap length (outputs-at s (length (d .buf)) (d .ops) (f .steady) ∙ ap (outputs s) e),
-      length-append o R)))
+      omega (
+        arith,
+        m,
+        r .room,
+        ap length e,
+        length-drop (d .place + (length (d .buf) - s .offset)) (outputs (at s (length (d .buf))) (d .ops)),
+        ap length (outputs-at s (length (d .buf)) (d .ops) (f .steady) ∙ ap (outputs s) e),
+        length-append o R,
+      ),
+    ))
     (λ x a. absurd (never x (sym (subst (λ (q : OStream). judged (op .tests q (length (d .buf))) ≡ accepted) refl (t .0 (s .offset) (length (d .buf)) i)) ∙ a)))
   where
     apart : (x y z : ℕ) → z ≤ x → x + y - z ≡ x - z + y

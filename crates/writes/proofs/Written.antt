@@ -8,7 +8,7 @@ use mathlib.Core.Bool.{Bool, true, false, not, _&&_}
 use mathlib.Core.List.{List, [], _∷_, _++_, append-assoc, append-nil}
 use lib.Dec.{ltb, leb, eqb}
 use borrow.Author.Tests.{ltb-true, ltb-false, leb-true, leb-false, eqb-true, eqb-false, lt-ltb, le-ltb, le-leb, lt-leb, eq-eqb, ne-eqb}
-use lib.ListN.{length, take, drop, set, replicate, length-append, length-set, length-replicate, length-drop, length-take}
+use lib.ListN.{length, take, drop, set, replicate, length-append, length-set, length-replicate, length-drop, length-take, drop-of-length-le}
 use lib.Seq.{take-suc-set, drop-set-lt, take-set-le, set-split, drop-at, length-take-le}
 use Rattle.layout.specs.Limits.{base, pick}
 use Rattle.layout.specs.Message.{All}
@@ -22,8 +22,8 @@ use Rattle.ostream.specs.Calls.{unsound, idTooLarge, tooDeep, noneOpen}
 use Rattle.ostream.proofs.Called.{Sound, is-sound, both}
 use Rattle.ostream.proofs.Places.{length-zeroed}
 use Rattle.writes.specs.Series.{Able, Op, Steady, outputs, Desk, Act, acts, act, drain, whole}
-use Rattle.writes.specs.Written.{Item, field, fixlen, itemBytes, Write, puts, opens, closes, keeps, opens?, front, written, opOf, op, opsOf}
-use Rattle.writes.proofs.Runs.{Fine, all-sent}
+use Rattle.writes.specs.Written.{Item, field, fixlen, itemBytes, Write, puts, opens, closes, keeps, begins, front, written, opOf, op, opsOf}
+use Rattle.writes.proofs.Runs.{Placed, at-start, Fine, all-sent, Plain, Lean, few-drains}
 
 -- ---- tests that pass
 
@@ -60,17 +60,18 @@ none-legal = refl
 committed-able : (s : OStream) (size d p q : ℕ) → Able s size → d ≤ base .depth → p ≤ q → Able (at (committed s d) p) q
 unfolding committed
 committed-able s size d p q a h l =
-    let f = is-sound s size (a .0) in
-    (make-sound (at (committed s d) p) q
-    (record {
-      inside = l;
-      few = omega arith;
-      nested = omega arith;
-      shallow = h;
-      legal = none-legal;
-      zeros = every-append (λ x. eqb x 0) (replicate (s .npending) 0) (drop (s .npending) (s .pending)) (every-zeros (s .npending)) (f .zeros);
-    }),
-    length-zeroed (s .pending) (s .npending) (omega (arith, f .few, a .1)) ∙ a .1)
+    let f = is-sound s size (a .0) in (
+      make-sound (at (committed s d) p) q
+          (record {
+            inside = l;
+            few = omega arith;
+            nested = omega arith;
+            shallow = h;
+            legal = none-legal;
+            zeros = every-append (λ x. eqb x 0) (replicate (s .npending) 0) (drop (s .npending) (s .pending)) (every-zeros (s .npending)) (f .zeros);
+          }),
+      length-zeroed (s .pending) (s .npending) (omega (arith, f .few, a .1)) ∙ a .1,
+    )
 
 one-legal : (id : ℕ) → id ≤ base .id → every (λ x. leb x (base .id)) (id ∷ []) ≡ true
 unfolding every
@@ -101,19 +102,20 @@ holding-able s size id p q a n h i l =
     let f = is-sound s size (a .0) in
     let k : s .npending < length (s .pending) = omega (arith, a .1) in
     let t : take (s .npending + 1) (set (s .pending) (s .npending) id) ≡ take (s .npending) (s .pending) ++ (id ∷ []) =
-            ap (λ (m : ℕ). take m (set (s .pending) (s .npending) id)) (add-one (s .npending)) ∙ take-suc-set (s .pending) (s .npending) id k in
+    ap (λ (m : ℕ). take m (set (s .pending) (s .npending) id)) (add-one (s .npending)) ∙ take-suc-set (s .pending) (s .npending) id k in
     let u : drop (s .npending + 1) (set (s .pending) (s .npending) id) ≡ drop (suc (s .npending)) (s .pending) =
-            ap (λ (m : ℕ). drop m (set (s .pending) (s .npending) id)) (add-one (s .npending)) ∙ drop-set-lt (suc (s .npending)) (s .pending) (s .npending) id (omega arith) in
-    (make-sound (at (holding s id) p) q
-    (record {
-      inside = l;
-      few = omega arith;
-      nested = omega (arith, f .nested);
-      shallow = omega arith;
-      legal = ap (every (λ x. leb x (base .id))) t ∙ every-append (λ x. leb x (base .id)) (take (s .npending) (s .pending)) (id ∷ []) (f .legal) (one-legal id i);
-      zeros = ap (every (λ x. eqb x 0)) u ∙ every-less (λ x. eqb x 0) (s .pending) (s .npending) k (f .zeros);
-    }),
-    length-set (s .pending) (s .npending) id ∙ a .1)
+    ap (λ (m : ℕ). drop m (set (s .pending) (s .npending) id)) (add-one (s .npending)) ∙ drop-set-lt (suc (s .npending)) (s .pending) (s .npending) id (omega arith) in (
+      make-sound (at (holding s id) p) q
+          (record {
+            inside = l;
+            few = omega arith;
+            nested = omega (arith, f .nested);
+            shallow = omega arith;
+            legal = ap (every (λ x. leb x (base .id))) t ∙ every-append (λ x. leb x (base .id)) (take (s .npending) (s .pending)) (id ∷ []) (f .legal) (one-legal id i);
+            zeros = ap (every (λ x. eqb x 0)) u ∙ every-less (λ x. eqb x 0) (s .pending) (s .npending) k (f .zeros);
+          }),
+      length-set (s .pending) (s .npending) id ∙ a .1,
+    )
 
 -- a state with one fewer held
 dropped-able : (s : OStream) (size p q : ℕ) → Able s size → 0 < s .npending → p ≤ q → Able (at (dropped s) p) q
@@ -124,19 +126,20 @@ dropped-able s size p q a n l =
     let k : s .npending - 1 < length (s .pending) = omega (arith, a .1, f .few) in
     let t : take (s .npending - 1) (set (s .pending) (s .npending - 1) 0) ≡ take (s .npending - 1) (s .pending) = take-set-le (s .npending - 1) (s .pending) (s .npending - 1) 0 (omega arith) in
     let u : drop (s .npending - 1) (set (s .pending) (s .npending - 1) 0) ≡ 0 ∷ drop (s .npending) (s .pending) =
-            ap (drop (s .npending - 1)) (set-split (s .pending) (s .npending - 1) 0 k)
-            ∙ drop-at (take (s .npending - 1) (s .pending)) _ (s .npending - 1) (length-take-le (s .npending - 1) (s .pending) (omega arith))
-            ∙ ap (λ (j : ℕ). 0 ∷ drop j (s .pending)) m in
-    (make-sound (at (dropped s) p) q
-    (record {
-      inside = l;
-      few = omega (arith, f .few);
-      nested = omega (arith, f .nested);
-      shallow = omega (arith, f .shallow);
-      legal = ap (every (λ x. leb x (base .id))) t ∙ every-fewer (λ x. leb x (base .id)) (s .pending) (s .npending) (s .npending - 1) (omega arith) (f .legal);
-      zeros = ap (every (λ x. eqb x 0)) u ∙ more-zeros (drop (s .npending) (s .pending)) (f .zeros);
-    }),
-    length-set (s .pending) (s .npending - 1) 0 ∙ a .1)
+    ap (drop (s .npending - 1)) (set-split (s .pending) (s .npending - 1) 0 k)
+    ∙ drop-at (take (s .npending - 1) (s .pending)) _ (s .npending - 1) (length-take-le (s .npending - 1) (s .pending) (omega arith))
+    ∙ ap (λ (j : ℕ). 0 ∷ drop j (s .pending)) m in (
+      make-sound (at (dropped s) p) q
+          (record {
+            inside = l;
+            few = omega (arith, f .few);
+            nested = omega (arith, f .nested);
+            shallow = omega (arith, f .shallow);
+            legal = ap (every (λ x. leb x (base .id))) t ∙ every-fewer (λ x. leb x (base .id)) (s .pending) (s .npending) (s .npending - 1) (omega arith) (f .legal);
+            zeros = ap (every (λ x. eqb x 0)) u ∙ more-zeros (drop (s .npending) (s .pending)) (f .zeros);
+          }),
+      length-set (s .pending) (s .npending - 1) 0 ∙ a .1,
+    )
 
 -- ---- each write is steady
 
@@ -222,18 +225,18 @@ each-append f (x ∷ xs) ys = ap (λ (l : List ℕ). f x ++ l) (each-append f xs
 abbrev held : OStream → List ℕ
 held s = take (s .npending) (s .pending)
 
-held-items : (ids : List ℕ) → each itemBytes (opens? ids) ≡ each (λ id. header id T-begin) ids
+held-items : (ids : List ℕ) → each itemBytes (begins ids) ≡ each (λ id. header id T-begin) ids
 unfolding each fieldBytes
 held-items [] = refl
 held-items (id ∷ ids) = ap (λ (l : List ℕ). header id T-begin ++ l) (held-items ids)
 
 -- held headers, an item, and what follows
-after-held : (s : OStream) (x : Item) (rest : List Item) → (heldBytes s ++ itemBytes x) ++ each itemBytes rest ≡ each itemBytes (opens? (held s) ++ (x ∷ rest))
+after-held : (s : OStream) (x : Item) (rest : List Item) → (heldBytes s ++ itemBytes x) ++ each itemBytes rest ≡ each itemBytes (begins (held s) ++ (x ∷ rest))
 unfolding heldBytes each
 after-held s x rest =
     append-assoc (heldBytes s) (itemBytes x) (each itemBytes rest)
     ∙ ap (λ (l : List ℕ). l ++ (itemBytes x ++ each itemBytes rest)) (sym (held-items (held s)))
-    ∙ sym (each-append itemBytes (opens? (held s)) (x ∷ rest))
+    ∙ sym (each-append itemBytes (begins (held s)) (x ∷ rest))
 
 -- eight places, of which at most eight are used
 abbrev Eight : OStream → Type 0
@@ -291,7 +294,7 @@ some-held (x ∷ xs) ws h = refl
 
 -- after content, nothing is held
 content-written : (s : OStream) (d : ℕ) (x : Item) (ws : List Write) → outputs (committed s d) (opsOf ws) ≡ each itemBytes (written [] ws)
-    → (heldBytes s ++ itemBytes x) ++ outputs (committed s d) (opsOf ws) ≡ each itemBytes (opens? (held s) ++ (x ∷ written [] ws))
+    → (heldBytes s ++ itemBytes x) ++ outputs (committed s d) (opsOf ws) ≡ each itemBytes (begins (held s) ++ (x ∷ written [] ws))
 content-written s d x ws ih = ap (λ (l : List ℕ). (heldBytes s ++ itemBytes x) ++ l) ih ∙ after-held s x (written [] ws)
 
 -- an open: held where there is room, else written
@@ -299,29 +302,29 @@ open-written : (s : OStream) (id : ℕ) (ws : List Write) → Eight s
     → (s .npending < lazyDepth → outputs (holding s id) (opsOf ws) ≡ each itemBytes (written (held (holding s id)) ws))
     → outputs (committed s (s .depth + 1)) (opsOf ws) ≡ each itemBytes (written [] ws)
     → pick (ltb (s .npending) lazyDepth) [] (heldBytes s ++ fieldBytes (begin id)) ++ outputs (pick (ltb (s .npending) lazyDepth) (holding s id) (committed s (s .depth + 1))) (opsOf ws)
-      ≡ each itemBytes (written (held s) (opens id ∷ ws))
+    ≡ each itemBytes (written (held s) (opens id ∷ ws))
 unfolding written
 open-written s id ws h more full = go (ltb (s .npending) lazyDepth) refl
   where
     go : (t : Bool) → ltb (s .npending) lazyDepth ≡ t
         → pick t [] (heldBytes s ++ fieldBytes (begin id)) ++ outputs (pick t (holding s id) (committed s (s .depth + 1))) (opsOf ws)
-          ≡ each itemBytes (elim (ltb (length (held s)) lazyDepth) [ true ↦ written (held s ++ (id ∷ [])) ws | false ↦ opens? (held s) ++ (field (begin id) ∷ written [] ws) ])
+        ≡ each itemBytes (elim (ltb (length (held s)) lazyDepth) [ true ↦ written (held s ++ (id ∷ [])) ws | false ↦ begins (held s) ++ (field (begin id) ∷ written [] ws) ])
     go true e =
         let n : s .npending < lazyDepth = ltb-true _ _ e in
         let t : ltb (length (held s)) lazyDepth ≡ true = ap (λ (m : ℕ). ltb m lazyDepth) (held-length s h) ∙ e in
         more n ∙ ap (λ (l : List ℕ). each itemBytes (written l ws)) (held-holding s id h n)
-        ∙ ap (λ (b : Bool). each itemBytes (elim b as (λ x. List Item) [ true ↦ written (held s ++ (id ∷ [])) ws | false ↦ opens? (held s) ++ (field (begin id) ∷ written [] ws) ])) (sym t)
+        ∙ ap (λ (b : Bool). each itemBytes (elim b as (λ x. List Item) [ true ↦ written (held s ++ (id ∷ [])) ws | false ↦ begins (held s) ++ (field (begin id) ∷ written [] ws) ])) (sym t)
     go false e =
         let t : ltb (length (held s)) lazyDepth ≡ false = ap (λ (m : ℕ). ltb m lazyDepth) (held-length s h) ∙ e in
         content-written s (s .depth + 1) (field (begin id)) ws full
-        ∙ ap (λ (b : Bool). each itemBytes (elim b as (λ x. List Item) [ true ↦ written (held s ++ (id ∷ [])) ws | false ↦ opens? (held s) ++ (field (begin id) ∷ written [] ws) ])) (sym t)
+        ∙ ap (λ (b : Bool). each itemBytes (elim b as (λ x. List Item) [ true ↦ written (held s ++ (id ∷ [])) ws | false ↦ begins (held s) ++ (field (begin id) ∷ written [] ws) ])) (sym t)
 
 -- a plain close: written where none is held, else one is dropped
 close-written : (s : OStream) (ws : List Write) → Eight s
     → (0 < s .npending → outputs (dropped s) (opsOf ws) ≡ each itemBytes (written (held (dropped s)) ws))
     → outputs (committed s (s .depth - 1)) (opsOf ws) ≡ each itemBytes (written [] ws)
     → pick (eqb (s .npending) 0) (fieldBytes (end 0)) [] ++ outputs (pick (eqb (s .npending) 0) (committed s (s .depth - 1)) (dropped s)) (opsOf ws)
-      ≡ each itemBytes (written (held s) (closes ∷ ws))
+    ≡ each itemBytes (written (held s) (closes ∷ ws))
 close-written s ws h fewer none = go (eqb (s .npending) 0) refl
   where
     go : (t : Bool) → eqb (s .npending) 0 ≡ t
@@ -343,3 +346,40 @@ outputs-written s (closes ∷ ws) h =
     close-written s ws h (λ n. outputs-written (dropped s) ws (eight-dropped s h))
     (outputs-written (committed s (s .depth - 1)) ws (eight-committed s (s .depth - 1) h) ∙ no-held s (s .depth - 1) ws)
 outputs-written s (keeps ∷ ws) h = content-written s (s .depth - 1) (field (end 0)) ws (outputs-written (committed s (s .depth - 1)) ws (eight-committed s (s .depth - 1) h) ∙ no-held s (s .depth - 1) ws)
+
+-- ---- from the start
+
+-- a fresh writer over a buffer, its first o bytes reserved
+abbrev pub freshDesk : List ℕ → ℕ → List Write → Desk
+freshDesk b o ws = record { stream = opened o; buf = b; reserved = o; sent = []; ops = opsOf ws; place = 0; full = false; drains = 0 }
+
+pub fresh-able : (o size : ℕ) → o ≤ size → Able (opened o) size
+unfolding opened every
+fresh-able o size h = (make-sound (opened o) size (record { inside = h; few = omega arith; nested = omega arith; shallow = omega arith; legal = refl; zeros = refl }), refl)
+
+start-placed : (o : ℕ) (ws : List Write) → Placed 0 (opened o) (opsOf ws)
+start-placed o ws = at-start (opened o) (opsOf ws)
+
+pub fresh-fine : (b : List ℕ) (o : ℕ) (ws : List Write) → o ≤ length b → Fine (freshDesk b o ws)
+unfolding opened
+fresh-fine b o ws h = record { sound = fresh-able o (length b) h; reserved = omega arith; steady = steady ws; placed = start-placed o ws }
+
+fresh-whole : (b : List ℕ) (o : ℕ) (ws : List Write) → whole (freshDesk b o ws) ≡ each itemBytes (written [] ws)
+unfolding whole opened
+fresh-whole b o ws =
+    let y : length (take o b) ≤ o = omega (arith, length-take o b) in
+    ap (λ (l : List ℕ). l ++ outputs (opened o) (opsOf ws)) (drop-of-length-le (take o b) y) ∙ outputs-written (opened o) ws (refl, omega arith)
+
+-- For every list of writes, every buffer with any bytes reserved at its start, and every series of calls, drains and buffer changes after
+-- which no write is left: the bytes sent, less the reserved ones, are the items written, by the rule for held sequences.
+pub writes-sent : (b : List ℕ) (o : ℕ) (ws : List Write) (as′ : List Act) → o ≤ length b → acts as′ (freshDesk b o ws) .ops ≡ []
+    → act drain (acts as′ (freshDesk b o ws)) .sent ≡ each itemBytes (written [] ws)
+writes-sent b o ws as′ h e = all-sent as′ (freshDesk b o ws) (fresh-fine b o ws h) e ∙ fresh-whole b o ws
+
+-- From offset 0, over buffers of any lengths from 1 that start at 0: no more drains than bytes.
+pub writes-drains : (b : List ℕ) (ws : List Write) (as′ : List Act) → 1 ≤ length b → All Plain as′ → acts as′ (freshDesk b 0 ws) .ops ≡ []
+    → act drain (acts as′ (freshDesk b 0 ws)) .drains ≤ length (each itemBytes (written [] ws))
+writes-drains b ws as′ h p e =
+    subst (λ (l : List ℕ). act drain (acts as′ (freshDesk b 0 ws)) .drains ≤ length l) (fresh-whole b 0 ws)
+    (few-drains as′ (freshDesk b 0 ws) (fresh-fine b 0 ws (omega arith))
+    (record { room = h; start = refl; few = omega arith; filled = λ x. let w : _≡_ {A = ℕ} 0 1 = cc in absurd (omega arith) }) p e)

@@ -1,17 +1,16 @@
 -- What a list of writes comes to, by 01's rule for held sequences: "An opened sequence is held back until content or a keeping close
 -- comes. Up to eight are held, outermost first; a ninth open writes all eight and itself. A plain close of a held one drops it."
-use Prim.Native.Nat.{ℕ, zero, suc}
+use Prim.Native.Nat.{ℕ}
 use mathlib.Core.Bool.{true, false}
 use mathlib.Core.List.{List, [], _∷_, _++_}
-use lib.Dec.{ltb}
+use lib.Dec.{ltb, leb}
 use lib.ListN.{length}
-use Rattle.layout.specs.Limits.{pick}
-use Rattle.layout.specs.Field.{Field, Subtype, header, word, each, begin, end, T-fixlen}
+use Rattle.layout.specs.Field.{Field, Subtype, begin, end}
 use Rattle.layout.specs.Copy.{fieldBytes}
 use Rattle.ostream.specs.declared.OStream.{OStream}
-use Rattle.ostream.specs.Stream.{lazyDepth, heldBytes, committed}
+use Rattle.ostream.specs.Stream.{lazyDepth}
 use Rattle.ostream.specs.Emission.{Test, Call}
-use Rattle.ostream.specs.Calls.{unsound, content, beginCall, endCall, endKeepCall}
+use Rattle.ostream.specs.Calls.{unsound, content, fixlenBytes, beginCall, endCall, endKeepCall}
 use Rattle.writes.specs.Series.{Op}
 
 -- what stands in a message: a field of the layout, or what the general fixed-length writer was given, at any length
@@ -21,7 +20,7 @@ pub data Item : Type 0 where
 
 abbrev pub itemBytes : Item → List ℕ
 itemBytes (field x) = fieldBytes x
-itemBytes (fixlen id s bs) = header id T-fixlen ++ (word (length bs) s ++ bs)
+itemBytes (fixlen id s bs) = fixlenBytes id s bs
 
 -- a write: content, with what its call tests besides the state; an open, a plain close, a keeping close
 pub data Write : Type 0 where
@@ -29,9 +28,9 @@ pub data Write : Type 0 where
   opens : (id : ℕ) → Write
   closes keeps : Write
 
-abbrev pub opens? : List ℕ → List Item
-opens? [] = []
-opens? (id ∷ ids) = field (begin id) ∷ opens? ids
+abbrev pub begins : List ℕ → List Item
+begins [] = []
+begins (id ∷ ids) = field (begin id) ∷ begins ids
 
 -- all but the last
 abbrev pub front : List ℕ → List ℕ
@@ -42,11 +41,11 @@ front (x ∷ y ∷ ys) = x ∷ front (y ∷ ys)
 -- what is written, where these ids are held
 unfoldable pub written : List ℕ → List Write → List Item
 written held [] = []
-written held (puts ts x ∷ ws) = opens? held ++ (x ∷ written [] ws)
-written held (opens id ∷ ws) = elim (ltb (length held) lazyDepth) [ true ↦ written (held ++ (id ∷ [])) ws | false ↦ opens? held ++ (field (begin id) ∷ written [] ws) ]
+written held (puts ts x ∷ ws) = begins held ++ (x ∷ written [] ws)
+written held (opens id ∷ ws) = elim (ltb (length held) lazyDepth) [ true ↦ written (held ++ (id ∷ [])) ws | false ↦ begins held ++ (field (begin id) ∷ written [] ws) ]
 written [] (closes ∷ ws) = field (end 0) ∷ written [] ws
 written (x ∷ xs) (closes ∷ ws) = written (front (x ∷ xs)) ws
-written held (keeps ∷ ws) = opens? held ++ (field (end 0) ∷ written [] ws)
+written held (keeps ∷ ws) = begins held ++ (field (end 0) ∷ written [] ws)
 
 -- the calls of the writer, as operations
 abbrev pub opOf : (OStream → ℕ → Call) → Op

@@ -1,0 +1,2 @@
+-- `Steps` says what each way out of the code's functions is in the machine.
+pub mod Steps

@@ -201,7 +201,7 @@ pub bytes-8 : (w : FloatType) → bytesOf (width w) ≤ 8
 bytes-8 Floats.Fp32 = lit≤ tt
 bytes-8 Floats.Fp64 = lit≤ tt
 
-pow256 : (k : ℕ) → 256 ^ k ≡ 2 ^ (k * 8)
+pub pow256 : (k : ℕ) → 256 ^ k ≡ 2 ^ (k * 8)
 pow256 zero = refl
 pow256 (suc k) = pow-suc 256 k ∙ ap (λ (x : ℕ). x * 256) (pow256 k) ∙ sym (pow-add 2 (k * 8) 8) ∙ ap (λ (x : ℕ). 2 ^ x) (sym (suc-mul k 8))
 

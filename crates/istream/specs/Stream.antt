@@ -15,6 +15,10 @@ use Rattle.machine.specs.Call.{State, reading, owing, broke, Called, call, verd
 use Rattle.machine.specs.Call as calls
 use Rattle.types.specs.declared.Error.the-variants.{UnsoundReader, InvalidMsg}
 use Rattle.types.specs.Types.{width, floatType, rawSort, rawType}
+use Rattle.types.specs.declared.RawType.{RawType}
+use Rattle.types.specs.declared.RawType.the-variants as Raws
+use Rattle.event.specs.declared.Event.{Event}
+use Rattle.event.specs.declared.Event.the-variants.{Str, Blob}
 use Rattle.varint.specs.declared.Acc.{Acc}
 use Rattle.varint.specs.Varint.{soundAcc}
 use Rattle.event.specs.Event.{declared}
@@ -85,15 +89,15 @@ countIn n = leb n (base .count)
 
 abbrev pub soundPhase : Phase → Bool
 soundPhase (Header a) = soundAcc a
-soundPhase (Unsigned id left a) = idIn id && countIn left && soundAcc a
-soundPhase (Signed id left a) = idIn id && countIn left && soundAcc a
+soundPhase (Unsigned id left a) = idIn id && (countIn left && soundAcc a)
+soundPhase (Signed id left a) = idIn id && (countIn left && soundAcc a)
 soundPhase (Word id a) = idIn id && soundAcc a
 soundPhase (UnsignedCount id a) = idIn id && soundAcc a
 soundPhase (SignedCount id a) = idIn id && soundAcc a
 soundPhase (FloatCount id a) = idIn id && soundAcc a
-soundPhase (ArrayWord id count a) = idIn id && countIn count && soundAcc a
-soundPhase (Float id w left k v) = idIn id && countIn left && ltb k (bytesOf (width w)) && ltb v (256 ^ k)
-soundPhase (Payload id r total o) = idIn id && leb total (base .size) && ltb o total
+soundPhase (ArrayWord id count a) = idIn id && (countIn count && soundAcc a)
+soundPhase (Float id w left k v) = idIn id && (countIn left && (ltb k (bytesOf (width w)) && ltb v (256 ^ k)))
+soundPhase (Payload id r total o) = idIn id && (leb total (base .size) && ltb o total)
 soundPhase (Empty id r) = idIn id
 soundPhase Broken = true
 
@@ -107,6 +111,12 @@ abbrev pub stepped : machine.Stepped → Stepped
 stepped (on [] d p) = On (streamAt d p)
 stepped (on (e ∷ es) d p) = Raised (declared 0 e) (streamIn (raisedState d p es))
 stepped bad = Bad
+
+-- a byte in a state that reads on
+abbrev pub stepOn : State → ℕ → machine.Stepped
+stepOn (reading d p) b = machine.step base d p b
+stepOn (owing d id r) b = bad
+stepOn broke b = bad
 
 -- ---- a call
 
@@ -138,6 +148,16 @@ answerIn n calls.invalid = Answers.Refused InvalidMsg
 
 unfoldable pub fedIn : Called → Fed
 fedIn c = record { read = c .read; answer = answerIn (c .read) (c .answer); stream = streamIn (c .state) }
+
+-- a piece of n bytes, which begins at the chunk's first
+abbrev pub pieceIn : ℕ → RawType → ℕ → ℕ → ℕ → Event
+pieceIn id r total o n = elim r [ Raws.Str ↦ Str id (record { total = total; offset = o; from = 0; to = n }) | Raws.Blob ↦ Blob id (record { total = total; offset = o; from = 0; to = n }) ]
+
+-- where a byte leaves a call that has read n: at an event, broken, or at the chunk's end
+abbrev pub stopped : ℕ → Stepped → Fed
+stopped n (On s) = record { read = n; answer = Answers.Status (statusOf s); stream = s }
+stopped n (Raised e s) = record { read = n; answer = Answers.Event e; stream = s }
+stopped n Bad = record { read = n; answer = Answers.Refused InvalidMsg; stream = streamIn broke }
 
 -- "Number 1: the reader state isn't sound; nothing is read and the state returns unaltered."
 abbrev pub checked : IStream → List ℕ → Fed

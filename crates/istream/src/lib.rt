@@ -2,16 +2,18 @@
 // A call reads on to the next event and stops there, or gives the verdict once the chunk is spent. No byte is copied or held: a piece of
 // a payload is its bounds in the chunk.
 ghost use mathlib.Core.Path.{_≡_};
-ghost use mathlib.Core.Bool.{true};
+ghost use mathlib.Core.Bool.{_&&_};
 ghost use Prim.Native.Nat.{_+_, _-_, _^_, _<_, _≤_};
 ghost use Rattle.layout.specs.Limits.{base};
 ghost use Rattle.layout.specs.Field.{bytesOf, wireOf, subtypeOf, T-begin, T-end, known, float, raw};
 ghost use Rattle.layout.specs.Event.{Float};
-ghost use Rattle.machine.specs.Machine.{inHeader, inUnsigned, inSigned, inWord, inUnsignedCount, inSignedCount, inFloatCount, inArrayWord, inFloat, firstOr, idle, atWire, atSubtype, atElement, step};
+ghost use Rattle.machine.specs.Machine.{inHeader, inUnsigned, inSigned, inWord, inUnsignedCount, inSignedCount, inFloatCount, inArrayWord, inFloat, inPayload, firstOr, idle, atWire, atSubtype, atElement, step};
+ghost use Rattle.machine.specs.Call.{reading, fresh, call};
 ghost use Rattle.event.specs.Event.{declared};
 ghost use Rattle.types.specs.Types.{width, rawSort};
-ghost use Rattle.varint.specs.Varint.{Sound};
-ghost use Rattle.istream.specs.Stream.{phaseIn, stepped};
+ghost use Rattle.varint.specs.Varint.{Sound, soundAcc};
+ghost use Rattle.istream.specs.Stream.{stateOf, phaseIn, streamIn, idIn, countIn, soundPhase, soundStream, stepped, stepOn, statusOf, stopped, pieceIn, fedIn, fedOf};
+ghost use Rattle.istream.specs.Sound.{AtBytes};
 use event::Bounds;
 use event::Event;
 use event::fp32;
@@ -487,5 +489,247 @@ fn float(depth: u8, id: u32, w: FloatType, left: u32, k: u8, v: u64, b: u8) -> S
                 depth,
             },
         )
+    }
+}
+
+// Whether a varint under way can be so: its id, the elements left and its bytes.
+fn sound_varint(id: u32, left: u32, a: Acc) -> bool
+    ensures { λ r. ⌜ r ≡ (idIn id && (countIn left && soundAcc a)) ⌝ }
+{
+    if ID_MAX < id {
+        return false;
+    }
+    if ARRAY_MAX < left {
+        return false;
+    }
+    a.sound()
+}
+
+fn sound_float(id: u32, w: FloatType, left: u32, k: u8, v: u64) -> bool
+    ensures { λ r. ⌜ r ≡ soundPhase (Phase.Float id w left k v) ⌝ }
+{
+    if ID_MAX < id {
+        return false;
+    }
+    if ARRAY_MAX < left {
+        return false;
+    }
+    let width = w.bytes();
+    if width <= k {
+        return false;
+    }
+    v >> (k * 8) == 0
+}
+
+fn sound_payload(id: u32, r: RawType, total: u32, offset: u32) -> bool
+    ensures { λ s. ⌜ s ≡ soundPhase (Phase.Payload id r total offset) ⌝ }
+{
+    if ID_MAX < id {
+        return false;
+    }
+    if ARRAY_MAX < total {
+        return false;
+    }
+    offset < total
+}
+
+// One byte, in a phase that is read byte by byte.
+fn step(stream: IStream, b: u8) -> Stepped
+    requires { ⌜ AtBytes (stateOf stream) ⌝ }
+    ensures { λ r. ⌜ r ≡ stepped (stepOn (stateOf stream) b) ⌝ }
+{
+    let phase = stream.phase;
+    let depth = stream.depth;
+    match phase {
+        Phase::Header(a) => header(depth, a, b),
+        Phase::Unsigned(id, left, a) => unsigned(depth, id, left, a, b),
+        Phase::Signed(id, left, a) => signed(depth, id, left, a, b),
+        Phase::Word(id, a) => word(depth, id, a, b),
+        Phase::UnsignedCount(id, a) => unsigned_count(depth, id, a, b),
+        Phase::SignedCount(id, a) => signed_count(depth, id, a, b),
+        Phase::FloatCount(id, a) => float_count(depth, id, a, b),
+        Phase::ArrayWord(id, count, a) => array_word(depth, id, count, a, b),
+        Phase::Float(id, w, left, k, v) => float(depth, id, w, left, k, v, b),
+        Phase::Payload(_, _, _, _) => Stepped::Bad,
+        Phase::Empty(_, _) => Stepped::Bad,
+        Phase::Broken => Stepped::Bad,
+    }
+}
+
+// Where a byte leaves a call that has read n.
+fn stop(n: usize, s: Stepped) -> Fed
+    ensures { λ r. ⌜ r ≡ stopped n s ⌝ }
+{
+    match s {
+        Stepped::On(stream) => Fed {
+            read: n,
+            answer: Answer::Status(stream.status()),
+            stream,
+        },
+        Stepped::Raised(event, stream) => Fed {
+            read: n,
+            answer: Answer::Event(event),
+            stream,
+        },
+        Stepped::Bad => Fed {
+            read: n,
+            answer: Answer::Refused(Error::InvalidMsg),
+            stream: IStream {
+                phase: Phase::Broken,
+                depth: 0,
+            },
+        },
+    }
+}
+
+// Reads on byte by byte.
+fn scan(stream: IStream, chunk: &[u8]) -> Fed
+    requires { ⌜ AtBytes (stateOf stream) ⌝ }
+    ensures { λ r. ⌜ r ≡ fedIn (call base (stateOf stream) (now (chunk .entry))) ⌝ }
+{
+    let mut at = stream;
+    let mut n: usize = 0;
+    while n < chunk.len() {
+        let s = step(at, chunk[n]);
+        n += 1;
+        let Stepped::On(next) = s else {
+            return stop(n, s);
+        };
+        at = next;
+    }
+    stop(n, Stepped::On(at))
+}
+
+// A piece of a payload, which begins at the chunk's first byte.
+fn piece(id: u32, r: RawType, total: u32, offset: u32, len: usize) -> Event
+    ensures { λ e. ⌜ e ≡ pieceIn id r total offset len ⌝ }
+{
+    let bounds = Bounds {
+        total,
+        offset,
+        from: 0,
+        to: len,
+    };
+    match r {
+        RawType::Str => Event::Str(id, bounds),
+        RawType::Blob => Event::Blob(id, bounds),
+    }
+}
+
+// A payload's bytes in one piece, as many as the chunk has.
+fn payload(depth: u8, id: u32, r: RawType, total: u32, offset: u32, chunk: &[u8]) -> Fed
+    requires { ⌜ offset < total ⌝ }
+    ensures { λ f. ⌜ f ≡ fedIn (call base (reading depth (inPayload id (rawSort r) total offset)) (now (chunk .entry))) ⌝ }
+{
+    let len = chunk.len();
+    let owed = (total - offset) as usize;
+    if len == 0 {
+        return stop(
+            0,
+            Stepped::On(IStream {
+                phase: Phase::Payload(id, r, total, offset),
+                depth,
+            }),
+        );
+    }
+    if len < owed {
+        return Fed {
+            read: len,
+            answer: Answer::Event(piece(id, r, total, offset, len)),
+            stream: IStream {
+                phase: Phase::Payload(id, r, total, offset + (len as u32)),
+                depth,
+            },
+        };
+    }
+    Fed {
+        read: owed,
+        answer: Answer::Event(piece(id, r, total, offset, owed)),
+        stream: IStream {
+            phase: idle(),
+            depth,
+        },
+    }
+}
+
+impl IStream {
+    pub fn new() -> IStream
+        ensures { λ r. ⌜ r ≡ streamIn fresh ⌝ }
+    {
+        IStream {
+            phase: idle(),
+            depth: 0,
+        }
+    }
+
+    // The verdict so far.
+    pub fn status(self) -> Status
+        ensures { λ r. ⌜ r ≡ statusOf self ⌝ }
+    {
+        let phase = self.phase;
+        let depth = self.depth;
+        let Phase::Header(a) = phase else {
+            return Status::Incomplete;
+        };
+        let taken = a.taken;
+        if taken == 0 {
+            if depth == 0 {
+                return Status::Complete;
+            }
+        }
+        Status::Incomplete
+    }
+
+    // Whether a reader can be in this state. Only numbers in force are tested; a depth beyond 255 has no place in its byte.
+    pub fn sound(self) -> bool
+        ensures { λ r. ⌜ r ≡ soundStream self ⌝ }
+    {
+        let phase = self.phase;
+        match phase {
+            Phase::Header(a) => a.sound(),
+            Phase::Unsigned(id, left, a) => sound_varint(id, left, a),
+            Phase::Signed(id, left, a) => sound_varint(id, left, a),
+            Phase::Word(id, a) => sound_varint(id, 0, a),
+            Phase::UnsignedCount(id, a) => sound_varint(id, 0, a),
+            Phase::SignedCount(id, a) => sound_varint(id, 0, a),
+            Phase::FloatCount(id, a) => sound_varint(id, 0, a),
+            Phase::ArrayWord(id, count, a) => sound_varint(id, count, a),
+            Phase::Float(id, w, left, k, v) => sound_float(id, w, left, k, v),
+            Phase::Payload(id, r, total, offset) => sound_payload(id, r, total, offset),
+            Phase::Empty(id, _) => id <= ID_MAX,
+            Phase::Broken => true,
+        }
+    }
+
+    // Reads on to the next event, or to the chunk's end and the verdict.
+    pub fn feed(self, chunk: &[u8]) -> Fed
+        ensures { λ r. ⌜ r ≡ fedOf self (now (chunk .entry)) ⌝ }
+    {
+        let phase = self.phase;
+        let depth = self.depth;
+        if !self.sound() {
+            return Fed {
+                read: 0,
+                answer: Answer::Refused(Error::UnsoundReader),
+                stream: self,
+            };
+        }
+        match phase {
+            Phase::Payload(id, r, total, offset) => payload(depth, id, r, total, offset, chunk),
+            Phase::Empty(id, r) => Fed {
+                read: 0,
+                answer: Answer::Event(piece(id, r, 0, 0, 0)),
+                stream: IStream {
+                    phase: idle(),
+                    depth,
+                },
+            },
+            Phase::Broken => Fed {
+                read: 0,
+                answer: Answer::Refused(Error::InvalidMsg),
+                stream: self,
+            },
+            _ => scan(self, chunk),
+        }
     }
 }

@@ -436,10 +436,12 @@ fn float_count(depth: u8, id: u32, a: Acc, b: u8) -> Stepped
     if (ARRAY_MAX as u64) < v {
         return Stepped::Bad;
     }
-    Stepped::On(IStream {
-        phase: Phase::ArrayWord(id, v as u32, Acc { value: 0, taken: 0 }),
+    let count = v as u32;
+    let word = IStream {
+        phase: Phase::ArrayWord(id, count, Acc { value: 0, taken: 0 }),
         depth,
-    })
+    };
+    Stepped::On(word)
 }
 
 fn array_word(depth: u8, id: u32, count: u32, a: Acc, b: u8) -> Stepped
@@ -591,11 +593,12 @@ fn scan(stream: IStream, chunk: &[u8]) -> Fed
     let mut n: usize = 0;
     while n < chunk.len() {
         let s = step(at, chunk[n]);
-        n += 1;
+        let read = n + 1;
         let Stepped::On(next) = s else {
-            return stop(n, s);
+            return stop(read, s);
         };
         at = next;
+        n = read;
     }
     stop(n, Stepped::On(at))
 }

@@ -7,7 +7,7 @@ use lib.ListN.{length}
 use lib.IntN.{ℤ}
 use Rattle.layout.specs.Limits.{base, pick}
 use Rattle.layout.specs.Varint.{shortest}
-use Rattle.layout.specs.Field.{Field, Width, Raw, Subtype, header, word, float, raw, string, blob, unsigned, signed, payload, begin, end, T-fixlen}
+use Rattle.layout.specs.Field.{Field, Width, Raw, Subtype, header, word, float, raw, string, blob, unsigned, signed, payload, unsignedArray, signedArray, floatArray, begin, end, T-fixlen}
 use Rattle.layout.specs.Copy.{fieldBytes}
 use Rattle.types.specs.declared.FixlenType.{FixlenType}
 use Rattle.types.specs.Types.{subtype}
@@ -46,6 +46,9 @@ stringSubtype t = record { fails = isString (subtype t); error = StringSubtype }
 -- "Number 10: a payload or array is longer than 2,147,483,647."
 abbrev pub payloadTooLong : ℕ → Test
 payloadTooLong n = record { fails = ltb (base .size) n; error = TooLong }
+
+abbrev pub arrayTooLong : ℕ → Test
+arrayTooLong n = record { fails = ltb (base .count) n; error = TooLong }
 
 -- ---- a field
 
@@ -90,6 +93,20 @@ floatCall s size id w bits = scalar s size id (fieldBytes (float id w bits))
 abbrev pub payloadCall : OStream → ℕ → ℕ → Raw → List ℕ → Call
 payloadCall s size id r bytes =
     content (unsound s size ∷ idTooLarge id ∷ payloadTooLong (length bytes) ∷ []) s (fieldBytes (payload id r bytes))
+
+-- ---- arrays
+
+abbrev pub arrayCall : OStream → ℕ → ℕ → ℕ → List ℕ → Call
+arrayCall s size id count bytes = content (unsound s size ∷ idTooLarge id ∷ arrayTooLong count ∷ []) s bytes
+
+abbrev pub unsignedArrayCall : OStream → ℕ → ℕ → List ℕ → Call
+unsignedArrayCall s size id ns = arrayCall s size id (length ns) (fieldBytes (unsignedArray id ns))
+
+abbrev pub signedArrayCall : OStream → ℕ → ℕ → List ℤ → Call
+signedArrayCall s size id zs = arrayCall s size id (length zs) (fieldBytes (signedArray id zs))
+
+abbrev pub floatArrayCall : OStream → ℕ → ℕ → Width → List ℕ → Call
+floatArrayCall s size id w xs = arrayCall s size id (length xs) (fieldBytes (floatArray id w xs))
 
 -- ---- sequences
 

@@ -2,6 +2,8 @@
 // one back. A call that meets the buffer's end answers "full" with how many of its bytes are out, and goes on from that place when it
 // is made again.
 use emit::Cursor;
+use emit::varints_len;
+use emit::zigzags_len;
 use event::fp32_bits;
 use event::fp64_bits;
 use types::ARRAY_MAX;
@@ -10,10 +12,13 @@ use types::FixlenType;
 use types::ID_MAX;
 use types::MAX_DEPTH;
 use types::T_FIXLEN;
+use types::T_FIXLENARRAY;
 use types::T_SEQUENCE_END;
 use types::T_SEQUENCE_START;
 use types::T_VARINT_SIGNED;
 use types::T_VARINT_UNSIGNED;
+use types::T_VARINTARRAY_SIGNED;
+use types::T_VARINTARRAY_UNSIGNED;
 use varint::varint_len;
 use varint::zigzag_encode;
 ghost use mathlib.Core.Path.{_≡_};
@@ -31,7 +36,7 @@ ghost use Rattle.ostream.specs.Stream.{every, soundStream, heldBytes, he
 ghost use Rattle.emit.specs.Cursor.{placed, moved};
 ghost use Rattle.ostream.specs.Emission.{start, answered, left, refused, called, leaves};
 ghost use Rattle.ostream.specs.Buffer.{badBuffer, opening, draining, changing};
-ghost use Rattle.ostream.specs.Calls.{isString, rawCall, fixlenCall, floatCall, payloadCall};
+ghost use Rattle.ostream.specs.Calls.{isString, rawCall, fixlenCall, floatCall, payloadCall, unsignedArrayCall, signedArrayCall, floatArrayCall};
 ghost use Rattle.ostream.specs.Calls.{varintCall, unsignedCall, signedCall, booleanCall, beginCall, endCall, endKeepCall};
 
 // A writer's state. `offset` is where the next byte goes; `depth` counts the open sequences; `pending` has the ids of the innermost
@@ -555,6 +560,132 @@ impl OStream {
         ensures { λ r. ⌜ (r ≡ called (floatCall self (length (now (buf .entry))) id fp64 (toBits binary64 value)) self (now (buf .entry)) place) × (now (buf .exit) ≡ leaves (floatCall self (length (now (buf .entry))) id fp64 (toBits binary64 value)) self (now (buf .entry)) place) ⌝ }
     {
         self.write_fp64_bits(buf, id, fp64_bits(value), place)
+    }
+
+    // An array of unsigned integers.
+    pub fn write_array_unsigned(
+        mut self,
+        buf: &mut [u8],
+        id: u32,
+        items: &[u64],
+        place: usize,
+    ) -> Written
+        ensures { λ r. ⌜ (r ≡ called (unsignedArrayCall self (length (now (buf .entry))) id (now (items .entry))) self (now (buf .entry)) place) × (now (buf .exit) ≡ leaves (unsignedArrayCall self (length (now (buf .entry))) id (now (items .entry))) self (now (buf .entry)) place) ⌝ }
+    {
+        let size = buf.len();
+        if !self.sound(size) {
+            return self.refuse(Error::UnsoundWriter);
+        }
+        if ID_MAX < id {
+            return self.refuse(Error::IdTooLarge);
+        }
+        if (ARRAY_MAX as usize) < items.len() {
+            return self.refuse(Error::TooLong);
+        }
+        let header = tagged(id, T_VARINTARRAY_UNSIGNED);
+        let count = items.len() as u64;
+        let total = self.head_len(header, count) + varints_len(items);
+        if total < place {
+            return self.refuse(Error::PlaceBeyond);
+        }
+        let head = self.put_head(buf, header, count, place);
+        head.put_varints(buf, items);
+        self.complete(size, total, place, self.depth)
+    }
+
+    // An array of signed integers.
+    pub fn write_array_signed(
+        mut self,
+        buf: &mut [u8],
+        id: u32,
+        items: &[i64],
+        place: usize,
+    ) -> Written
+        ensures { λ r. ⌜ (r ≡ called (signedArrayCall self (length (now (buf .entry))) id (now (items .entry))) self (now (buf .entry)) place) × (now (buf .exit) ≡ leaves (signedArrayCall self (length (now (buf .entry))) id (now (items .entry))) self (now (buf .entry)) place) ⌝ }
+    {
+        let size = buf.len();
+        if !self.sound(size) {
+            return self.refuse(Error::UnsoundWriter);
+        }
+        if ID_MAX < id {
+            return self.refuse(Error::IdTooLarge);
+        }
+        if (ARRAY_MAX as usize) < items.len() {
+            return self.refuse(Error::TooLong);
+        }
+        let header = tagged(id, T_VARINTARRAY_SIGNED);
+        let count = items.len() as u64;
+        let total = self.head_len(header, count) + zigzags_len(items);
+        if total < place {
+            return self.refuse(Error::PlaceBeyond);
+        }
+        let head = self.put_head(buf, header, count, place);
+        head.put_zigzags(buf, items);
+        self.complete(size, total, place, self.depth)
+    }
+
+    // An array of floats of 32 bits, by their bits. The word stands even where the array is empty.
+    pub fn write_array_fp32_bits(
+        mut self,
+        buf: &mut [u8],
+        id: u32,
+        items: &[u32],
+        place: usize,
+    ) -> Written
+        ensures { λ r. ⌜ (r ≡ called (floatArrayCall self (length (now (buf .entry))) id fp32 (now (items .entry))) self (now (buf .entry)) place) × (now (buf .exit) ≡ leaves (floatArrayCall self (length (now (buf .entry))) id fp32 (now (items .entry))) self (now (buf .entry)) place) ⌝ }
+    {
+        let size = buf.len();
+        if !self.sound(size) {
+            return self.refuse(Error::UnsoundWriter);
+        }
+        if ID_MAX < id {
+            return self.refuse(Error::IdTooLarge);
+        }
+        if (ARRAY_MAX as usize) < items.len() {
+            return self.refuse(Error::TooLong);
+        }
+        let header = tagged(id, T_FIXLENARRAY);
+        let count = items.len() as u64;
+        let total = self.head_len(header, count) + (1 + items.len() * 4);
+        if total < place {
+            return self.refuse(Error::PlaceBeyond);
+        }
+        let head = self.put_head(buf, header, count, place);
+        let word = head.put_varint(buf, tagged(4, 0));
+        word.put_fp32s(buf, items);
+        self.complete(size, total, place, self.depth)
+    }
+
+    // An array of floats of 64 bits, by their bits.
+    pub fn write_array_fp64_bits(
+        mut self,
+        buf: &mut [u8],
+        id: u32,
+        items: &[u64],
+        place: usize,
+    ) -> Written
+        ensures { λ r. ⌜ (r ≡ called (floatArrayCall self (length (now (buf .entry))) id fp64 (now (items .entry))) self (now (buf .entry)) place) × (now (buf .exit) ≡ leaves (floatArrayCall self (length (now (buf .entry))) id fp64 (now (items .entry))) self (now (buf .entry)) place) ⌝ }
+    {
+        let size = buf.len();
+        if !self.sound(size) {
+            return self.refuse(Error::UnsoundWriter);
+        }
+        if ID_MAX < id {
+            return self.refuse(Error::IdTooLarge);
+        }
+        if (ARRAY_MAX as usize) < items.len() {
+            return self.refuse(Error::TooLong);
+        }
+        let header = tagged(id, T_FIXLENARRAY);
+        let count = items.len() as u64;
+        let total = self.head_len(header, count) + (1 + items.len() * 8);
+        if total < place {
+            return self.refuse(Error::PlaceBeyond);
+        }
+        let head = self.put_head(buf, header, count, place);
+        let word = head.put_varint(buf, tagged(8, 1));
+        word.put_fp64s(buf, items);
+        self.complete(size, total, place, self.depth)
     }
 
     // The held headers and one more.

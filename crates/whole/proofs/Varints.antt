@@ -149,3 +149,7 @@ skipping-end {t} {at} {i} s h = record { same = λ d. ap (ends d) (s .same ∙ o
 -- a varint of one byte, and a header
 pub one-reaches : (t : List ℕ) (at : ℕ) → at < length t → getD t at 0 < 128 → Reaches t at (varint base (drop at t)) (Founds.Value (getD t at 0) (at + 1))
 one-reaches t at h l = record { same = one t at h l; past = (omega arith, omega arith) }
+
+-- an element of one byte
+pub one-passes : (t : List ℕ) (at : ℕ) → at < length t → getD t at 0 < 128 → Passes t at (λ d. ends d (varint base (drop at t))) (Lands.At (at + 1))
+one-passes t at h l = skipping-ends (skipping-start t at (omega arith)) h (omega arith) l

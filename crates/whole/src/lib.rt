@@ -141,6 +141,19 @@ fn skip_at(t: &[u8], at: usize) -> Land
     Land::Short
 }
 
+// Most elements are one byte.
+fn element_at(t: &[u8], at: usize) -> Land
+    requires { ⌜ at ≤ length (now t) ⌝ }
+    ensures { λ r. ⌜ Passes (now (t .entry)) at (λ d. ends d (varint base (drop at (now (t .entry))))) r ⌝ }
+{
+    if at < t.len() {
+        if t[at] < 128 {
+            return Land::At(at + 1);
+        }
+    }
+    skip_at(t, at)
+}
+
 fn skip_varints(t: &[u8], at: usize, n: u64) -> Land
     requires { ⌜ at ≤ length (now t) ⌝ }
     ensures { λ r. ⌜ Passes (now (t .entry)) at (λ d. skips base d n (drop at (now (t .entry)))) r ⌝ }
@@ -148,7 +161,7 @@ fn skip_varints(t: &[u8], at: usize, n: u64) -> Land
     let mut i = at;
     let mut left = n;
     while 0 < left {
-        let land = skip_at(t, i);
+        let land = element_at(t, i);
         let Land::At(j) = land else {
             return land;
         };

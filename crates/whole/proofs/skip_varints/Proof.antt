@@ -14,8 +14,8 @@ abbrev μ-loop : tie.MeasureT-loop
 loop-holds : tie.Need-loop-holds Inv-loop μ-loop
 loop-holds c = skipped-start _ _ _ (c .before .pre)
 
-skip-at-requires : tie.Need-skip-at-requires Inv-loop μ-loop
-skip-at-requires c κs = c .before .loop .inv .to
+element-at-requires : tie.Need-element-at-requires Inv-loop μ-loop
+element-at-requires c κs = c .before .loop .inv .to
 
 enum-known-land : tie.Need-enum-known-land Inv-loop μ-loop
 enum-known-land c = search needs
@@ -23,7 +23,7 @@ enum-known-land c = search needs
 returns : tie.Need-returns Inv-loop μ-loop
 returns c =
     let l = c .before .before in
-    skipped-else (l .before .loop .inv) (l .loop-test .taken) _ (c .before .skip-at .ensures) (c .match .keys2)
+    skipped-else (l .before .loop .inv) (l .loop-test .taken) _ (c .before .element-at .ensures) (c .match .keys2)
 
 sub-left : tie.Need-sub-left Inv-loop μ-loop
 sub-left c = search needs
@@ -34,7 +34,7 @@ loop-less c = search needs
 loop-again : tie.Need-loop-again Inv-loop μ-loop
 loop-again c =
     let l = c .before .before .before .before in
-    skipped-next (l .before .loop .inv) (l .loop-test .taken) _ (c .before .before .before .skip-at .ensures) _ (c .before .land .given .1)
+    skipped-next (l .before .loop .inv) (l .loop-test .taken) _ (c .before .before .before .element-at .ensures) _ (c .before .land .given .1)
 
 returns-2 : tie.Need-returns-2 Inv-loop μ-loop
 returns-2 c = skipped-end (c .before .loop .inv) (c .loop-test .left)
@@ -46,7 +46,7 @@ skip-varints-spec =
     Inv-loop
     μ-loop
     loop-holds
-    skip-at-requires
+    element-at-requires
     enum-known-land
     returns
     sub-left

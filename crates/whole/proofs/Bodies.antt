@@ -1,23 +1,21 @@
 -- What follows a header, by where it ends: a part whose value becomes a field ends where the part does; n bytes are one jump, and so are
 -- n floats.
-use Prim.Native.Nat.{ℕ, zero, suc, _+_, _-_, _*_, _/_, _%_, _^_, _≤_, _<_}
-use mathlib.Core.Path.{_≡_, refl, sym, ap, _∙_, subst}
+use Prim.Native.Nat.{ℕ, zero, suc, _+_, _*_, _^_, _≤_, _<_}
+use mathlib.Core.Path.{_≡_, refl, sym, ap, _∙_}
 use mathlib.Core.Bool.{Bool, true, false}
 use mathlib.Core.List.{List, [], _∷_}
 use native.Mathlib.Omega.{arith}
-use lib.Dec.{leb, ltb, eqb}
+use lib.Dec.{leb}
 use lib.ListN.{length, drop, length-drop}
 use lib.Seq.{drop-drop}
 use borrow.Author.Tests.{leb-true, leb-false, le-leb, lt-leb}
-use Rattle.layout.specs.Limits.{Limits, base, pick}
+use Rattle.layout.specs.Limits.{base, pick}
 use Rattle.layout.specs.Varint.{Outcome, whole, short, broken, varint}
 use Rattle.layout.specs.Event.{Event}
-use Rattle.layout.specs.Reading.{Reading, quiet, raise, given, follow, becoming, lowFrom}
-use Rattle.layout.specs.Field.{Raw, Field, Width, bytesOf}
-use Rattle.layout.specs.Message.{scalar, elements, payloadFrom, payloadOf, depthAfter, signedVarint, unzigzagged}
-use Rattle.whole.specs.declared.Land.{Land}
-use Rattle.whole.specs.declared.Land.the-variants as Lands
-use Rattle.whole.specs.Whole.{Passes, landIn, landPast, ends, deep, onward, skips, jumped}
+use Rattle.layout.specs.Reading.{Reading, raise, given, follow, becoming, lowFrom}
+use Rattle.layout.specs.Field.{Raw, Field}
+use Rattle.layout.specs.Message.{scalar, elements, payloadFrom, payloadOf, depthAfter}
+use Rattle.whole.specs.Whole.{ends, deep, onward, skips}
 
 -- ---- values that become fields which keep the depth
 

@@ -1,6 +1,7 @@
--- What the `else` of a `let .. else` knows is a tag: one of the other answers, which is no value and no place. And where readings end.
+-- What is known of an answer that was taken apart: in the `else` of a `let .. else` only a tag, one of the other answers, which is no value
+-- and no place; else the value, which may be tested. And varints in a row.
 use Prim.Native.Nat.{ℕ, zero, suc, _+_, _-_, _/_, _≤_, _<_}
-use mathlib.Core.Path.{_≡_, refl, sym, ap, _∙_, subst}
+use mathlib.Core.Path.{_≡_, refl, ap, _∙_, subst}
 use mathlib.Core.Bool.{Bool, true, false}
 use mathlib.Core.List.{List, [], _∷_}
 use native.Mathlib.Omega.{arith}
@@ -10,7 +11,7 @@ use borrow.Author.Tests.{le-leb}
 use types.Run.{OneOf, miss}
 use denote.Enum.Declared.{tagOf}
 use Rattle.layout.specs.Limits.{base, pick}
-use Rattle.layout.specs.Varint.{Outcome, whole, short, broken, varint}
+use Rattle.layout.specs.Varint.{Outcome, whole, broken, varint}
 use Rattle.layout.specs.Reading.{Reading, given}
 use Rattle.layout.specs.Field.{Field}
 use Rattle.layout.specs.Message.{checked, headerOf}
@@ -21,7 +22,7 @@ use Rattle.whole.specs.declared.Land.the-variants as Lands
 use Rattle.whole.proofs.Found as found
 use Rattle.whole.proofs.Land as land
 use Rattle.whole.proofs.Varints.{one-reaches}
-use Rattle.whole.specs.Whole.{Reaches, Passes, foundIn, foundPast, landIn, landPast, leftBy, ends, deep, onward, skips}
+use Rattle.whole.specs.Whole.{Reaches, Passes, landIn, landPast, leftBy, ends, deep, onward, skips}
 
 pub else-short : (f : Found) → OneOf (0 ∷ 1 ∷ []) (tagOf found.the-type f) → Lands.Short ≡ leftBy f
 else-short (Founds.Value v i) h = refl

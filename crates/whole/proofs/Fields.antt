@@ -1,32 +1,31 @@
 -- A field from a place on, and the fields of a message one after another: what the layout's reader makes of the bytes from a place on
 -- depends on the field there only by its end and the depth after it.
-use Prim.Native.Nat.{ℕ, zero, suc, _+_, _-_, _*_, _/_, _%_, _≤_, _<_}
+use Prim.Native.Nat.{ℕ, zero, suc, _+_, _-_, _/_, _%_, _≤_, _<_}
 use mathlib.Core.Path.{_≡_, refl, sym, ap, _∙_, subst}
-use mathlib.Core.Bool.{Bool, true, false}
+use mathlib.Core.Bool.{Bool}
 use mathlib.Core.List.{List, [], _∷_}
 use native.Mathlib.Numerals.{add-one}
 use native.Mathlib.Omega.{arith}
 use types.Run.{OneOf, miss}
 use denote.Enum.Declared.{tagOf}
-use lib.Dec.{leb, ltb, eqb}
-use lib.ListN.{length, drop, getD, length-drop, drop-of-length-le}
-use lib.Seq.{drop-cons}
+use lib.Dec.{eqb}
+use lib.ListN.{length, drop, length-drop, drop-of-length-le}
 use borrow.Author.Tests.{lt-ltb, le-ltb, eq-eqb, ne-eqb}
 use Rattle.layout.specs.Limits.{base, pick}
 use Rattle.layout.specs.Varint.{Outcome, whole, short, broken, varint}
 use Rattle.layout.specs.Event.{Event, Unsigned, Signed, Array}
 use Rattle.layout.specs.Reading.{Reading, raise, given, follow, becoming}
 use Rattle.layout.specs.Field.{Field, Wire, wireOf, unsigneds, signeds, unsigned, signed, unsignedArray, signedArray}
-use Rattle.layout.specs.Field.{T-unsigned, T-signed, T-fixlen, T-unsigneds, T-signeds, T-floats, T-begin, T-end}
+use Rattle.layout.specs.Field.{T-unsigneds, T-begin, T-end}
 use Rattle.layout.specs.Message.{headerOf, countOf, unzigzagged, signedVarint, elements, body, field, depthAfter}
-use Rattle.layout.specs.Message.{Fields, prepend, fieldsFrom, message, Verdict, complete, incomplete, brokenAt, judged, verdictOf}
+use Rattle.layout.specs.Message.{Fields, prepend, fieldsFrom, message, complete, incomplete, brokenAt, judged, verdictOf}
 use Rattle.whole.specs.declared.Found.{Found}
 use Rattle.whole.specs.declared.Found.the-variants as Founds
 use Rattle.whole.specs.declared.Land.{Land}
 use Rattle.whole.specs.declared.Land.the-variants as Lands
 use Rattle.whole.specs.declared.Next.{Next}
 use Rattle.whole.specs.declared.Next.the-variants as Nexts
-use Rattle.whole.specs.Whole.{Reaches, Passes, Goes, nextPast, ends, deep, skips, onward, afterBody, afterField, leftBy, deepened}
+use Rattle.whole.specs.Whole.{Reaches, Passes, Goes, nextPast, ends, deep, afterBody, afterField, leftBy, deepened}
 use Rattle.whole.proofs.Found as found
 use Rattle.whole.proofs.Bodies.{deep-scalar, deep-becoming, ends-elements}
 

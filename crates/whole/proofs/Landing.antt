@@ -6,25 +6,22 @@ use mathlib.Core.List.{List, [], _∷_}
 use native.Mathlib.Omega.{arith}
 use types.Run.{OneOf}
 use denote.Enum.Declared.{tagOf}
-use lib.Dec.{leb, ltb, eqb}
-use lib.IntN.{ℤ}
+use lib.Dec.{leb}
 use lib.ListN.{length, drop, length-drop}
 use lib.Seq.{drop-drop}
-use borrow.Author.Tests.{leb-true, leb-false, le-leb, lt-leb, lt-ltb, le-ltb, eq-eqb, ne-eqb}
+use borrow.Author.Tests.{leb-true, leb-false, le-leb, lt-leb, eq-eqb, ne-eqb}
 use Rattle.layout.specs.Limits.{base, pick}
 use Rattle.layout.specs.Varint.{Outcome, whole, short, broken, varint}
 use Rattle.layout.specs.Reading.{Reading, given, lowFrom}
-use Rattle.layout.specs.Event.{Event, Unsigned, Signed, Float}
-use Rattle.layout.specs.Field.{Raw, Field, Width, Subtyped, Wire, fp32, fp64, string, blob, bytesOf, subtypeNumber, subtypeOf, known, unknown, float, raw, unsigned, signed, payload, unsignedArray, signedArray, floatArray}
-use Rattle.layout.specs.Field.{T-unsigned, T-signed, T-fixlen, T-unsigneds, T-signeds, T-floats, T-begin, T-end}
-use Rattle.layout.specs.Message.{checked, countOf, unzigzagged, signedVarint, payloadOf, fixlen, floatArrayOf, body, depthAfter, elements}
+use Rattle.layout.specs.Event.{Unsigned, Float}
+use Rattle.layout.specs.Field.{Raw, Field, Width, Subtyped, fp32, fp64, string, blob, bytesOf, subtypeNumber, subtypeOf, known, unknown, float, raw, payload, unsignedArray, floatArray}
+use Rattle.layout.specs.Field.{T-fixlen, T-unsigneds, T-floats}
+use Rattle.layout.specs.Message.{checked, countOf, payloadOf, fixlen, floatArrayOf, body, depthAfter, elements}
 use Rattle.whole.specs.declared.Found.{Found}
 use Rattle.whole.specs.declared.Found.the-variants as Founds
 use Rattle.whole.specs.declared.Land.{Land}
 use Rattle.whole.specs.declared.Land.the-variants as Lands
-use Rattle.whole.specs.declared.Next.{Next}
-use Rattle.whole.specs.declared.Next.the-variants as Nexts
-use Rattle.whole.specs.Whole.{Reaches, Passes, Goes, landIn, landPast, ends, deep, skips, afterBody, jumped, leftBy, deepened}
+use Rattle.whole.specs.Whole.{Reaches, Passes, deep, skips, afterBody, jumped, leftBy}
 use Rattle.whole.proofs.Found as found
 use Rattle.whole.proofs.Ends.{landed-before, reaches-inside, else-given}
 use Rattle.whole.proofs.Bodies.{hop, hops, hop-short, ends-low, ends-payload, ends-floats, ends-elements, deep-scalar, deep-becoming}

@@ -1,17 +1,15 @@
--- One varint, byte by byte, from a place of a message; and several.
-use Prim.Native.Nat.{ℕ, zero, suc, _+_, _-_, _/_, _<_, _≤_}
+-- One varint, byte by byte, from a place of a message.
+use Prim.Native.Nat.{ℕ, _+_, _-_, _<_, _≤_}
 use mathlib.Core.Path.{_≡_, refl, sym, ap, _∙_, subst}
-use mathlib.Core.List.{List, [], _∷_}
+use mathlib.Core.List.{List, _∷_}
 use native.Mathlib.Nat.{mod-eq-of-lt}
 use native.Mathlib.Numerals.{add-one}
 use native.Mathlib.Omega.{arith}
-use lib.Dec.{leb, lit<, lit≤}
+use lib.Dec.{lit<}
 use lib.ListN.{length, drop, getD, drop-of-length-le}
 use lib.Seq.{drop-cons}
-use borrow.Author.Tests.{le-leb, lt-leb}
 use Rattle.layout.specs.Limits.{base}
 use Rattle.layout.specs.Varint.{Outcome, whole, short, broken, Push, more, value, overrun, push, digit, varintFrom, varint}
-use Rattle.layout.specs.Message.{checked}
 use Rattle.varint.specs.declared.Acc.{Acc}
 use Rattle.varint.specs.declared.Push.the-variants.{More, Value, Overlong}
 use Rattle.varint.specs.Varint.{Sound, start, unanswer, pushed}

@@ -7,7 +7,7 @@ ghost use lib.ListN.{length, drop};
 ghost use Rattle.layout.specs.Limits.{base};
 ghost use Rattle.layout.specs.Varint.{varint};
 ghost use Rattle.layout.specs.Field.{wireOf, T-fixlen, T-unsigneds, T-floats};
-ghost use Rattle.layout.specs.Message.{headerOf, countOf, field, verdictOf};
+ghost use Rattle.layout.specs.Message.{headerOf, countOf, verdictOf};
 ghost use Rattle.whole.specs.Whole.{Reaches, Passes, Goes, ends, skips, afterBody, afterField, jumped, leftBy, deepened, verdictIn};
 use types::ARRAY_MAX;
 use types::ID_MAX;
@@ -23,21 +23,21 @@ pub enum Verdict {
 }
 
 // A varint's value and the place after it; or the message ends within it; or the place after the byte that breaks it.
-pub enum Found {
+enum Found {
     Value(u64, usize),
     Short,
     Broken(usize),
 }
 
 // The place after something; or the message ends within it; or the place after the byte that breaks it.
-pub enum Land {
+enum Land {
     At(usize),
     Short,
     Broken(usize),
 }
 
 // The place after a field and the depth there; or as above.
-pub enum Next {
+enum Next {
     At(usize, u32),
     Short,
     Broken(usize),
@@ -45,6 +45,7 @@ pub enum Next {
 
 // ---- varints
 
+// Any varint. It has two callers, so that the compiler keeps it out of line and their tests for one byte in line.
 fn long_varint_at(t: &[u8], at: usize) -> Found
     requires { ⌜ at ≤ length (now t) ⌝ }
     ensures { λ r. ⌜ Reaches (now (t .entry)) at (varint base (drop at (now (t .entry)))) r ⌝ }
@@ -69,7 +70,7 @@ fn long_varint_at(t: &[u8], at: usize) -> Found
     Found::Short
 }
 
-// Most varints here are one byte.
+// Most words and counts are one byte.
 fn varint_at(t: &[u8], at: usize) -> Found
     requires { ⌜ at ≤ length (now t) ⌝ }
     ensures { λ r. ⌜ Reaches (now (t .entry)) at (varint base (drop at (now (t .entry)))) r ⌝ }
@@ -118,7 +119,7 @@ fn count_at(t: &[u8], at: usize) -> Found
     found
 }
 
-// A varint whose value is not asked for: its end, and the rule of the tenth byte.
+// A varint whose value is not asked for: its end, and the rule of the tenth byte. Out of line, as above.
 fn skip_at(t: &[u8], at: usize) -> Land
     requires { ⌜ at ≤ length (now t) ⌝ }
     ensures { λ r. ⌜ Passes (now (t .entry)) at (λ d. ends d (varint base (drop at (now (t .entry))))) r ⌝ }
@@ -141,7 +142,7 @@ fn skip_at(t: &[u8], at: usize) -> Land
     Land::Short
 }
 
-// Most elements are one byte.
+// Most elements are one byte too.
 fn element_at(t: &[u8], at: usize) -> Land
     requires { ⌜ at ≤ length (now t) ⌝ }
     ensures { λ r. ⌜ Passes (now (t .entry)) at (λ d. ends d (varint base (drop at (now (t .entry))))) r ⌝ }
@@ -280,7 +281,7 @@ fn at_depth(land: Land, depth: u32) -> Next
     }
 }
 
-// What follows a header of this type.
+// What follows a header of this type. An id is of no account here.
 fn body_at(t: &[u8], at: usize, wire: u64, depth: u32) -> Next
     requires { ⌜ at ≤ length (now t) ⌝ }
     ensures { λ r. ⌜ ((id : ℕ) → Goes (now (t .entry)) at (afterBody id (wireOf wire) (drop at (now (t .entry))) depth) r) ⌝ }
@@ -318,6 +319,7 @@ fn field_at(t: &[u8], at: usize, depth: u32) -> Next
     body_at(t, i, h % 8, depth)
 }
 
+// The verdict on a message given whole.
 pub fn verdict_of(message: &[u8]) -> Verdict
     ensures { λ r. ⌜ r ≡ verdictIn (verdictOf base (now (message .entry))) ⌝ }
 {

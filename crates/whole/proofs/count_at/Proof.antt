@@ -1,5 +1,4 @@
 -- `whole::count_at` meets its contract: the count is tested.
-use Rattle.layout.specs.Limits.{base}
 use borrow.Author.Tests.{le-leb, lt-leb}
 use Rattle.whole.proofs.Ends.{else-checked, checked-passes, checked-fails}
 use borrow.Author.Needs.{needs}

@@ -1,7 +1,6 @@
 -- `whole::long_varint_at` meets its contract: what is left of the varint is read from the place reached, after the bytes so far.
 use Prim.Native.Nat.{_-_}
 use mathlib.Core.Path.{sym, _∙_}
-use native.Mathlib.Omega.{arith}
 use lib.ListN.{length}
 use borrow.Author.Needs.{needs}
 use Rattle.whole.proofs.Varints.{Under, under-start, under-more, under-value, under-over, under-end}

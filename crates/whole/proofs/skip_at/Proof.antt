@@ -1,6 +1,5 @@
 -- `whole::skip_at` meets its contract: what is left of the varint is read from the place reached, after i - at bytes.
 use Prim.Native.Nat.{_-_}
-use native.Mathlib.Omega.{arith}
 use lib.ListN.{length}
 use borrow.Author.Needs.{needs}
 use Rattle.whole.proofs.Varints.{Skipping, skipping-start, skipping-more, skipping-ends, skipping-last, skipping-over, skipping-end}

@@ -1,5 +1,4 @@
 -- `whole::skip_varints` meets its contract: of the varints `left` are still to come, from the place reached on.
-use native.Mathlib.Omega.{arith}
 use borrow.Author.Needs.{needs}
 use Rattle.whole.proofs.Ends.{Skipped, skipped-start, skipped-next, skipped-else, skipped-end}
 use Rattle.whole.proofs.skip_varints.Statement.{statement}

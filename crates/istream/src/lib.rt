@@ -770,3 +770,15 @@ pub fn feed_ref(r: &mut IStream, chunk: &[u8]) -> Heard
     *r = f.stream;
     f.heard
 }
+
+// The reader lent by mutable reference, for callers that have it by value: what a main loop calls.
+pub fn lent(r: IStream, chunk: &[u8]) -> Taken
+    ensures { λ l. ⌜ l ≡ takenOf r (now (chunk .entry)) ⌝ }
+{
+    let mut m = r;
+    let a = feed_ref(&mut m, chunk);
+    Taken {
+        heard: a,
+        stream: m,
+    }
+}

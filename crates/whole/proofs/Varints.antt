@@ -148,6 +148,13 @@ skipping-end {t} {at} {i} s h = record { same = λ d. ap (ends d) (s .same ∙ o
 pub one-reaches : (t : List ℕ) (at : ℕ) → at < length t → getD t at 0 < 128 → Reaches t at (varint base (drop at t)) (Founds.Value (getD t at 0) (at + 1))
 one-reaches t at h l = record { same = one t at h l; past = (omega arith, omega arith) }
 
--- an element of one byte
+-- an element of one byte, and of two
 pub one-passes : (t : List ℕ) (at : ℕ) → at < length t → getD t at 0 < 128 → Passes t at (λ d. ends d (varint base (drop at t))) (Lands.At (at + 1))
 one-passes t at h l = skipping-ends (skipping-start t at (omega arith)) h (omega arith) l
+
+pub two-passes : (t : List ℕ) (at : ℕ) → 128 ≤ getD t at 0 → at + 1 < length t → getD t (at + 1) 0 < 128 →
+    Passes t at (λ d. ends d (varint base (drop at t))) (Lands.At (at + 2))
+two-passes t at g h l =
+    let e : at + 1 + 1 ≡ at + 2 = omega arith in
+    subst (λ (i : ℕ). Passes t at (λ d. ends d (varint base (drop at t))) (Lands.At i)) e
+    (skipping-ends (skipping-more (skipping-start t at (omega arith)) (omega arith) (omega arith) g) h (omega arith) l)

@@ -142,7 +142,7 @@ fn skip_at(t: &[u8], at: usize) -> Land
     Land::Short
 }
 
-// Most elements are one byte too.
+// Most elements are one byte or two.
 fn element_at(t: &[u8], at: usize) -> Land
     requires { ⌜ at ≤ length (now t) ⌝ }
     ensures { λ r. ⌜ Passes (now (t .entry)) at (λ d. ends d (varint base (drop at (now (t .entry))))) r ⌝ }
@@ -150,6 +150,11 @@ fn element_at(t: &[u8], at: usize) -> Land
     if at < t.len() {
         if t[at] < 128 {
             return Land::At(at + 1);
+        }
+        if at + 1 < t.len() {
+            if t[at + 1] < 128 {
+                return Land::At(at + 2);
+            }
         }
     }
     skip_at(t, at)

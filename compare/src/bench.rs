@@ -1,0 +1,2 @@
+//! Times of both sides.
+pub fn all() {}

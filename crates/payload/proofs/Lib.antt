@@ -1,0 +1,4 @@
+pub mod Cases
+pub mod Whole
+pub mod Sound
+pub mod Words

@@ -1,0 +1,34 @@
+-- `payload::PayloadAcc::feed` meets its contract: number 3 first, then what a sound state does.
+use mathlib.Core.Path.{sym, ap, _∙_}
+use borrow.Author.Needs.{needs}
+use Rattle.payload.specs.declared.PayloadAcc.{PayloadAcc}
+use Rattle.payload.specs.Gather.{accepted}
+use Rattle.payload.proofs.Cases.{unsound, in-order, begun-within}
+use Rattle.payload.proofs.PayloadAcc.feed.Statement.{statement}
+use Rattle.payload.proofs.PayloadAcc.feed.Tie as tie
+
+returns : tie.Need-returns
+returns c = unsound _ _ _ _ _ (c .if1 .taken)
+
+begin-requires : tie.Need-begin-requires
+begin-requires c κs = search needs
+
+accept-requires : tie.Need-accept-requires
+accept-requires c κs =
+    let a = c .before .before .before .before .before .before .args in
+    begun-within (a .self) _ (a .offset) _ (c .before .begin .ensures) (c .before .before .if1 .left)
+
+same-length : tie.Need-same-length
+same-length c = search needs
+
+returns-2 : tie.Need-returns-2
+returns-2 c =
+    let r = c .before .before in
+    let s = r .before .before in
+    let a = s .before .before .before .before .before .args in
+    r .accept .ensures
+    ∙ ap (λ (x : PayloadAcc). accepted x (a .buf .now) (a .total) (a .offset) (a .chunk .now)) (s .begin .ensures)
+    ∙ sym (in-order (a .self) (a .buf .now) (a .total) (a .offset) (a .chunk .now) (s .before .if1 .left))
+
+pub feed-spec : {M : Type 1} → statement M
+feed-spec = tie.close (tie.spec returns begin-requires accept-requires same-length returns-2)

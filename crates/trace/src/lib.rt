@@ -1,0 +1,9 @@
+// The port's side of the comparison with the Rust: a case in, the answer out, as compare/PROTOCOL.md has both.
+// Each export answers how many bytes of `out` the answer takes; an answer that is longer stops at its end.
+mod bytes;
+mod gatherer;
+
+#[no_mangle]
+pub extern "C" fn trace_gatherer(case: &[u8], out: &mut [u8]) -> i64 {
+    bytes::count(gatherer::trace(case, out))
+}

@@ -17,8 +17,10 @@ compare/run DIR COMMAND
   differ SEED SIZE      everything below: tickets of up to 3 bytes, every cut of the corpus, SIZE random cases of each kind
   short BYTES           all tickets of up to BYTES bytes, in every cut
   cuts                  every cut of every ticket in the corpus
-  random SEED SIZE      SIZE random cases of each kind
-  faults SEED SIZE      each planted fault in turn, until it is found
+  random SEED SIZE [KINDS]
+                        SIZE random cases of each kind (KINDS: some of the letters rgw, for reader, gatherer and writer)
+  faults SEED SIZE [KINDS]
+                        each planted fault in turn, until it is found
   sample SEED FILE      writes a list of cases with the Rust's answers
   replay FILE           gives a list's cases to the port
   answer KIND HEX       both answers to one case (KIND: reader, gatherer, writer)
@@ -32,17 +34,18 @@ fn main() {
     let args: Vec<String> = std::env::args().skip(1).collect();
     let seed = number(&args, 1, 1);
     let size = number(&args, 2, 100_000);
+    let kinds = args.get(3).map_or("rgw", |k| k);
     let mut runs = Runs::new(0);
     match args.first().map(String::as_str) {
         Some("differ") => {
             runs.short(3);
             runs.cuts();
-            runs.random(seed, size);
+            runs.random(seed, size, kinds);
         }
         Some("short") => runs.short(number(&args, 1, 3) as usize),
         Some("cuts") => runs.cuts(),
-        Some("random") => runs.random(seed, size),
-        Some("faults") => std::process::exit(runs::faults(seed, size)),
+        Some("random") => runs.random(seed, size, kinds),
+        Some("faults") => std::process::exit(runs::faults(seed, size, kinds)),
         Some("sample") => std::process::exit(runs::sample(seed, args.get(2).map_or("list", |f| f))),
         Some("replay") => std::process::exit(runs::replay(args.get(1).map_or("list", |f| f))),
         Some("bench") => return bench::all(),

@@ -108,13 +108,22 @@ impl Runs {
         println!("every cut of the corpus: {} cases", self.cases - before);
     }
 
-    pub fn random(&mut self, seed: u64, size: u64) {
-        for i in 0..size {
+    /// Case number i of each kind asked for.
+    fn turn(&mut self, seed: u64, i: u64, kinds: &str) {
+        if kinds.contains('r') {
             self.compare(&gen::reader(&mut case_seed(seed, i, 1)));
+        }
+        if kinds.contains('g') {
             self.compare(&gen::gatherer(&mut case_seed(seed, i, 2)));
+        }
+        if kinds.contains('w') {
             self.compare(&gen::writer(&mut case_seed(seed, i, 3)));
         }
-        println!("random, seed {seed}: {size} cases of each kind");
+    }
+
+    pub fn random(&mut self, seed: u64, size: u64, kinds: &str) {
+        (0..size).for_each(|i| self.turn(seed, i, kinds));
+        println!("random, seed {seed}: {size} cases of each kind ({kinds})");
     }
 }
 
@@ -133,15 +142,13 @@ fn case_seed(seed: u64, i: u64, kind: u64) -> Random {
 }
 
 /// Plants each fault in turn; answers 0 if every one was found and the run without one finds nothing.
-pub fn faults(seed: u64, size: u64) -> i32 {
+pub fn faults(seed: u64, size: u64, kinds: &str) -> i32 {
     let mut missed = 0;
-    for (n, name) in FAULTS.iter().enumerate() {
+    for (n, name) in FAULTS.iter().enumerate().filter(|(n, name)| *n == 0 || kinds.contains(&name[..1])) {
         let mut runs = Runs::new(n);
         let mut i = 0;
         while i < size && (n == 0 || runs.differences == 0) {
-            runs.compare(&gen::reader(&mut case_seed(seed, i, 1)));
-            runs.compare(&gen::gatherer(&mut case_seed(seed, i, 2)));
-            runs.compare(&gen::writer(&mut case_seed(seed, i, 3)));
+            runs.turn(seed, i, kinds);
             i += 1;
         }
         let found = runs.differences != 0;

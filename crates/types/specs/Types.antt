@@ -1,6 +1,6 @@
 -- The port's own enums as the layout's, and the numbers of the refusals.
 use Prim.Native.Nat.{ℕ}
-use Rattle.layout.specs.Field.{Subtype, Subtyped, Kind, fp32, fp64, string, blob, float, raw, known, unknown, unsigneds, signeds, floats}
+use Rattle.layout.specs.Field.{Width, Raw, Subtype, Subtyped, Kind, fp32, fp64, string, blob, float, raw, known, unknown, unsigneds, signeds, floats}
 use Rattle.layout.specs.Field.{subtypeNumber, subtypeOf, kindNumber}
 use Rattle.types.specs.declared.FixlenType.{FixlenType}
 use Rattle.types.specs.declared.FixlenType.the-variants as Fix
@@ -8,6 +8,10 @@ use Rattle.types.specs.declared.RawFixlen.{RawFixlen}
 use Rattle.types.specs.declared.RawFixlen.the-variants as RawFix
 use Rattle.types.specs.declared.ArrayKind.{ArrayKind}
 use Rattle.types.specs.declared.ArrayKind.the-variants as ArrayKinds
+use Rattle.types.specs.declared.FloatType.{FloatType}
+use Rattle.types.specs.declared.FloatType.the-variants as Floats
+use Rattle.types.specs.declared.RawType.{RawType}
+use Rattle.types.specs.declared.RawType.the-variants as Raws
 use Rattle.types.specs.declared.Error.{Error}
 use Rattle.types.specs.declared.Error.the-variants as Err
 
@@ -32,6 +36,35 @@ kind ArrayKinds.Unsigned = unsigneds
 kind ArrayKinds.Signed = signeds
 kind ArrayKinds.Fp32 = floats fp32
 kind ArrayKinds.Fp64 = floats fp64
+
+abbrev pub arrayKind : Kind → ArrayKind
+arrayKind unsigneds = ArrayKinds.Unsigned
+arrayKind signeds = ArrayKinds.Signed
+arrayKind (floats fp32) = ArrayKinds.Fp32
+arrayKind (floats fp64) = ArrayKinds.Fp64
+
+-- the floats and the other payloads apart
+abbrev pub width : FloatType → Width
+width Floats.Fp32 = fp32
+width Floats.Fp64 = fp64
+
+abbrev pub floatType : Width → FloatType
+floatType fp32 = Floats.Fp32
+floatType fp64 = Floats.Fp64
+
+abbrev pub rawSort : RawType → Raw
+rawSort Raws.Str = string
+rawSort Raws.Blob = blob
+
+abbrev pub rawType : Raw → RawType
+rawType string = Raws.Str
+rawType blob = Raws.Blob
+
+abbrev pub floatFixlen : FloatType → FixlenType
+floatFixlen w = fixlenType (float (width w))
+
+abbrev pub rawFixlenType : RawType → FixlenType
+rawFixlenType r = fixlenType (raw (rawSort r))
 
 -- the numbers on the wire, and of the event list
 abbrev pub rawOf : ℕ → RawFixlen

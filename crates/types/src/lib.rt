@@ -1,6 +1,7 @@
 // Shared types and wire constants: the Rust's types.rs, the configuration of its lib.rs, and the refusals by their numbers.
 ghost use mathlib.Core.Path.{_≡_};
-ghost use Rattle.types.specs.Types.{fixlenRaw, kindRaw, rawOf, numberOf};
+ghost use Rattle.layout.specs.Field.{bytesOf, floats};
+ghost use Rattle.types.specs.Types.{fixlenRaw, kindRaw, rawOf, numberOf, width, floatFixlen, rawFixlenType, arrayKind};
 
 // SofaBuffers wire and API version that this library implements.
 pub const API_VERSION: u32 = 1;
@@ -71,6 +72,18 @@ pub enum ArrayKind {
     Fp64,
 }
 
+// The subtypes that are floats.
+pub enum FloatType {
+    Fp32,
+    Fp64,
+}
+
+// The subtypes whose payload goes as it is.
+pub enum RawType {
+    Str,
+    Blob,
+}
+
 // The refusals, in 01's order.
 pub enum Error {
     UnsoundReader,
@@ -121,6 +134,47 @@ impl ArrayKind {
             ArrayKind::Signed => 1,
             ArrayKind::Fp32 => 2,
             ArrayKind::Fp64 => 3,
+        }
+    }
+}
+
+impl FloatType {
+    // How many bytes such a float has.
+    pub fn bytes(self) -> u8
+        ensures { λ r. ⌜ r ≡ bytesOf (width self) ⌝ }
+    {
+        match self {
+            FloatType::Fp32 => 4,
+            FloatType::Fp64 => 8,
+        }
+    }
+
+    pub fn fixlen(self) -> FixlenType
+        ensures { λ r. ⌜ r ≡ floatFixlen self ⌝ }
+    {
+        match self {
+            FloatType::Fp32 => FixlenType::Fp32,
+            FloatType::Fp64 => FixlenType::Fp64,
+        }
+    }
+
+    pub fn kind(self) -> ArrayKind
+        ensures { λ r. ⌜ r ≡ arrayKind (floats (width self)) ⌝ }
+    {
+        match self {
+            FloatType::Fp32 => ArrayKind::Fp32,
+            FloatType::Fp64 => ArrayKind::Fp64,
+        }
+    }
+}
+
+impl RawType {
+    pub fn fixlen(self) -> FixlenType
+        ensures { λ r. ⌜ r ≡ rawFixlenType self ⌝ }
+    {
+        match self {
+            RawType::Str => FixlenType::Str,
+            RawType::Blob => FixlenType::Blob,
         }
     }
 }

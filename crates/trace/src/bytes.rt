@@ -40,6 +40,14 @@ pub fn part<'a>(s: &'a [u8], at: usize, n: usize) -> &'a [u8] {
     &s[..0]
 }
 
+// The bytes from a place to another.
+pub fn between<'a>(s: &'a [u8], from: usize, to: usize) -> &'a [u8] {
+    if from <= to {
+        return part(s, from, to - from);
+    }
+    &s[..0]
+}
+
 // Each of these answers where the next byte goes.
 pub fn put8(out: &mut [u8], at: usize, b: u8) -> usize {
     if at < out.len() {

@@ -1,5 +1,6 @@
 // Feeds the gatherer orders of calls in which a port goes wrong, and writes a line for each call; then every run of three small calls, as a digest.
-// The file `stdout` beside this crate is what the Rust's payload.rs writes for the same calls, but for the states of `unsound`, which it cannot have.
+// The file `stdout` beside this crate is what the Rust's payload.rs answers to the same calls; its last five lines, of states that hold more than
+// the buffer and of the second call alone, have no counterpart there and are 01's.
 use payload::Answer;
 use payload::PayloadAcc;
 ghost use Prim.Native.Nat.{_≤_};

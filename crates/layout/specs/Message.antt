@@ -162,10 +162,14 @@ verdictOf L bs = judged (length bs) (message L bs .outcome)
 
 -- ---- complete
 
--- a byte string: each element below 256
-unfoldable pub Bytes : List ℕ → Type 0
-Bytes [] = Unit {0}
-Bytes (b ∷ bs) = (b < 256) × Bytes bs
+-- each of a list
+abbrev pub All : {A : Type 0} → (A → Type 0) → List A → Type 0
+All P [] = Unit {0}
+All P (x ∷ xs) = P x × All P xs
+
+-- a byte string
+abbrev pub Bytes : List ℕ → Type 0
+Bytes bs = All (λ b. b < 256) bs
 
 -- whole fields, none broken, from one depth to another
 pub data WholeFields (L : Limits) : ℕ → List ℕ → List Field → ℕ → Type 0 where

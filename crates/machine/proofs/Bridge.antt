@@ -92,7 +92,7 @@ means L n d (inFloat id w left k v) bs =
 means L n d (inPayload id r total o) bs = goOnAfter L n d (payloadFrom id r total o (total - o) bs)
 
 -- the numbers that a step leans on
-abbrev Fair : Phase → Type 0
+abbrev pub Fair : Phase → Type 0
 Fair (inHeader zero v) = v ≡ 0
 Fair (inHeader (suc k) v) = Unit {0}
 Fair (inUnsigned id left k v) = Unit {0}
@@ -422,7 +422,7 @@ module _ (L : Limits) (n d : ℕ) (bs : List ℕ) where
 
 -- ---- fairness is kept
 
-abbrev FairStep : Stepped → Type 0
+abbrev pub FairStep : Stepped → Type 0
 FairStep (on es d p) = Fair p
 FairStep bad = Unit {0}
 
@@ -476,7 +476,7 @@ fair-within L d k v b p g h h′ = go (push L k v b) refl
     go (value x) e = h′ x
     go overrun e = tt
 
-fair-step : (L : Limits) (d : ℕ) (p : Phase) (b : ℕ) → Fair p → FairStep (step L d p b)
+pub fair-step : (L : Limits) (d : ℕ) (p : Phase) (b : ℕ) → Fair p → FairStep (step L d p b)
 unfolding step atHeader atWord atUnsignedCount atSignedCount atFloatCount atArrayWord atUnsigned atSigned atFloat atByte
 fair-step L d (inHeader k v) b f = fair-within L d k v b inHeader (atHeader L d) (λ j v′. tt) (λ h. fair-pick (leb (h / 8) (L .id)) _ bad (fair-wire L d (h / 8) (wireOf (h % 8))) tt)
 fair-step L d (inUnsigned id left k v) b f = fair-within L d k v b (inUnsigned id left) (atUnsigned d id left) (λ j v′. tt) (λ x. fair-next left (λ m. inUnsigned id m 0 0) (λ m. tt))

@@ -1,3 +1,5 @@
 pub mod Readings
 pub mod Bridge
 pub mod Prefix
+pub mod Calls
+pub mod Runs

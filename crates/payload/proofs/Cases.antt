@@ -1,7 +1,7 @@
 -- Each answer of a call, with the state and the buffer that it leaves, as the definition gives it where that answer's test holds.
 use Prim.Native.Nat.{ℕ, _+_, _≤_, _<_}
-use mathlib.Core.Path.{_≡_, refl, sym, ap, _∙_, subst}
-use mathlib.Core.Bool.{Bool, true, false, cond, _&&_}
+use mathlib.Core.Path.{_≡_, refl, sym, subst}
+use mathlib.Core.Bool.{Bool, true, false, cond}
 use mathlib.Core.List.{List}
 use native.Mathlib.Omega.{arith}
 use lib.ListN.{length}
@@ -66,3 +66,8 @@ begun-within a s offset n e h = subst (λ (x : PayloadAcc). x .len ≤ n) (sym e
     go : (t : Bool) → cond t fresh a .len ≤ n
     go true = omega arith
     go false = h
+
+-- what holds of both arms of a test holds of what it picks
+pub either : (P : Gathered → Type 0) {x y : Gathered} (t : Bool) → (t ≡ true → P x) → (t ≡ false → P y) → P (cond t x y)
+either P true f g = f refl
+either P false f g = g refl

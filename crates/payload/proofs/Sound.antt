@@ -1,7 +1,7 @@
 -- States stay sound. `sound-fresh`: a fresh one is, for any buffer. `sound-kept`: a call on a sound state leaves one that is sound for the buffer left.
 use Prim.Native.Nat.{ℕ, _≤_}
 use mathlib.Core.Path.{_≡_, refl, sym, subst}
-use mathlib.Core.Bool.{Bool, true, false, cond}
+use mathlib.Core.Bool.{true}
 use mathlib.Core.List.{List}
 use native.Mathlib.Omega.{arith}
 use lib.Dec.{eqb, ltb}
@@ -10,17 +10,13 @@ use lib.Seq.{paste, length-paste}
 use borrow.Author.Tests.{le-leb, leb-true, ltb-false}
 use Rattle.payload.specs.declared.PayloadAcc.{PayloadAcc}
 use Rattle.payload.specs.Gather.{Gathered, sound, fresh, begun, owed, copied, atOnce, accepted, gathered}
-use Rattle.payload.proofs.Cases.{in-order, begun-within}
+use Rattle.payload.proofs.Cases.{in-order, begun-within, either}
 
 pub sound-fresh : (b : List ℕ) → sound fresh b ≡ true
 sound-fresh b = le-leb 0 (length b) (omega arith)
 
 record Within (g : Gathered) : Type 0 where
   pub held : g .acc .len ≤ length (g .buf)
-
-either : {x y : Gathered} (t : Bool) → (t ≡ true → Within x) → (t ≡ false → Within y) → Within (cond t x y)
-either true f g = f refl
-either false f g = g refl
 
 copied-within : (a : PayloadAcc) (b : List ℕ) (total : ℕ) (chunk : List ℕ) → a .len ≤ length b → total ≤ length b → Within (copied a b total chunk)
 unfolding copied
@@ -32,10 +28,10 @@ copied-within a b total chunk h f =
 accepted-within : (a : PayloadAcc) (b : List ℕ) (total offset : ℕ) (chunk : List ℕ) → a .len ≤ length b → Within (accepted a b total offset chunk)
 unfolding accepted
 accepted-within a b total offset chunk h =
-    either (a .complete) (λ e. record { held = h }) λ e.
-    either (ltb (length b) total) (λ e. record { held = h }) λ fits.
-    either (atOnce total offset (length chunk)) (λ e. record { held = omega arith }) λ e.
-    either (eqb offset (a .len)) (λ e. copied-within a b total chunk h (ltb-false _ _ fits)) λ e. record { held = h }
+    either Within (a .complete) (λ e. record { held = h }) λ e.
+    either Within (ltb (length b) total) (λ e. record { held = h }) λ fits.
+    either Within (atOnce total offset (length chunk)) (λ e. record { held = omega arith }) λ e.
+    either Within (eqb offset (a .len)) (λ e. copied-within a b total chunk h (ltb-false _ _ fits)) λ e. record { held = h }
 
 pub sound-kept : (a : PayloadAcc) (b : List ℕ) (total offset : ℕ) (chunk : List ℕ) → sound a b ≡ true
     → sound (gathered a b total offset chunk .acc) (gathered a b total offset chunk .buf) ≡ true

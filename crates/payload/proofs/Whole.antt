@@ -1,16 +1,16 @@
 -- The gatherer over whole payloads. `whole-at-last`: in a buffer long enough, "nothing yet" before the last piece, and the payload at the last.
 -- `too-long-throughout`: in a shorter one, number 4 at each piece and the buffer unaltered.
-use Prim.Native.Nat.{ℕ, zero, suc, _+_, _-_, _≤_, _<_, min}
-use mathlib.Core.Path.{_≡_, refl, sym, ap, _∙_, subst}
+use Prim.Native.Nat.{ℕ, suc, _+_, _-_, _≤_, _<_}
+use mathlib.Core.Path.{_≡_, refl, sym, ap, _∙_}
 use mathlib.Core.Bool.{Bool, true, false, cond, _&&_}
 use mathlib.Core.List.{List, [], _∷_, _++_, append-assoc, append-nil}
 use native.Mathlib.Omega.{arith}
-use lib.Dec.{eqb, leb, ltb}
+use lib.Dec.{eqb, leb}
 use lib.ListN.{length, take, replicate, length-append}
-use lib.Seq.{paste, length-paste, take-paste, take-length, length-take-le}
-use borrow.Author.Tests.{lt-ltb, le-ltb, le-leb, lt-leb, eq-eqb, ne-eqb, leb-true}
+use lib.Seq.{paste, length-paste, take-paste, take-length}
+use borrow.Author.Tests.{lt-ltb, le-ltb, le-leb, lt-leb, ne-eqb, leb-true}
 use Rattle.payload.specs.declared.PayloadAcc.{PayloadAcc}
-use Rattle.payload.specs.Gather.{nothing, inChunk, inBuffer, number, Gathered, sound, fresh, begun, untouched, owed, copied, atOnce, accepted, gathered, partOf, named}
+use Rattle.payload.specs.Gather.{nothing, inChunk, inBuffer, number, Gathered, sound, fresh, begun, untouched, owed, copied, accepted, gathered}
 use Rattle.payload.specs.Run.{Outcome, nothingYet, whole, refused, told, Handed, handed, outcomes, joined, Split, one, more, Pieces, empty, split, handedWhole, atLast}
 use Rattle.payload.proofs.Cases.{in-order, next}
 

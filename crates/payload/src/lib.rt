@@ -27,7 +27,7 @@ pub struct Fed {
     pub acc: PayloadAcc,
 }
 
-// A loop with one counter and no test but its own: it compiles to a block copy.
+// A loop with one counter and no test but its own, which the compiler turns into a copy in blocks.
 fn copy_in(buf: &mut [u8], pos: usize, src: &[u8], n: usize)
     requires { ⌜ (pos + n ≤ length (now buf)) × (n ≤ length (now src)) ⌝ }
     ensures { λ r. ⌜ now (buf .exit) ≡ paste (now (buf .entry)) pos (now (src .entry)) n ⌝ }

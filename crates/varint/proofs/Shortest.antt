@@ -25,12 +25,12 @@ by-size {P} n one more = go (ltb n 128) refl
     go true t = one (ltb-true _ _ t)
     go false t = more (ltb-false _ _ t)
 
-one-in : (f n : ℕ) → n < 128 → shortestIn f n ≡ n ∷ []
+pub one-in : (f n : ℕ) → n < 128 → shortestIn f n ≡ n ∷ []
 unfolding shortestIn
 one-in zero n h = refl
 one-in (suc f) n h = simp (lt-ltb n 128 h, shortestIn)
 
-more-in : (f n : ℕ) → 128 ≤ n → shortestIn (suc f) n ≡ (n % 128 + 128) ∷ shortestIn f (n / 128)
+pub more-in : (f n : ℕ) → 128 ≤ n → shortestIn (suc f) n ≡ (n % 128 + 128) ∷ shortestIn f (n / 128)
 unfolding shortestIn
 more-in f n h = simp (le-ltb n 128 h, shortestIn)
 

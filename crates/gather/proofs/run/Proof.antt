@@ -1,5 +1,5 @@
 -- `gather::run` is safe and ends: each turn goes on behind the call that it read, and the buffer keeps its length.
-use Prim.Native.Nat.{_-_, _≤_}
+use Prim.Native.Nat.{_-_}
 use mathlib.Core.Path.{_≡_}
 use lib.ListN.{length}
 use borrow.Author.Needs.{needs}

@@ -1,7 +1,6 @@
 -- `gather::sweep` is safe and ends: the runs are counted, and the buffer keeps its length.
 use Prim.Native.Nat.{_-_, _≤_}
-use mathlib.Core.Path.{_≡_, refl}
-use native.Mathlib.Omega.{arith}
+use mathlib.Core.Path.{_≡_}
 use lib.ListN.{length}
 use borrow.Author.Needs.{needs}
 use Rattle.gather.proofs.sweep.Statement.{statement}

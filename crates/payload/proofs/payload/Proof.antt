@@ -1,9 +1,6 @@
 -- `payload::payload` meets its contract: the part that the answer names, and none of an unsound state.
-use mathlib.Core.Path.{_≡_, sym, ap, _∙_}
 use borrow.Author.Tests.{le-leb, lt-leb}
 use borrow.Author.Needs.{needs}
-use Rattle.payload.specs.declared.Answer.{Answer}
-use Rattle.payload.specs.Gather.{named}
 use Rattle.payload.proofs.payload.Statement.{statement}
 use Rattle.payload.proofs.payload.Tie as tie
 

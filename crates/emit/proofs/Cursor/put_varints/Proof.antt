@@ -1,0 +1,69 @@
+-- `emit::Cursor::put_varints`: the elements' varints, one after another.
+use Prim.Native.Nat.{ℕ, _+_, _-_, _*_, _/_, _≤_, _<_, min}
+use mathlib.Core.Path.{_≡_, refl, sym, ap, _∙_}
+use native.Mathlib.Omega.{arith}
+use borrow.Author.Needs.{needs}
+use lib.ListN.{length, drop, getD}
+use Rattle.layout.specs.Varint.{shortest}
+use Rattle.layout.specs.Zigzag.{zigzag}
+use Rattle.layout.specs.Field.{each, lowBytes}
+use Rattle.varint.proofs.Shortest.{length-64}
+use Rattle.emit.proofs.Low.{length-low}
+use Rattle.emit.proofs.Segments.{respelled}
+use Rattle.emit.proofs.Elements.{Counted, count-start, count-next, count-end, Owing, owing-start, owing-next, owing-end, owing-jump, each-at, each-end}
+use Rattle.emit.proofs.Cursor.put_varints.Statement.{statement}
+use Rattle.emit.proofs.Cursor.put_varints.Tie as tie
+use Rattle.emit.proofs.Cursor.put_varints.Reads as reads
+use Rattle.emit.proofs.Cursor.put_varints.Lts as lts
+use Rattle.emit.proofs.Cursor.put_varint.Reads as put-varint-reads
+
+abbrev Inv-loop : tie.InvT-loop
+Inv-loop buf₀ items cursor₀ i₀ buf cursor i = Owing cursor₀ buf₀ (each shortest items) cursor buf (each shortest (drop i items))
+
+abbrev μ-loop : tie.MeasureT-loop
+μ-loop buf₀ items cursor₀ i₀ buf cursor i = length items - i
+
+loop-holds : tie.Need-loop-holds Inv-loop μ-loop
+loop-holds c = owing-start _ _ _ (c .before .before .pre)
+
+mul-v : tie.Need-mul-v Inv-loop μ-loop
+mul-v c = search needs
+
+shared-slice-read-v : tie.Need-shared-slice-read-v Inv-loop μ-loop
+shared-slice-read-v c = search needs
+
+put-varint-requires : tie.Need-put-varint-requires Inv-loop μ-loop
+put-varint-requires c κs = search needs
+
+add-i : tie.Need-add-i Inv-loop μ-loop
+add-i c = search needs
+
+loop-less : tie.Need-loop-less Inv-loop μ-loop
+loop-less c = search needs
+
+loop-again : tie.Need-loop-again Inv-loop μ-loop
+loop-again c =
+    let l = c .before .before .before .before .before .before .loop in
+    owing-next _ _ _ _ _ _ (l .inv) _ _ _ _ (each-at shortest (c .before .before .before .before .before .before .before .before .before .args .items .now) (l .i) 0 (c .before .before .before .before .before .loop-test .taken)) (c .before .before .put-varint .ensures)
+
+same-length : tie.Need-same-length Inv-loop μ-loop
+same-length c = c .before .loop .inv .size
+
+returns : tie.Need-returns Inv-loop μ-loop
+returns c = owing-end _ _ _ _ _ _ (c .before .loop .inv) (each-end shortest _ _ (c .loop-test .left))
+
+pub put-varints-spec : {M : Type 1} → statement M
+put-varints-spec =
+    tie.close
+    (tie.spec
+    Inv-loop
+    μ-loop
+    loop-holds
+    mul-v
+    shared-slice-read-v
+    put-varint-requires
+    add-i
+    loop-less
+    loop-again
+    same-length
+    returns)

@@ -1,0 +1,6 @@
+-- `Writes` has the laws of a write that stops at the buffer's end, `Turns` those of a loop that writes.
+pub mod Writes
+pub mod Turns
+pub mod Low
+pub mod Segments
+pub mod Elements

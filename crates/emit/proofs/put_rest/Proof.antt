@@ -1,0 +1,91 @@
+-- `emit::put_rest`: a copy whose turns are counted beforehand, so that none tests for room.
+use Prim.Native.Nat.{ℕ, _+_, _-_, _≤_, _<_, min}
+use mathlib.Core.Path.{_≡_, refl, sym, ap, _∙_}
+use native.Mathlib.Omega.{arith}
+use lib.ListN.{length, drop, length-drop}
+use borrow.Author.Needs.{needs}
+use Rattle.emit.proofs.Turns.{Left, start, no-room, none-left, copied, copied-all, copy-start}
+use Rattle.emit.proofs.put_rest.Statement.{statement}
+use Rattle.emit.proofs.put_rest.Tie as tie
+use Rattle.emit.proofs.put_rest.Reads as reads
+use Rattle.emit.proofs.put_rest.Lts as lts
+use Rattle.emit.proofs.least.Reads as least-reads
+
+abbrev Inv-loop : tie.InvT-loop
+Inv-loop buf₀ pos bytes from n k₀ buf k = (pos ≤ length buf₀) × (from ≤ length bytes) × (n ≡ min (length bytes - from) (length buf₀ - pos)) × (k ≤ n) × Left buf₀ pos (drop from bytes) buf (pos + k) (drop (from + k) bytes)
+
+abbrev μ-loop : tie.MeasureT-loop
+μ-loop buf₀ pos bytes from n k₀ buf k = n - k
+
+returns : tie.Need-returns Inv-loop μ-loop
+returns c = no-room _ _ _ _ _ _ (start _ _ _) (c .if1 .taken)
+
+returns-2 : tie.Need-returns-2 Inv-loop μ-loop
+returns-2 c = none-left _ _ _ _ _ _ (start _ _ _) (omega (arith, length-drop (c .before .before .before .before .args .from) (c .before .before .before .before .args .bytes .now)))
+
+sub-least : tie.Need-sub-least Inv-loop μ-loop
+sub-least c = omega arith
+
+sub-least-2 : tie.Need-sub-least-2 Inv-loop μ-loop
+sub-least-2 c = omega arith
+
+least-requires : tie.Need-least-requires Inv-loop μ-loop
+least-requires c κs = search needs
+
+loop-holds : tie.Need-loop-holds Inv-loop μ-loop
+loop-holds c =
+    let a = c .before .before .before .before .before .args in
+    (omega arith, omega arith, c .least .ensures, omega arith, copy-start (a .buf .now) (a .pos) (a .bytes .now) (a .from))
+
+add-buf : tie.Need-add-buf Inv-loop μ-loop
+add-buf c = omega arith
+
+shared-slice-read-buf : tie.Need-shared-slice-read-buf Inv-loop μ-loop
+shared-slice-read-buf c = omega arith
+
+add-buf-2 : tie.Need-add-buf-2 Inv-loop μ-loop
+add-buf-2 c = omega arith
+
+slice-write-buf : tie.Need-slice-write-buf Inv-loop μ-loop
+slice-write-buf c = omega arith
+
+add-k : tie.Need-add-k Inv-loop μ-loop
+add-k c = omega arith
+
+loop-less : tie.Need-loop-less Inv-loop μ-loop
+loop-less c = omega arith
+
+loop-again : tie.Need-loop-again Inv-loop μ-loop
+loop-again c = let i = c .before .before .loop .inv in (i .0, i .1, i .2, omega arith, copied _ _ _ _ _ _ _ (i .4) (omega arith) (omega arith))
+
+add-result : tie.Need-add-result Inv-loop μ-loop
+add-result c = omega arith
+
+same-length : tie.Need-same-length Inv-loop μ-loop
+same-length c = c .before .loop .inv .4 .size
+
+returns-3 : tie.Need-returns-3 Inv-loop μ-loop
+returns-3 c = let i = c .before .loop .inv in copied-all _ _ _ _ _ _ _ (i .4) (omega arith) (i .0) (i .1)
+
+pub put-rest-spec : {M : Type 1} → statement M
+put-rest-spec =
+    tie.close
+    (tie.spec
+    Inv-loop
+    μ-loop
+    returns
+    returns-2
+    sub-least
+    sub-least-2
+    least-requires
+    loop-holds
+    add-buf
+    shared-slice-read-buf
+    add-buf-2
+    slice-write-buf
+    add-k
+    loop-less
+    loop-again
+    add-result
+    same-length
+    returns-3)

@@ -1,0 +1,74 @@
+-- `emit::varints_len`: lengths summed up, none of them above 10.
+use Prim.Native.Nat.{ℕ, _+_, _-_, _*_, _/_, _≤_, _<_, min}
+use mathlib.Core.Path.{_≡_, refl, sym, ap, _∙_}
+use native.Mathlib.Omega.{arith}
+use borrow.Author.Needs.{needs}
+use lib.ListN.{length, drop, getD}
+use Rattle.layout.specs.Varint.{shortest}
+use Rattle.layout.specs.Zigzag.{zigzag}
+use Rattle.layout.specs.Field.{each, lowBytes}
+use Rattle.varint.proofs.Shortest.{length-64}
+use Rattle.emit.proofs.Low.{length-low}
+use Rattle.emit.proofs.Segments.{respelled}
+use Rattle.emit.proofs.Elements.{Counted, count-start, count-next, count-end, Owing, owing-start, owing-next, owing-end, owing-jump, each-at, each-end}
+use Rattle.emit.proofs.varints_len.Statement.{statement}
+use Rattle.emit.proofs.varints_len.Tie as tie
+use Rattle.emit.proofs.varints_len.Reads as reads
+use Rattle.emit.proofs.varints_len.Lts as lts
+use Rattle.varint.proofs.varint_len.Reads as varint-len-reads
+
+abbrev Inv-loop : tie.InvT-loop
+Inv-loop items len₀ i₀ len i = (length items ≤ 2147483647) × Counted shortest 10 items len i
+
+abbrev μ-loop : tie.MeasureT-loop
+μ-loop items len₀ i₀ len i = length items - i
+
+short : (c : tie.After-varint-len Inv-loop μ-loop) → c .varint-len .result ≤ 10
+short c =
+    let i = c .before .before .before .loop .i in
+    let h = length-64 (getD (c .before .before .before .before .before .args .items .now) i 0) (c .before .shared-slice-known2 .given i .fits) in
+    let e = c .varint-len .ensures in
+    omega arith
+
+loop-holds : tie.Need-loop-holds Inv-loop μ-loop
+loop-holds c = (c .before .pre, count-start _ _ _)
+
+mul-v : tie.Need-mul-v Inv-loop μ-loop
+mul-v c = search needs
+
+shared-slice-read-v : tie.Need-shared-slice-read-v Inv-loop μ-loop
+shared-slice-read-v c = search needs
+
+varint-len-requires : tie.Need-varint-len-requires Inv-loop μ-loop
+varint-len-requires c κs = search needs
+
+add-len : tie.Need-add-len Inv-loop μ-loop
+add-len c = let m = c .before .before .before .loop .inv .1 .most in let h = short c in record { fits = omega arith }
+
+add-i : tie.Need-add-i Inv-loop μ-loop
+add-i c = search needs
+
+loop-less : tie.Need-loop-less Inv-loop μ-loop
+loop-less c = search needs
+
+loop-again : tie.Need-loop-again Inv-loop μ-loop
+loop-again c = let l = c .before .before .before .loop in (l .inv .0, count-next _ _ _ _ _ 0 _ (l .inv .1) (c .before .before .loop-test .taken) (c .varint-len .ensures) (short c))
+
+returns : tie.Need-returns Inv-loop μ-loop
+returns c = let l = c .before .loop in let m = l .inv .1 .most in let w = l .inv .1 .within in (count-end _ _ _ _ _ (l .inv .1) (c .loop-test .left), omega arith)
+
+pub varints-len-spec : {M : Type 1} → statement M
+varints-len-spec =
+    tie.close
+    (tie.spec
+    Inv-loop
+    μ-loop
+    loop-holds
+    mul-v
+    shared-slice-read-v
+    varint-len-requires
+    add-len
+    add-i
+    loop-less
+    loop-again
+    returns)

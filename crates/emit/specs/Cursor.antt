@@ -1,0 +1,15 @@
+-- A cursor in one call's output: `pos` is where its next byte stands in the buffer, and `skip` how many of the bytes still to come are
+-- out already, since the call goes on from a place. Each segment of the output moves it.
+use mathlib.Core.List.{List}
+use Prim.Native.Nat.{ℕ, _-_}
+use lib.ListN.{length, drop}
+use Rattle.emit.specs.declared.Cursor.{Cursor}
+use Rattle.emit.specs.Put.{put, reached}
+
+-- the buffer b after the segment s
+unfoldable pub placed : Cursor → List ℕ → List ℕ → List ℕ
+placed c b s = put b (c .pos) (drop (c .skip) s)
+
+-- the cursor after it
+unfoldable pub moved : Cursor → List ℕ → List ℕ → Cursor
+moved c b s = record { pos = reached b (c .pos) (drop (c .skip) s); skip = c .skip - length s }

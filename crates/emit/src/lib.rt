@@ -1,0 +1,248 @@
+// Emission: the bytes of one call's output, segment by segment, straight into the lent buffer as far as there is room.
+// A call that goes on from a place skips the bytes that are out already. Every write stops at the buffer's end, so a call may emit
+// all its segments with no test between them; how much went follows from the lengths.
+ghost use mathlib.Core.Path.{_≡_};
+ghost use Prim.Native.Nat.{_+_, _-_, _*_, _≤_, min};
+ghost use lib.ListN.{length, drop};
+use varint::varint_len;
+use varint::zigzag_encode;
+ghost use Rattle.layout.specs.Varint.{shortest};
+ghost use Rattle.layout.specs.Field.{lowBytes, each};
+ghost use Rattle.layout.specs.Zigzag.{zigzag};
+ghost use Rattle.emit.specs.Put.{put, reached};
+ghost use Rattle.emit.specs.Cursor.{placed, moved};
+
+// Where the output's next byte stands in the buffer, and how many bytes still to come are out already.
+pub struct Cursor {
+    pub pos: usize,
+    pub skip: usize,
+}
+
+// The varint of v from pos on; where it ends.
+fn put_whole(buf: &mut [u8], pos: usize, v: u64) -> usize
+    ensures { λ r. ⌜ (r ≡ reached (now (buf .entry)) pos (shortest v)) × (now (buf .exit) ≡ put (now (buf .entry)) pos (shortest v)) ⌝ }
+{
+    let mut rest = v;
+    let mut at = pos;
+    while at < buf.len() {
+        if rest < 128 {
+            buf[at] = rest as u8;
+            return at + 1;
+        }
+        buf[at] = (rest % 128 + 128) as u8;
+        rest = rest / 128;
+        at += 1;
+    }
+    at
+}
+
+fn least(a: usize, b: usize) -> usize
+    ensures { λ r. ⌜ r ≡ min a b ⌝ }
+{
+    if a < b { a } else { b }
+}
+
+// The given bytes from their place `from` on, from pos on; where they end.
+fn put_rest(buf: &mut [u8], pos: usize, bytes: &[u8], from: usize) -> usize
+    ensures { λ r. ⌜ (r ≡ reached (now (buf .entry)) pos (drop from (now (bytes .entry)))) × (now (buf .exit) ≡ put (now (buf .entry)) pos (drop from (now (bytes .entry)))) ⌝ }
+{
+    if buf.len() <= pos {
+        return pos;
+    }
+    if bytes.len() <= from {
+        return pos;
+    }
+    let n = least(bytes.len() - from, buf.len() - pos);
+    let mut k: usize = 0;
+    while k < n {
+        buf[pos + k] = bytes[from + k];
+        k += 1;
+    }
+    pos + k
+}
+
+// The n low bytes of x, low byte first, from pos on; where they end.
+fn put_low(buf: &mut [u8], pos: usize, x: u64, n: usize) -> usize
+    ensures { λ r. ⌜ (r ≡ reached (now (buf .entry)) pos (lowBytes n x)) × (now (buf .exit) ≡ put (now (buf .entry)) pos (lowBytes n x)) ⌝ }
+{
+    let mut rest = x;
+    let mut left = n;
+    let mut at = pos;
+    while at < buf.len() && 0 < left {
+        buf[at] = (rest % 256) as u8;
+        rest = rest / 256;
+        left -= 1;
+        at += 1;
+    }
+    at
+}
+
+impl Cursor {
+    // The varint of v.
+    pub fn put_varint(self, buf: &mut [u8], v: u64) -> Cursor
+        ensures { λ r. ⌜ (r ≡ moved self (now (buf .entry)) (shortest v)) × (now (buf .exit) ≡ placed self (now (buf .entry)) (shortest v)) ⌝ }
+    {
+        let pos = self.pos;
+        let skip = self.skip;
+        if skip == 0 {
+            let end = put_whole(buf, pos, v);
+            return Cursor { pos: end, skip: 0 };
+        }
+        let len = varint_len(v);
+        if len <= skip {
+            return Cursor {
+                pos,
+                skip: skip - len,
+            };
+        }
+        let end = put_whole(buf, pos, v >> (skip * 7));
+        Cursor { pos: end, skip: 0 }
+    }
+
+    // Bytes that go as they are.
+    pub fn put_bytes(self, buf: &mut [u8], bytes: &[u8]) -> Cursor
+        ensures { λ r. ⌜ (r ≡ moved self (now (buf .entry)) (now (bytes .entry))) × (now (buf .exit) ≡ placed self (now (buf .entry)) (now (bytes .entry))) ⌝ }
+    {
+        let pos = self.pos;
+        let skip = self.skip;
+        let end = put_rest(buf, pos, bytes, skip);
+        if bytes.len() < skip {
+            return Cursor {
+                pos: end,
+                skip: skip - bytes.len(),
+            };
+        }
+        Cursor { pos: end, skip: 0 }
+    }
+
+    // The n low bytes of x, low byte first.
+    fn put_bits(self, buf: &mut [u8], x: u64, n: usize) -> Cursor
+        requires { ⌜ n ≤ 8 ⌝ }
+        ensures { λ r. ⌜ (r ≡ moved self (now (buf .entry)) (lowBytes n x)) × (now (buf .exit) ≡ placed self (now (buf .entry)) (lowBytes n x)) ⌝ }
+    {
+        let pos = self.pos;
+        let skip = self.skip;
+        if n <= skip {
+            return Cursor {
+                pos,
+                skip: skip - n,
+            };
+        }
+        let end = put_low(buf, pos, x >> (skip * 8), n - skip);
+        Cursor { pos: end, skip: 0 }
+    }
+
+    // A float of 32 bits.
+    pub fn put_fp32(self, buf: &mut [u8], bits: u32) -> Cursor
+        ensures { λ r. ⌜ (r ≡ moved self (now (buf .entry)) (lowBytes 4 bits)) × (now (buf .exit) ≡ placed self (now (buf .entry)) (lowBytes 4 bits)) ⌝ }
+    {
+        self.put_bits(buf, bits as u64, 4)
+    }
+
+    // A float of 64 bits.
+    pub fn put_fp64(self, buf: &mut [u8], bits: u64) -> Cursor
+        ensures { λ r. ⌜ (r ≡ moved self (now (buf .entry)) (lowBytes 8 bits)) × (now (buf .exit) ≡ placed self (now (buf .entry)) (lowBytes 8 bits)) ⌝ }
+    {
+        self.put_bits(buf, bits, 8)
+    }
+
+    // The varints of an unsigned array's elements.
+    pub fn put_varints(self, buf: &mut [u8], items: &[u64]) -> Cursor
+        requires { ⌜ self .pos ≤ length (now buf) ⌝ }
+        ensures { λ r. ⌜ (r ≡ moved self (now (buf .entry)) (each shortest (now (items .entry)))) × (now (buf .exit) ≡ placed self (now (buf .entry)) (each shortest (now (items .entry)))) ⌝ }
+    {
+        let mut cursor = self;
+        let mut i: usize = 0;
+        while i < items.len() {
+            let v = items[i];
+            cursor = cursor.put_varint(buf, v);
+            i += 1;
+        }
+        cursor
+    }
+
+    // The varints of a signed array's elements.
+    pub fn put_zigzags(self, buf: &mut [u8], items: &[i64]) -> Cursor
+        requires { ⌜ self .pos ≤ length (now buf) ⌝ }
+        ensures { λ r. ⌜ (r ≡ moved self (now (buf .entry)) (each (λ z. shortest (zigzag z)) (now (items .entry)))) × (now (buf .exit) ≡ placed self (now (buf .entry)) (each (λ z. shortest (zigzag z)) (now (items .entry)))) ⌝ }
+    {
+        let mut cursor = self;
+        let mut i: usize = 0;
+        while i < items.len() {
+            let v = items[i];
+            cursor = cursor.put_varint(buf, zigzag_encode(v));
+            i += 1;
+        }
+        cursor
+    }
+
+    // The elements of a float array of 32 bits, by their bits; those that are out already are not looked at.
+    pub fn put_fp32s(self, buf: &mut [u8], items: &[u32]) -> Cursor
+        requires { ⌜ self .pos ≤ length (now buf) ⌝ }
+        ensures { λ r. ⌜ (r ≡ moved self (now (buf .entry)) (each (lowBytes 4) (now (items .entry)))) × (now (buf .exit) ≡ placed self (now (buf .entry)) (each (lowBytes 4) (now (items .entry)))) ⌝ }
+    {
+        let pos = self.pos;
+        let skip = self.skip;
+        let mut i = least(skip / 4, items.len());
+        let mut cursor = Cursor {
+            pos,
+            skip: skip - i * 4,
+        };
+        while i < items.len() {
+            let bits = items[i];
+            cursor = cursor.put_fp32(buf, bits);
+            i += 1;
+        }
+        cursor
+    }
+
+    // The elements of a float array of 64 bits.
+    pub fn put_fp64s(self, buf: &mut [u8], items: &[u64]) -> Cursor
+        requires { ⌜ self .pos ≤ length (now buf) ⌝ }
+        ensures { λ r. ⌜ (r ≡ moved self (now (buf .entry)) (each (lowBytes 8) (now (items .entry)))) × (now (buf .exit) ≡ placed self (now (buf .entry)) (each (lowBytes 8) (now (items .entry)))) ⌝ }
+    {
+        let pos = self.pos;
+        let skip = self.skip;
+        let mut i = least(skip / 8, items.len());
+        let mut cursor = Cursor {
+            pos,
+            skip: skip - i * 8,
+        };
+        while i < items.len() {
+            let bits = items[i];
+            cursor = cursor.put_fp64(buf, bits);
+            i += 1;
+        }
+        cursor
+    }
+}
+
+// How many bytes the varints of an unsigned array's elements take.
+pub fn varints_len(items: &[u64]) -> usize
+    requires { ⌜ length (now items) ≤ 2147483647 ⌝ }
+    ensures { λ r. ⌜ (r ≡ length (each shortest (now (items .entry)))) × (r ≤ 10 * length (now (items .entry))) ⌝ }
+{
+    let mut len: usize = 0;
+    let mut i: usize = 0;
+    while i < items.len() {
+        let v = items[i];
+        len += varint_len(v);
+        i += 1;
+    }
+    len
+}
+
+// The same of a signed array's.
+pub fn zigzags_len(items: &[i64]) -> usize
+    requires { ⌜ length (now items) ≤ 2147483647 ⌝ }
+    ensures { λ r. ⌜ (r ≡ length (each (λ z. shortest (zigzag z)) (now (items .entry)))) × (r ≤ 10 * length (now (items .entry))) ⌝ }
+{
+    let mut len: usize = 0;
+    let mut i: usize = 0;
+    while i < items.len() {
+        let v = items[i];
+        len += varint_len(zigzag_encode(v));
+        i += 1;
+    }
+    len
+}

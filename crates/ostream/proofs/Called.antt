@@ -1,0 +1,134 @@
+-- The three ways that a call ends, and what a sound state is known to be.
+use mathlib.Core.Path.{_≡_, refl, sym, ap, _∙_, subst}
+use mathlib.Core.List.{List, [], _∷_, _++_, append-assoc}
+use mathlib.Core.Bool.{Bool, true, false, _&&_, not}
+use Prim.Native.Nat.{ℕ, zero, suc, _+_, _-_, _≤_, _<_}
+use native.Mathlib.Omega.{arith}
+use lib.Dec.{leb, eqb, ltb}
+use lib.ListN.{length, take, drop, length-drop}
+use borrow.Author.Tests.{leb-true, lt-ltb, le-ltb, not-true, not-false}
+use Rattle.layout.specs.Limits.{base, pick}
+use Rattle.layout.specs.Field.{header, each, T-begin}
+use Rattle.types.specs.declared.Error.{Error}
+use Rattle.types.specs.declared.Error.the-variants.{PlaceBeyond}
+use Rattle.emit.specs.declared.Cursor.{Cursor}
+use Rattle.emit.specs.Put.{put}
+use Rattle.emit.specs.Cursor.{placed, moved}
+use Rattle.emit.proofs.Writes.{put-none}
+use Rattle.emit.proofs.Segments.{Emitted}
+use Rattle.ostream.specs.declared.OStream.{OStream}
+use Rattle.ostream.specs.declared.Written.{Written}
+use Rattle.ostream.specs.Stream.{every, soundStream, lazyDepth, heldBytes}
+use Rattle.ostream.specs.Emission.{Call, Verdict, accepted, refusedWith, judged, refused, answered, left, start, calledBy, leavesBy, called, leaves}
+
+-- ---- a sound state
+
+pub record Sound (s : OStream) (size : ℕ) : Type 0 where
+  pub inside : s .offset ≤ size
+  pub few : s .npending ≤ lazyDepth
+  pub nested : s .npending ≤ s .depth
+  pub shallow : s .depth ≤ base .depth
+  pub legal : every (λ x. leb x (base .id)) (take (s .npending) (s .pending)) ≡ true
+  pub zeros : every (λ x. eqb x 0) (drop (s .npending) (s .pending)) ≡ true
+
+pub both : (a b : Bool) → (a && b) ≡ true → (a ≡ true) × (b ≡ true)
+both true b e = (refl, e)
+both false b e = let z : _≡_ {A = ℕ} 0 1 = cc in absurd (omega arith)
+
+pub is-sound : (s : OStream) (size : ℕ) → soundStream s size ≡ true → Sound s size
+unfolding soundStream
+is-sound s size e =
+    let a = both _ _ e in
+    let b = both _ _ (a .1) in
+    let c = both _ _ (b .1) in
+    let d = both _ _ (c .1) in
+    let f = both _ _ (d .1) in
+    record { inside = leb-true _ _ (a .0); few = leb-true _ _ (b .0); nested = leb-true _ _ (c .0); shallow = leb-true _ _ (d .0); legal = f .0; zeros = f .1 }
+
+-- ---- the buffer after an output
+
+answered-beyond : (s : OStream) (size total place : ℕ) (next : OStream) → total < place → refused s PlaceBeyond ≡ answered s size total place next
+unfolding answered
+answered-beyond s size total place next l = sym (simp (lt-ltb _ _ l))
+
+abbrev pub Sent : OStream → List ℕ → List ℕ → ℕ → OStream → Written → List ℕ → Type 0
+Sent s b o place next r b′ = (r ≡ answered s (length b) (length o) place next) × (b′ ≡ left s b o place)
+
+module _ (s : OStream) (b o : List ℕ) (place : ℕ) where
+  pub left-beyond : length o < place → b ≡ left s b o place
+  unfolding left
+  left-beyond l = sym (simp (lt-ltb _ _ l))
+
+  pub left-emitted : (c′ : Cursor) (b′ : List ℕ) → place ≤ length o → Emitted (start s place) b o c′ b′ → b′ ≡ left s b o place
+  unfolding left placed
+  left-emitted c′ b′ l e = e .1 ∙ sym (simp (le-ltb _ _ l))
+
+  pub left-nothing : length o ≡ 0 → b ≡ left s b o place
+  unfolding left
+  left-nothing z = go (ltb (length o) place) refl
+    where
+      go : (t : Bool) → ltb (length o) place ≡ t → b ≡ pick t b (put b (s .offset) (drop place o))
+      go true e = refl
+      go false e = let d : length (drop place o) ≡ 0 = omega (arith, length-drop place o) in sym (put-none b (s .offset) (drop place o) d)
+
+-- ---- how a call ends
+
+module _ (k : Call) (s : OStream) (b : List ℕ) (place : ℕ) (r : Written) where
+  pub refuses : (e : Error) → judged (k .tests) ≡ refusedWith e → r ≡ refused s e → (r ≡ called k s b place) × (b ≡ leaves k s b place)
+  unfolding called leaves calledBy leavesBy
+  refuses e j h = (h ∙ sym (ap (λ (v : Verdict). calledBy v k s b place) j), sym (ap (λ (v : Verdict). leavesBy v k s b place) j))
+
+  pub accepts : (b′ : List ℕ) → judged (k .tests) ≡ accepted → Sent s b (k .output) place (k .done) r b′ → (r ≡ called k s b place) × (b′ ≡ leaves k s b place)
+  unfolding called leaves calledBy leavesBy
+  accepts b′ j (h, e) = (h ∙ sym (ap (λ (v : Verdict). calledBy v k s b place) j), e ∙ sym (ap (λ (v : Verdict). leavesBy v k s b place) j))
+
+  -- the same for an output and a state that are spelled otherwise
+  pub accepts-as : (o : List ℕ) (next : OStream) (b′ : List ℕ) → o ≡ k .output → next ≡ k .done → judged (k .tests) ≡ accepted → Sent s b o place next r b′
+      → (r ≡ called k s b place) × (b′ ≡ leaves k s b place)
+  accepts-as o next b′ eo en j (h, e) =
+      accepts b′ j (
+        h ∙ ap (λ (x : List ℕ). answered s (length b) (length x) place next) eo ∙ ap (λ (n : OStream). answered s (length b) (length (k .output)) place n) en,
+        e ∙ ap (λ (x : List ℕ). left s b x place) eo,
+      )
+
+  pub beyond : judged (k .tests) ≡ accepted → length (k .output) < place → r ≡ refused s PlaceBeyond → (r ≡ called k s b place) × (b ≡ leaves k s b place)
+  beyond j l h = accepts b j (h ∙ is-beyond, left-beyond s b (k .output) place l)
+    where
+      is-beyond : refused s PlaceBeyond ≡ answered s (length b) (length (k .output)) place (k .done)
+      is-beyond = answered-beyond s (length b) (length (k .output)) place (k .done) l
+
+  -- all of the output goes to the emission
+  pub sends : (b′ : List ℕ) (c′ : Cursor) → judged (k .tests) ≡ accepted → place ≤ length (k .output) → r ≡ answered s (length b) (length (k .output)) place (k .done)
+      → Emitted (start s place) b (k .output) c′ b′ → (r ≡ called k s b place) × (b′ ≡ leaves k s b place)
+  sends b′ c′ j l h e = accepts b′ j (h, left-emitted s b (k .output) place c′ b′ l e)
+
+-- ---- what the code's tests say
+
+pub tested-unsound : (t : Bool) (s : OStream) (size : ℕ) → t ≡ soundStream s size → not t ≡ true → soundStream s size ≡ false
+tested-unsound t s size e h = sym e ∙ not-true t h
+
+pub tested-sound : (t : Bool) (s : OStream) (size : ℕ) → t ≡ soundStream s size → not t ≡ false → soundStream s size ≡ true
+tested-sound t s size e h = sym e ∙ not-false t h
+
+-- none held, no header
+pub none-held : (s : OStream) → s .npending ≡ 0 → heldBytes s ≡ []
+unfolding heldBytes each
+none-held s e = ap (λ (n : ℕ). each (λ id. header id T-begin) (take n (s .pending))) e
+
+-- held headers, a field's header and the varint after it, and the rest
+pub grouped : (held a b c : List ℕ) → held ++ (a ++ b) ++ c ≡ held ++ (a ++ (b ++ c))
+grouped held a b c = append-assoc held (a ++ b) c ∙ ap (λ (l : List ℕ). held ++ l) (append-assoc a b c)
+
+-- two calls that come to the same
+pub recalled : (k k′ : Call) (s : OStream) (b : List ℕ) (place : ℕ) → judged (k .tests) ≡ judged (k′ .tests) → k .output ≡ k′ .output → k .done ≡ k′ .done
+    → (r : Written) (b′ : List ℕ) → (r ≡ called k s b place) × (b′ ≡ leaves k s b place) → (r ≡ called k′ s b place) × (b′ ≡ leaves k′ s b place)
+unfolding called leaves calledBy leavesBy
+recalled k k′ s b place j o d r b′ (e, f) = (e ∙ ap (λ (v : Verdict). calledBy v k s b place) j ∙ answers (judged (k′ .tests)), f ∙ ap (λ (v : Verdict). leavesBy v k s b place) j ∙ buffers (judged (k′ .tests)))
+  where
+    answers : (v : Verdict) → calledBy v k s b place ≡ calledBy v k′ s b place
+    answers accepted = ap (λ (l : List ℕ). answered s (length b) (length l) place (k .done)) o ∙ ap (λ (n : OStream). answered s (length b) (length (k′ .output)) place n) d
+    answers (refusedWith e) = refl
+
+    buffers : (v : Verdict) → leavesBy v k s b place ≡ leavesBy v k′ s b place
+    buffers accepted = ap (λ (l : List ℕ). left s b l place) o
+    buffers (refusedWith e) = refl

@@ -1,0 +1,26 @@
+-- `ostream::OStream::commit`: the places that were used are cleared.
+use mathlib.Core.Path.{_≡_, sym, ap, _∙_}
+use mathlib.Core.List.{List}
+use Prim.Native.Nat.{ℕ}
+use borrow.Author.Needs.{needs}
+use Rattle.ostream.specs.Stream.{committed}
+use Rattle.ostream.proofs.OStream.commit.Statement.{statement}
+use Rattle.ostream.proofs.OStream.commit.Tie as tie
+use Rattle.ostream.proofs.OStream.commit.Reads as reads
+use Rattle.ostream.proofs.OStream.commit.Lts as lts
+use Rattle.ostream.proofs.clear.Reads as clear-reads
+
+cast-clear : tie.Need-cast-clear
+cast-clear c = search needs
+
+clear-requires : tie.Need-clear-requires
+clear-requires c κs = search needs
+
+returns : tie.Need-returns
+unfolding committed
+returns c =
+    let a = c .before .before .before .args in
+    ap (λ (l : List ℕ). record { offset = a .self .offset; depth = a .depth; pending = l; npending = 0 }) (c .clear .ensures)
+
+pub commit-spec : {M : Type 1} → statement M
+commit-spec = tie.close (tie.spec cast-clear clear-requires returns)

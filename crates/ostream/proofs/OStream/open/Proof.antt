@@ -1,0 +1,40 @@
+-- `ostream::OStream::open`: refused, or a writer at the offset.
+use mathlib.Core.Path.{_≡_, sym, ap, _∙_}
+use borrow.Author.Needs.{needs}
+use Rattle.types.specs.declared.Error.the-variants.{BadBuffer}
+use Rattle.ostream.specs.declared.OStream.{OStream}
+use Rattle.ostream.specs.declared.Answer.the-variants.{Done}
+use Rattle.ostream.specs.Emission.{refused}
+use Rattle.ostream.specs.Buffer.{opening}
+use Rattle.ostream.proofs.OStream.open.Statement.{statement}
+use Rattle.ostream.proofs.OStream.open.Tie as tie
+use Rattle.ostream.proofs.OStream.open.Reads as reads
+use Rattle.ostream.proofs.OStream.open.Lts as lts
+use Rattle.ostream.proofs.OStream.install.Reads as install-reads
+use Rattle.ostream.proofs.OStream.refuse.Reads as refuse-reads
+use Rattle.ostream.proofs.unfit.Reads as unfit-reads
+
+unfit-requires : tie.Need-unfit-requires
+unfit-requires c κs = search needs
+
+install-requires : tie.Need-install-requires
+install-requires c κs = search needs
+
+refuse-requires : tie.Need-refuse-requires
+refuse-requires c κs = search needs
+
+install-requires-2 : tie.Need-install-requires-2
+install-requires-2 c κs = search needs
+
+returns : tie.Need-returns
+unfolding opening
+returns c = simp (sym (c .before .before .before .unfit .ensures) ∙ c .before .before .if1 .taken) (c .refuse .ensures ∙ ap (λ (s : OStream). refused s BadBuffer) (c .before .install .ensures))
+
+returns-2 : tie.Need-returns-2
+unfolding opening
+returns-2 c = simp (sym (c .before .before .unfit .ensures) ∙ c .before .if1 .left) (ap (λ (s : OStream). record { answer = Done; stream = s }) (c .install2 .ensures))
+
+pub open-spec : {M : Type 1} → statement M
+open-spec =
+    tie.close
+    (tie.spec unfit-requires install-requires refuse-requires install-requires-2 returns returns-2)

@@ -1,0 +1,89 @@
+-- `ostream::OStream::put_held`: the held headers, one after another.
+use Prim.Native.Nat.{ℕ, _+_, _-_, _*_, _≤_, _<_}
+use mathlib.Core.Path.{_≡_, refl, sym, ap, _∙_}
+use mathlib.Core.List.{List, _++_}
+use native.Mathlib.Omega.{arith}
+use borrow.Author.Needs.{needs}
+use lib.ListN.{length, take, drop, getD}
+use lib.Seq.{length-take-le, getD-take}
+use Rattle.layout.specs.Varint.{shortest}
+use Rattle.layout.specs.Field.{header, each, T-begin}
+use Rattle.emit.proofs.Elements.{Owing, owing-start, owing-next, owing-end, each-at, each-end}
+use Rattle.emit.proofs.Segments.{respelled}
+use Rattle.ostream.specs.Stream.{heldBytes}
+use Rattle.ostream.proofs.OStream.put_held.Statement.{statement}
+use Rattle.ostream.proofs.OStream.put_held.Tie as tie
+use Rattle.ostream.proofs.OStream.put_held.Reads as reads
+use Rattle.ostream.proofs.OStream.put_held.Lts as lts
+use Rattle.emit.proofs.Cursor.put_varint.Reads as put-varint-reads
+use Rattle.ostream.proofs.tagged.Reads as tagged-reads
+
+abbrev Inv-loop : tie.InvT-loop
+Inv-loop buf₀ place pending held cursor₀ i₀ buf cursor i = (held ≤ 8) × (length pending ≡ 8) × (i ≤ held) × Owing cursor₀ buf₀ (each (λ id. header id T-begin) (take held pending)) cursor buf (each (λ id. header id T-begin) (drop i (take held pending)))
+
+abbrev μ-loop : tie.MeasureT-loop
+μ-loop buf₀ place pending held cursor₀ i₀ buf cursor i = held - i
+
+cast-held : tie.Need-cast-held Inv-loop μ-loop
+cast-held c = search needs
+
+loop-holds : tie.Need-loop-holds Inv-loop μ-loop
+loop-holds c = (search needs, search needs, omega arith, owing-start _ _ _ (c .before .before .before .pre .1))
+
+mul-id : tie.Need-mul-id Inv-loop μ-loop
+mul-id c = search needs
+
+array-read-id : tie.Need-array-read-id Inv-loop μ-loop
+array-read-id c = search needs
+
+tagged-requires : tie.Need-tagged-requires Inv-loop μ-loop
+tagged-requires c κs = search needs
+
+put-varint-requires : tie.Need-put-varint-requires Inv-loop μ-loop
+put-varint-requires c κs = search needs
+
+add-i : tie.Need-add-i Inv-loop μ-loop
+add-i c = search needs
+
+loop-less : tie.Need-loop-less Inv-loop μ-loop
+loop-less c = search needs
+
+loop-again : tie.Need-loop-again Inv-loop μ-loop
+loop-again c =
+    let l = c .before .before .before .before .before .before .loop in
+    let a = c .before .before .before .before .before .before .before .before .before .before .args .self in
+    let n : length (take (a .npending) (a .pending)) ≡ a .npending = length-take-le _ _ (omega arith) in
+    let g = getD-take (a .npending) (a .pending) (l .i) 0 (c .before .before .before .before .before .loop-test .taken) in
+    let h = each-at (λ id. header id T-begin) (take (a .npending) (a .pending)) (l .i) 0 (omega arith) in
+    let v = ap shortest (c .before .before .before .tagged .ensures ∙ ap (λ (x : ℕ). x * 8 + 6) (sym g)) in
+    let e = c .before .before .put-varint .ensures in
+    (l .inv .0, l .inv .1, omega arith, owing-next _ _ _ _ _ _ (l .inv .3) _ _ _ _ h (respelled _ _ _ _ _ _ v e))
+
+same-length : tie.Need-same-length Inv-loop μ-loop
+same-length c = c .before .loop .inv .3 .size
+
+returns : tie.Need-returns Inv-loop μ-loop
+unfolding heldBytes
+returns c =
+    let l = c .before .loop in
+    let a = c .before .before .before .before .before .args .self in
+    let n : length (take (a .npending) (a .pending)) ≡ a .npending = length-take-le _ _ (omega arith) in
+    owing-end _ _ _ _ _ _ (l .inv .3) (each-end _ (take (a .npending) (a .pending)) (l .i) (omega arith))
+
+pub put-held-spec : {M : Type 1} → statement M
+put-held-spec =
+    tie.close
+    (tie.spec
+    Inv-loop
+    μ-loop
+    cast-held
+    loop-holds
+    mul-id
+    array-read-id
+    tagged-requires
+    put-varint-requires
+    add-i
+    loop-less
+    loop-again
+    same-length
+    returns)

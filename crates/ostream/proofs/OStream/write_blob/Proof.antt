@@ -1,0 +1,22 @@
+-- `ostream::OStream::write_blob`: the layout's bytes of the field.
+use borrow.Author.Needs.{needs}
+use Rattle.layout.specs.Copy.{fieldBytes}
+use Rattle.ostream.specs.Calls.{fixlenBytes}
+use Rattle.ostream.proofs.OStream.write_blob.Statement.{statement}
+use Rattle.ostream.proofs.OStream.write_blob.Tie as tie
+use Rattle.ostream.proofs.OStream.write_blob.Reads as reads
+use Rattle.ostream.proofs.OStream.write_blob.Lts as lts
+use Rattle.ostream.proofs.OStream.write_fixlen_raw.Reads as write-fixlen-raw-reads
+
+write-fixlen-raw-requires : tie.Need-write-fixlen-raw-requires
+write-fixlen-raw-requires c κs = search needs
+
+same-length : tie.Need-same-length
+same-length c = search needs
+
+returns : tie.Need-returns
+unfolding fieldBytes fixlenBytes
+returns c = c .before .before .write-fixlen-raw .ensures
+
+pub write-blob-spec : {M : Type 1} → statement M
+write-blob-spec = tie.close (tie.spec write-fixlen-raw-requires same-length returns)

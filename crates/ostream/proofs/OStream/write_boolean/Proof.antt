@@ -1,0 +1,34 @@
+-- `ostream::OStream::write_boolean`: an unsigned field of the bit.
+use Prim.Native.Nat.{ℕ}
+use mathlib.Core.Path.{_≡_, sym, ap, _∙_, subst}
+use borrow.Author.Needs.{needs}
+use lib.ListN.{length}
+use Rattle.ostream.specs.Emission.{called, leaves}
+use Rattle.ostream.specs.Calls.{unsignedCall}
+use Rattle.ostream.proofs.OStream.write_boolean.Statement.{statement}
+use Rattle.ostream.proofs.OStream.write_boolean.Tie as tie
+use Rattle.ostream.proofs.OStream.write_boolean.Reads as reads
+use Rattle.ostream.proofs.OStream.write_boolean.Lts as lts
+use Rattle.ostream.proofs.OStream.write_unsigned.Reads as write-unsigned-reads
+use Rattle.ostream.proofs.bit.Reads as bit-reads
+
+bit-requires : tie.Need-bit-requires
+bit-requires c κs = search needs
+
+write-unsigned-requires : tie.Need-write-unsigned-requires
+write-unsigned-requires c κs = search needs
+
+same-length : tie.Need-same-length
+same-length c = search needs
+
+returns : tie.Need-returns
+returns c =
+    let a = c .before .before .before .before .before .before .args in
+    let e = c .before .before .write-unsigned .ensures in
+    let b = c .before .before .before .bit .ensures in (
+      e .0 ∙ ap (λ (n : ℕ). called (unsignedCall (a .self) (length (a .buf .now)) (a .id) n) (a .self) (a .buf .now) (a .place)) b,
+      e .1 ∙ ap (λ (n : ℕ). leaves (unsignedCall (a .self) (length (a .buf .now)) (a .id) n) (a .self) (a .buf .now) (a .place)) b,
+    )
+
+pub write-boolean-spec : {M : Type 1} → statement M
+write-boolean-spec = tie.close (tie.spec bit-requires write-unsigned-requires same-length returns)

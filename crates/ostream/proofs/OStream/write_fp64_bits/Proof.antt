@@ -1,0 +1,38 @@
+-- `ostream::OStream::write_fp64_bits`: the layout's bytes of the field, from the float's own.
+use borrow.Author.Needs.{needs}
+use lib.ListN.{length}
+use Rattle.layout.specs.Field.{fp64}
+use Rattle.ostream.proofs.Floats.{float-call}
+use Rattle.ostream.proofs.OStream.write_fp64_bits.Statement.{statement}
+use Rattle.ostream.proofs.OStream.write_fp64_bits.Tie as tie
+use Rattle.ostream.proofs.OStream.write_fp64_bits.Reads as reads
+use Rattle.ostream.proofs.OStream.write_fp64_bits.Lts as lts
+use Rattle.ostream.proofs.OStream.write_fixlen_raw.Reads as write-fixlen-raw-reads
+use Rattle.ostream.proofs.le64.Reads as le64-reads
+
+le64-requires : tie.Need-le64-requires
+le64-requires c κs = search needs
+
+slice-aggregate-write-fixlen-raw : tie.Need-slice-aggregate-write-fixlen-raw
+slice-aggregate-write-fixlen-raw c = search needs
+
+write-fixlen-raw-requires : tie.Need-write-fixlen-raw-requires
+write-fixlen-raw-requires c κs = search needs
+
+same-length : tie.Need-same-length
+same-length c = search needs
+
+returns : tie.Need-returns
+returns c =
+    let a = c .before .before .before .before .before .before .before .args in
+    float-call fp64 (a .self) (a .buf .now) (length (a .buf .now)) (a .place) (a .id) (a .bits) (c .before .before .before .before .before .le64 .result) (c .before .before .before .before .before .le64 .ensures) _ _ (c .before .before .write-fixlen-raw .ensures)
+
+pub write-fp64-bits-spec : {M : Type 1} → statement M
+write-fp64-bits-spec =
+    tie.close
+    (tie.spec
+    le64-requires
+    slice-aggregate-write-fixlen-raw
+    write-fixlen-raw-requires
+    same-length
+    returns)

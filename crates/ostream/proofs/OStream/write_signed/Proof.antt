@@ -1,0 +1,40 @@
+-- `ostream::OStream::write_signed`: the layout's bytes of the field.
+use Prim.Native.Nat.{ℕ}
+use mathlib.Core.Path.{_≡_, sym, ap, _∙_, subst}
+use borrow.Author.Needs.{needs}
+use lib.ListN.{length}
+use mir.Syntax.{w64}
+use mir.ValLaws.{toZ-ofZ}
+use Rattle.layout.specs.Zigzag.{zigzag}
+use Rattle.layout.specs.Copy.{fieldBytes}
+use Rattle.ostream.specs.Emission.{called, leaves}
+use Rattle.ostream.specs.Calls.{varintCall}
+use Rattle.ostream.proofs.OStream.write_signed.Statement.{statement}
+use Rattle.ostream.proofs.OStream.write_signed.Tie as tie
+use Rattle.ostream.proofs.OStream.write_signed.Reads as reads
+use Rattle.ostream.proofs.OStream.write_signed.Lts as lts
+use Rattle.ostream.proofs.OStream.write_varint.Reads as write-varint-reads
+use Rattle.varint.proofs.zigzag_encode.Reads as zigzag-encode-reads
+
+zigzag-encode-requires : tie.Need-zigzag-encode-requires
+zigzag-encode-requires c κs = search needs
+
+write-varint-requires : tie.Need-write-varint-requires
+write-varint-requires c κs = search needs
+
+same-length : tie.Need-same-length
+same-length c = search needs
+
+returns : tie.Need-returns
+unfolding fieldBytes
+returns c =
+    let a = c .before .before .before .before .before .before .args in
+    let e = c .before .before .write-varint .ensures in
+    let b = c .before .before .before .zigzag-encode .ensures ∙ ap zigzag (toZ-ofZ w64 (a .value) (c .before .before .before .before .before .before .fits .value)) in (
+      e .0 ∙ ap (λ (n : ℕ). called (varintCall (a .self) (length (a .buf .now)) (a .id) 1 n) (a .self) (a .buf .now) (a .place)) b,
+      e .1 ∙ ap (λ (n : ℕ). leaves (varintCall (a .self) (length (a .buf .now)) (a .id) 1 n) (a .self) (a .buf .now) (a .place)) b,
+    )
+
+pub write-signed-spec : {M : Type 1} → statement M
+write-signed-spec =
+    tie.close (tie.spec zigzag-encode-requires write-varint-requires same-length returns)

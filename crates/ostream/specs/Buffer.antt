@@ -1,0 +1,46 @@
+-- The calls about buffers: opening, draining, and changing the buffer.
+use mathlib.Core.Bool.{Bool, true, false}
+use mathlib.Core.List.{List, [], _∷_}
+use Prim.Native.Nat.{ℕ}
+use lib.Dec.{leb, ltb}
+use lib.ListN.{length, take}
+use Rattle.layout.specs.Limits.{pick}
+use Rattle.types.specs.declared.Error.{Error}
+use Rattle.types.specs.declared.Error.the-variants.{BadBuffer}
+use Rattle.ostream.specs.declared.OStream.{OStream}
+use Rattle.ostream.specs.declared.Answer.the-variants.{Done}
+use Rattle.ostream.specs.declared.Written.{Written}
+use Rattle.ostream.specs.declared.Count.the-variants.{Bytes, Refused}
+use Rattle.ostream.specs.declared.Counted.{Counted}
+use Rattle.ostream.specs.Stream.{at, opened}
+use Rattle.ostream.specs.Emission.{Test, Verdict, accepted, refusedWith, judged, refused}
+use Rattle.ostream.specs.Calls.{unsound}
+
+-- "Number 5: an opening offset exceeds the buffer, or a writer to be drained would have no byte free."
+abbrev pub badBuffer : ℕ → ℕ → Bool → Test
+badBuffer size offset drained = record { fails = pick drained (leb size offset) (ltb size offset); error = BadBuffer }
+
+-- "Opening at offset o leaves the buffer's first o bytes as they came." Where it is refused the state is that of a writer at 0.
+abbrev pub openedBy : Verdict → ℕ → Written
+openedBy accepted offset = record { answer = Done; stream = opened offset }
+openedBy (refusedWith e) offset = refused (opened 0) e
+
+unfoldable pub opening : ℕ → ℕ → Bool → Written
+opening size offset drained = openedBy (judged (badBuffer size offset drained ∷ [])) offset
+
+-- The old position is answered, and the state is at another.
+abbrev pub countedBy : Verdict → OStream → ℕ → Counted
+countedBy accepted s pos = record { answer = Bytes (s .offset); stream = at s pos }
+countedBy (refusedWith e) s pos = record { answer = Refused e; stream = s }
+
+-- A drain: "the bytes below the position" are sent, "after which writing starts at 0".
+unfoldable pub draining : OStream → ℕ → Counted
+draining s size = countedBy (judged (unsound s size ∷ [])) s 0
+
+abbrev pub sent : OStream → List ℕ → List ℕ
+sent s b = take (s .offset) b
+
+-- "Changing the buffer keeps depth and held ids, sets the position to the new offset, and answers the old position. Number 5 judges
+-- the new buffer there, then number 6 the state by the old one."
+unfoldable pub changing : OStream → ℕ → ℕ → ℕ → Bool → Counted
+changing s old new offset drained = countedBy (judged (badBuffer new offset drained ∷ unsound s old ∷ [])) s offset

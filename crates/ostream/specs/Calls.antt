@@ -1,0 +1,135 @@
+-- The writing calls, each by its refusals in order, its output and the state that it leaves.
+use mathlib.Core.Bool.{Bool, true, false, not}
+use mathlib.Core.List.{List, [], _∷_, _++_}
+use Prim.Native.Nat.{ℕ, _+_, _-_, _*_}
+use lib.Dec.{leb, ltb, eqb}
+use lib.ListN.{length}
+use lib.IntN.{ℤ}
+use Rattle.layout.specs.Limits.{base, pick}
+use Rattle.layout.specs.Varint.{shortest}
+use Rattle.layout.specs.Field.{Field, Width, Raw, Subtype, header, word, float, raw, string, blob, unsigned, signed, payload, unsignedArray, signedArray, floatArray, begin, end, T-fixlen}
+use Rattle.layout.specs.Copy.{fieldBytes}
+use Rattle.types.specs.declared.FixlenType.{FixlenType}
+use Rattle.types.specs.Types.{subtype}
+use Rattle.types.specs.declared.Error.{Error}
+use Rattle.types.specs.declared.Error.the-variants.{UnsoundWriter, StringSubtype, Nesting, IdTooLarge, TooLong}
+use Rattle.ostream.specs.declared.OStream.{OStream}
+use Rattle.ostream.specs.Stream.{soundStream, lazyDepth, heldBytes, committed, holding, dropped}
+use Rattle.ostream.specs.Emission.{Test, Call}
+
+abbrev pub isString : Subtype → Bool
+isString (float w) = false
+isString (raw string) = true
+isString (raw blob) = false
+
+-- ---- the refusals
+
+-- "Number 6: the writer state isn't sound for the lent buffer."
+abbrev pub unsound : OStream → ℕ → Test
+unsound s size = record { fails = not (soundStream s size); error = UnsoundWriter }
+
+-- "Number 9: an id exceeds `ID_MAX`."
+abbrev pub idTooLarge : ℕ → Test
+idTooLarge id = record { fails = ltb (base .id) id; error = IdTooLarge }
+
+-- "Number 8: a sequence is opened at depth 255 or closed at depth 0."
+abbrev pub tooDeep : OStream → Test
+tooDeep s = record { fails = leb (base .depth) (s .depth); error = Nesting }
+
+abbrev pub noneOpen : OStream → Test
+noneOpen s = record { fails = eqb (s .depth) 0; error = Nesting }
+
+-- "Number 7: the general fixed-length writer is given the string subtype."
+abbrev pub stringSubtype : FixlenType → Test
+stringSubtype t = record { fails = isString (subtype t); error = StringSubtype }
+
+-- "Number 10: a payload or array is longer than 2,147,483,647."
+abbrev pub payloadTooLong : ℕ → Test
+payloadTooLong n = record { fails = ltb (base .size) n; error = TooLong }
+
+abbrev pub arrayTooLong : ℕ → Test
+arrayTooLong n = record { fails = ltb (base .count) n; error = TooLong }
+
+-- ---- a field
+
+-- A field that is content: the held headers go out before it, and none is held any more.
+abbrev pub content : List Test → OStream → List ℕ → Call
+content tests s bytes = record { tests = tests; output = heldBytes s ++ bytes; done = committed s (s .depth) }
+
+-- a field of one varint
+abbrev pub scalar : OStream → ℕ → ℕ → List ℕ → Call
+scalar s size id bytes = content (unsound s size ∷ idTooLarge id ∷ []) s bytes
+
+-- the same by the type's number and the varint's value
+abbrev pub varintCall : OStream → ℕ → ℕ → ℕ → ℕ → Call
+varintCall s size id wire n = scalar s size id (shortest (id * 8 + wire) ++ shortest n)
+
+abbrev pub unsignedCall : OStream → ℕ → ℕ → ℕ → Call
+unsignedCall s size id n = scalar s size id (fieldBytes (unsigned id n))
+
+abbrev pub signedCall : OStream → ℕ → ℕ → ℤ → Call
+signedCall s size id z = scalar s size id (fieldBytes (signed id z))
+
+abbrev pub booleanCall : OStream → ℕ → ℕ → Bool → Call
+booleanCall s size id b = unsignedCall s size id (pick b 1 0)
+
+-- ---- fixed-length fields
+
+-- "A float subtype is written at any data length": the bytes are given, not the float.
+unfoldable pub fixlenBytes : ℕ → Subtype → List ℕ → List ℕ
+fixlenBytes id t bytes = header id T-fixlen ++ (word (length bytes) t ++ bytes)
+
+-- `write_fixlen_raw`, and the general writer above it, which "refuses the string subtype"
+abbrev pub rawCall : OStream → ℕ → ℕ → List ℕ → FixlenType → Call
+rawCall s size id bytes t = content (unsound s size ∷ idTooLarge id ∷ payloadTooLong (length bytes) ∷ []) s (fixlenBytes id (subtype t) bytes)
+
+abbrev pub fixlenCall : OStream → ℕ → ℕ → List ℕ → FixlenType → Call
+fixlenCall s size id bytes t =
+    content (unsound s size ∷ stringSubtype t ∷ idTooLarge id ∷ payloadTooLong (length bytes) ∷ []) s (fixlenBytes id (subtype t) bytes)
+
+abbrev pub floatCall : OStream → ℕ → ℕ → Width → ℕ → Call
+floatCall s size id w bits = scalar s size id (fieldBytes (float id w bits))
+
+abbrev pub payloadCall : OStream → ℕ → ℕ → Raw → List ℕ → Call
+payloadCall s size id r bytes =
+    content (unsound s size ∷ idTooLarge id ∷ payloadTooLong (length bytes) ∷ []) s (fieldBytes (payload id r bytes))
+
+-- ---- arrays
+
+abbrev pub arrayCall : OStream → ℕ → ℕ → ℕ → List ℕ → Call
+arrayCall s size id count bytes = content (unsound s size ∷ idTooLarge id ∷ arrayTooLong count ∷ []) s bytes
+
+abbrev pub unsignedArrayCall : OStream → ℕ → ℕ → List ℕ → Call
+unsignedArrayCall s size id ns = arrayCall s size id (length ns) (fieldBytes (unsignedArray id ns))
+
+abbrev pub signedArrayCall : OStream → ℕ → ℕ → List ℤ → Call
+signedArrayCall s size id zs = arrayCall s size id (length zs) (fieldBytes (signedArray id zs))
+
+abbrev pub floatArrayCall : OStream → ℕ → ℕ → Width → List ℕ → Call
+floatArrayCall s size id w xs = arrayCall s size id (length xs) (fieldBytes (floatArray id w xs))
+
+-- ---- sequences
+
+-- "An opened sequence is held back until content or a keeping close comes. Up to eight are held; a ninth open writes all eight and
+-- itself."
+abbrev pub beginCall : OStream → ℕ → ℕ → Call
+beginCall s size id =
+    record {
+      tests = unsound s size ∷ tooDeep s ∷ idTooLarge id ∷ [];
+      output = pick (ltb (s .npending) lazyDepth) [] (heldBytes s ++ fieldBytes (begin id));
+      done = pick (ltb (s .npending) lazyDepth) (holding s id) (committed s (s .depth + 1));
+    }
+
+-- "A plain close of a held one drops it."
+abbrev pub endCall : OStream → ℕ → Call
+endCall s size =
+    record {
+      tests = unsound s size ∷ noneOpen s ∷ [];
+      output = pick (eqb (s .npending) 0) (fieldBytes (end 0)) [];
+      done = pick (eqb (s .npending) 0) (committed s (s .depth - 1)) (dropped s);
+    }
+
+-- a keeping close
+abbrev pub endKeepCall : OStream → ℕ → Call
+endKeepCall s size =
+    record { tests = unsound s size ∷ noneOpen s ∷ []; output = heldBytes s ++ fieldBytes (end 0); done = committed s (s .depth - 1) }

@@ -1,0 +1,96 @@
+-- 01's sentences about the gatherer, each as a theorem about `gathered`, the definition in `feed`'s contract. The state is sound in all of them.
+use Prim.Native.Nat.{ℕ, _+_, _-_, _≤_, _<_}
+use mathlib.Core.Path.{_≡_, refl, sym, ap, _∙_}
+use mathlib.Core.Bool.{Bool, true, false, cond, _&&_}
+use mathlib.Core.List.{List}
+use native.Mathlib.Omega.{arith}
+use lib.Dec.{eqb, leb, ltb}
+use lib.ListN.{length, drop}
+use lib.Seq.{paste, paste-zero, drop-paste, drop-drop}
+use borrow.Author.Tests.{le-leb, ne-eqb, leb-true, leb-false}
+use Rattle.payload.specs.declared.PayloadAcc.{PayloadAcc}
+use Rattle.payload.specs.Gather.{Gathered, nothing, inChunk, inBuffer, number, fresh, begun, untouched, owed, copied, atOnce, accepted, gathered}
+use Rattle.payload.proofs.Cases.{over-already, too-long, whole-chunk, elsewhere, next, in-order, begun-within, either}
+
+-- nothing is owed of a total that shrank
+shrunk-copy : (a : PayloadAcc) (b : List ℕ) (total : ℕ) (chunk : List ℕ) → total < a .len → copied a b total chunk ≡ untouched (inBuffer total) (record { len = a .len; complete = true }) b
+unfolding copied
+shrunk-copy a b total chunk h =
+    let n : owed (a .len) total (length chunk) ≡ 0 = omega arith in
+    let l : a .len + 0 ≡ a .len = omega arith in
+    let w : total ≤ a .len = omega arith in
+    simp (n, l, le-leb _ _ w, ← paste-zero b (a .len) chunk)
+
+owed-within : (a : PayloadAcc) (b : List ℕ) (total : ℕ) (chunk : List ℕ) → a .len ≤ length b → a .len ≤ total → drop total (copied a b total chunk .buf) ≡ drop total b
+unfolding copied
+owed-within a b total chunk s h =
+    let n : ℕ = owed (a .len) total (length chunk) in
+    let m : ℕ = total - (a .len + n) in
+    let e : a .len + n + m ≡ total = omega arith in
+    let d : drop (a .len + n) (paste b (a .len) chunk n) ≡ drop (a .len + n) b = drop-paste b (a .len) chunk n s (omega arith) in
+    ap (λ (k : ℕ). drop k (paste b (a .len) chunk n)) (sym e) ∙ sym (drop-drop m (a .len + n) (paste b (a .len) chunk n)) ∙ ap (drop m) d ∙ drop-drop m (a .len + n) b ∙ ap (λ (k : ℕ). drop k b) e
+
+-- a copy alters no byte from `total` on
+copy-within : (a : PayloadAcc) (b : List ℕ) (total : ℕ) (chunk : List ℕ) → a .len ≤ length b → drop total (copied a b total chunk .buf) ≡ drop total b
+copy-within a b total chunk s = go (leb (a .len) total) refl
+  where
+    go : (t : Bool) → leb (a .len) total ≡ t → drop total (copied a b total chunk .buf) ≡ drop total b
+    go true e = owed-within a b total chunk s (leb-true _ _ e)
+    go false e = ap (λ (g : Gathered). drop total (g .buf)) (shrunk-copy a b total chunk (leb-false _ _ e))
+
+module _ (a : PayloadAcc) (b : List ℕ) (total : ℕ) (chunk : List ℕ) (s : a .len ≤ length b) where
+  -- "Offset 0 forgets the last payload": what was held does not matter.
+  pub forgets : gathered a b total 0 chunk ≡ gathered fresh b total 0 chunk
+  forgets = in-order a b total 0 chunk s ∙ sym (in-order fresh b total 0 chunk (omega arith))
+
+  -- "If the first chunk holds the whole, the answer is that part of the chunk and the buffer is untouched."
+  pub in-one-chunk : total ≤ length b → total ≤ length chunk → gathered a b total 0 chunk ≡ untouched (inChunk total) (record { len = 0; complete = true }) b
+  in-one-chunk f h = in-order a b total 0 chunk s ∙ sym (whole-chunk fresh b total 0 chunk refl f (le-leb _ _ h))
+
+  -- "Number 4 .. the buffer is unaltered, and the state too but for that reset": at offset 0,
+  pub refused-at-start : length b < total → gathered a b total 0 chunk ≡ untouched (number 4) fresh b
+  refused-at-start h = in-order a b total 0 chunk s ∙ sym (too-long fresh b total 0 chunk refl h)
+
+  module _ (offset : ℕ) (later : 0 < offset) where
+    not-start : eqb offset 0 ≡ false
+    not-start = ne-eqb offset 0 (λ e. omega arith)
+
+    goes-on : gathered a b total offset chunk ≡ accepted a b total offset chunk
+    goes-on = in-order a b total offset chunk s ∙ ap (λ (t : Bool). accepted (cond t fresh a) b total offset chunk) not-start
+
+    -- and at a later offset of a payload that is not complete.
+    pub refused-later : a .complete ≡ false → length b < total → gathered a b total offset chunk ≡ untouched (number 4) a b
+    refused-later e h = goes-on ∙ sym (too-long a b total offset chunk e h)
+
+    -- "A chunk .. with offset above 0 after completion, answers nothing yet."
+    pub after-completion : a .complete ≡ true → gathered a b total offset chunk ≡ untouched nothing a b
+    after-completion e = goes-on ∙ sym (over-already a b total offset chunk e)
+
+    module _ (e : a .complete ≡ false) (f : total ≤ length b) where
+      -- "A chunk at any other offset than the length held .. answers nothing yet."
+      pub other-offset : (offset ≡ a .len → ⊥) → gathered a b total offset chunk ≡ untouched nothing a b
+      other-offset d = goes-on ∙ sym (elsewhere a b total offset chunk e f (ap (λ (t : Bool). t && leb total (length chunk)) not-start) d)
+
+      next-piece : offset ≡ a .len → gathered a b total offset chunk ≡ copied a b total chunk
+      next-piece d = goes-on ∙ next a b total offset chunk e f (ap (λ (t : Bool). t && leb total (length chunk)) not-start) d
+
+      -- "If `total` shrinks below the length held, nothing is copied and the first `total` held bytes are answered."
+      pub shrunk : offset ≡ a .len → total < a .len → gathered a b total offset chunk ≡ untouched (inBuffer total) (record { len = a .len; complete = true }) b
+      shrunk d h = next-piece d ∙ shrunk-copy a b total chunk h
+
+-- "None beyond them": the buffer's bytes from `total` on stay, whatever the call.
+record Kept (b : List ℕ) (total : ℕ) (g : Gathered) : Type 0 where
+  pub beyond : drop total (g .buf) ≡ drop total b
+
+accepted-kept : (a : PayloadAcc) (b : List ℕ) (total offset : ℕ) (chunk : List ℕ) → a .len ≤ length b → Kept b total (accepted a b total offset chunk)
+unfolding accepted
+accepted-kept a b total offset chunk s =
+    either (Kept b total) (a .complete) (λ e. record { beyond = refl }) λ e.
+    either (Kept b total) (ltb (length b) total) (λ e. record { beyond = refl }) λ e.
+    either (Kept b total) (atOnce total offset (length chunk)) (λ e. record { beyond = refl }) λ e.
+    either (Kept b total) (eqb offset (a .len)) (λ e. record { beyond = copy-within a b total chunk s }) λ e. record { beyond = refl }
+
+pub none-beyond : (a : PayloadAcc) (b : List ℕ) (total offset : ℕ) (chunk : List ℕ) → a .len ≤ length b → drop total (gathered a b total offset chunk .buf) ≡ drop total b
+none-beyond a b total offset chunk s =
+    ap (λ (g : Gathered). drop total (g .buf)) (in-order a b total offset chunk s)
+    ∙ accepted-kept (begun a offset) b total offset chunk (begun-within a _ offset _ refl s) .beyond

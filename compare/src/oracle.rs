@@ -522,6 +522,12 @@ fn plan(case: &[u8]) -> (Vec<usize>, Vec<usize>) {
     (lengths, starts)
 }
 
+/// The codes of a case's calls.
+pub fn codes(case: &[u8]) -> Vec<u8> {
+    let (_, starts) = plan(case);
+    starts[..starts.len() - 1].iter().map(|&at| case[at]).collect()
+}
+
 /// What the calls up to one of them leave: the answers of the last call, and the active buffer.
 struct Left {
     outcome: Outcome,

@@ -161,53 +161,105 @@ pub fn faults(seed: u64, size: u64, kinds: &str) -> i32 {
 
 // ---- the list to replay: for each case its kind, two lengths, the case and the Rust's answer
 
-/// Most bytes of a list, and of a case with its answer in it.
+/// Most bytes of a list, and of a case with its answer in it; how often a feature is wanted.
 const LIST: usize = 290_000;
-const LONGEST: usize = 260;
+const LONGEST: usize = 240;
+const WANTED: u32 = 4;
 
-/// What an answer shows, without its values: cases that show something new come first into the list.
-fn shape(kind: Kind, case: &[u8], answer: &[u8]) -> u64 {
-    let mut h = kind as u64;
-    let mut mix = |x: u64| h = (h ^ x).wrapping_mul(0x100_0000_01B3).rotate_left(5);
+/// What a case shows, each as a number: a case comes into the list where it shows something that the list hasn't shown often enough.
+fn features(kind: Kind, case: &[u8], answer: &[u8]) -> Vec<u64> {
+    let mut found = Vec::new();
+    let mut add = |parts: &[u64]| found.push(parts.iter().fold(kind as u64, |h, &p| (h ^ p).wrapping_mul(0x100_0000_01B3).rotate_left(17)));
+    let number = |at: usize, n: usize| answer[at..at + n].iter().rev().fold(0u64, |s, &b| s << 8 | b as u64);
+    let bits = |n: u64| 64 - n.leading_zeros() as u64;
+    let mut at = 0;
+    let mut last = [0, 0];
     match kind {
         Kind::Reader => {
-            let mut at = 0;
             while at < answer.len() {
-                let tag = answer[at];
-                mix(tag as u64);
-                let body = match tag {
-                    1 | 2 | 4 => 12,
-                    3 => 8,
-                    5 | 6 => 9,
+                let tag = answer[at] as u64;
+                let (detail, len) = match tag {
+                    1 | 2 => (bits(number(at + 7, 8)), 15),
+                    3 => (number(at + 9, 2) / 8, 11),
+                    4 => (number(at + 13, 2) / 8, 15),
+                    5 | 6 => (number(at + 7, 1) * 64 + bits(number(at + 8, 4)), 12),
                     7 => {
-                        let n = u16::from_le_bytes([answer[at + 16], answer[at + 17]]) as usize;
-                        mix(n.min(3) as u64);
-                        15 + n
+                        let (total, offset, n) = (number(at + 8, 4), number(at + 12, 4), number(at + 16, 2));
+                        (number(at + 7, 1) * 16 + (n == 0) as u64 * 4 + (offset == 0) as u64 * 2 + (offset + n == total) as u64, 18 + n as usize)
                     }
-                    8 => 4,
-                    0x12 => 1,
-                    _ => 0,
+                    8 => (bits(number(at + 3, 4)), 7),
+                    0x12 => (0, 4),
+                    _ => (0, 3),
                 };
-                if tag == 5 || tag == 6 {
-                    mix(answer[at + 7] as u64);
-                }
-                at += 3 + body;
+                add(&[tag, detail, last[1]]);
+                add(&[tag, last[0], last[1], 1]);
+                last = [last[1], tag];
+                at += len;
             }
         }
-        _ => {
-            mix(case.len() as u64 / 8);
-            mix(answer.len() as u64 / 8);
-            mix(answer.iter().filter(|&&b| b == 3).count().min(2) as u64);
-            mix(answer.iter().filter(|&&b| b == 0x20).count().min(4) as u64);
+        Kind::Gatherer => {
+            let capacity = case[0] as u64 + case[1] as u64 * 256;
+            let (mut from, mut held) = (2, 0);
+            while at < answer.len() {
+                let tag = answer[at] as u64;
+                let small = |at: usize, n: usize| case[at..at + n].iter().rev().fold(0u64, |s, &b| s << 8 | b as u64);
+                let call = if case[from] == 1 {
+                    from += 1;
+                    [9, 9, 9]
+                } else {
+                    let (total, offset, n) = (small(from + 1, 8), small(from + 9, 8), small(from + 17, 2));
+                    from += 19 + n as usize;
+                    let order = |a: u64, b: u64| 1 + (a > b) as u64 - (a < b) as u64;
+                    [order(total, capacity) * 3 + order(total, held), (offset == 0) as u64 * 3 + order(offset, held), order(n + held, total)]
+                };
+                at += match tag {
+                    1 | 2 => 3 + number(at + 1, 2) as usize,
+                    3 => 2,
+                    _ => 1,
+                };
+                held = number(at, 2);
+                add(&[tag, call[0], call[1], call[2]]);
+                add(&[tag, last[0], last[1], answer[at + 2] as u64, 1]);
+                last = [last[1], tag];
+                at += 3 + capacity as usize;
+            }
+        }
+        Kind::Writer => {
+            let codes = crate::oracle::codes(case);
+            let mut call = 0;
+            let mut drains = 0u64;
+            while at < answer.len() {
+                let tag = answer[at] as u64;
+                if tag == 0x20 {
+                    drains += 1;
+                    at += 3 + number(at + 1, 2) as usize;
+                    continue;
+                }
+                let detail = if tag == 3 { number(at + 1, 1) } else { 0 };
+                at += match tag {
+                    0 => 1,
+                    3 => 2,
+                    _ => 5,
+                };
+                let code = if call == 0 { 0 } else { codes[call - 1] as u64 };
+                add(&[tag, detail, code, drains.min(3), case[0] as u64]);
+                add(&[tag, code, last[0], last[1]]);
+                last = [last[1], code];
+                call += 1;
+                drains = 0;
+                if at < answer.len() {
+                    at += 4 + number(at + 2, 2) as usize;
+                }
+            }
         }
     }
-    h
+    found
 }
 
 pub fn sample(seed: u64, file: &str) -> i32 {
     let mut oracle = Oracle::new(Fault(0));
     let mut list = Vec::new();
-    let mut seen = std::collections::HashSet::new();
+    let mut shown: std::collections::HashMap<u64, u32> = std::collections::HashMap::new();
     let mut count = 0;
     let mut add = |kind: Kind, case: Vec<u8>, list: &mut Vec<u8>, any: bool, share: usize| {
         let mut out = Vec::new();
@@ -215,7 +267,9 @@ pub fn sample(seed: u64, file: &str) -> i32 {
         if LONGEST < case.len() + out.len() || share < list.len() + case.len() + out.len() + 5 {
             return;
         }
-        if seen.insert(shape(kind, &case, &out)) || any {
+        let features = features(kind, &case, &out);
+        if any || features.iter().any(|f| shown.get(f).copied().unwrap_or(0) < WANTED) {
+            features.into_iter().for_each(|f| *shown.entry(f).or_default() += 1);
             list.push(kind as u8);
             crate::bytes::put16(list, case.len());
             crate::bytes::put16(list, out.len());

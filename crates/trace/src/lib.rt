@@ -3,6 +3,7 @@
 mod bytes;
 pub mod gatherer;
 pub mod reader;
+pub mod writer;
 
 #[no_mangle]
 pub extern "C" fn trace_gatherer(case: &[u8], out: &mut [u8]) -> i64 {
@@ -12,4 +13,9 @@ pub extern "C" fn trace_gatherer(case: &[u8], out: &mut [u8]) -> i64 {
 #[no_mangle]
 pub extern "C" fn trace_reader(case: &[u8], out: &mut [u8]) -> i64 {
     bytes::count(reader::trace(case, out))
+}
+
+#[no_mangle]
+pub extern "C" fn trace_writer(case: &[u8], out: &mut [u8]) -> i64 {
+    bytes::count(writer::trace(case, out))
 }

@@ -1,0 +1,226 @@
+//! Times of both sides, on the same bytes, turn by turn in one run. Each figure is the best of the rounds.
+
+use sofab::*;
+use std::hint::black_box;
+use std::time::{Duration, Instant};
+
+#[link(name = "bench", kind = "static")]
+extern "C" {
+    fn bench_read(bytes: *const u8, len: usize, size: usize) -> u64;
+    fn bench_gather(payload: *const u8, len: usize, size: usize, buf: *mut u8, buf_len: usize) -> u64;
+    fn bench_write(kind: u32, n: usize, data: *const u8, data_len: usize, buf: *mut u8, buf_len: usize, out: *mut u8, out_len: usize) -> u64;
+}
+
+const ROUNDS: usize = 9;
+const BLOB: usize = 8 << 20;
+const GATHERED: usize = 1 << 16;
+
+/// A kind of message: its number in the crate `bench`, and how many calls write it.
+const KINDS: [(&str, u32, usize); 7] = [
+    ("small integers", 0, 400_000),
+    ("long varints", 1, 80_000),
+    ("strings", 2, 40_000),
+    ("one 8 MB blob", 3, 1),
+    ("arrays", 4, 8_000),
+    ("nested sequences", 5, 500_000),
+    ("photo book", 6, 34 * 8_000),
+];
+
+// ---- the Rust's side of the same work
+
+#[derive(Default)]
+struct Digest(u64);
+
+impl Digest {
+    fn plus(&mut self, id: u32, n: u64) {
+        self.0 = self.0.wrapping_add(id as u64).wrapping_add(n);
+    }
+}
+
+impl Visitor for Digest {
+    fn unsigned(&mut self, id: Id, value: Unsigned) {
+        self.plus(id, value);
+    }
+    fn signed(&mut self, id: Id, value: Signed) {
+        self.plus(id, if value < 0 { 1 } else { 2 });
+    }
+    fn fp32(&mut self, id: Id, _: f32) {
+        self.plus(id, 3);
+    }
+    fn fp64(&mut self, id: Id, _: f64) {
+        self.plus(id, 4);
+    }
+    fn string(&mut self, id: Id, _: usize, _: usize, chunk: &[u8]) {
+        self.plus(id, chunk.len() as u64);
+    }
+    fn blob(&mut self, id: Id, _: usize, _: usize, chunk: &[u8]) {
+        self.plus(id, chunk.len() as u64);
+    }
+    fn fixlen_begin(&mut self, id: Id, _: FixlenType, total: usize) {
+        self.plus(id, total as u64);
+    }
+    fn array_begin(&mut self, id: Id, _: ArrayKind, count: usize) {
+        self.plus(id, count as u64);
+    }
+    fn sequence_begin(&mut self, id: Id) {
+        self.plus(id, 5);
+    }
+    fn sequence_end(&mut self) {
+        self.plus(0, 6);
+    }
+}
+
+#[inline(never)]
+fn rust_read(bytes: &[u8], size: usize) -> u64 {
+    let mut digest = Digest::default();
+    let mut reader = IStream::new();
+    for chunk in bytes.chunks(if size == 0 { bytes.len() } else { size }) {
+        let _ = black_box(reader.feed(chunk, &mut digest));
+    }
+    digest.0
+}
+
+#[inline(never)]
+fn rust_gather(acc: &mut PayloadAcc<GATHERED>, payload: &[u8], size: usize) -> u64 {
+    let mut whole = 0;
+    for (i, piece) in payload.chunks(size).enumerate() {
+        if let Ok(Some(part)) = acc.feed(payload.len(), i * size, piece) {
+            whole = part.len() as u64;
+        }
+    }
+    whole
+}
+
+#[inline(never)]
+fn rust_write(kind: u32, n: usize, data: &[u8], buf: &mut [u8], out: &mut [u8]) -> u64 {
+    let mut sent = 0;
+    {
+        let mut os = OStream::with_flush(buf, 0, |bytes: &[u8]| {
+            if let Some(to) = out.get_mut(sent..sent + bytes.len()) {
+                to.copy_from_slice(bytes);
+                sent += bytes.len();
+            }
+        })
+        .expect("a buffer with room");
+        let text = |n: usize| std::str::from_utf8(&data[..n]).expect("text");
+        for i in 0..n {
+            let id = (i % 16) as u32;
+            let _ = match kind {
+                0 => os.write_unsigned(id, (i % 100) as u64),
+                1 => os.write_unsigned(100000, u64::MAX - (i % 1000) as u64),
+                2 => os.write_str(id, text(24)),
+                3 => os.write_blob(id, data),
+                4 => os.write_array_unsigned(id, &[300u64; 64]),
+                5 => match i % 5 {
+                    0 => os.write_sequence_begin_lazy(1),
+                    1 => os.write_sequence_begin_lazy(2),
+                    2 => os.write_unsigned(3, (i % 100) as u64),
+                    _ => os.write_sequence_end(),
+                },
+                _ => match i % 34 {
+                    0 => os.write_sequence_begin_lazy(7),
+                    step @ 1..=30 => os.write_unsigned(step as u32, (i % 1000) as u64),
+                    31 => os.write_str(31, text(40)),
+                    32 => os.write_fp32(32, 0.75),
+                    _ => os.write_sequence_end(),
+                },
+            };
+        }
+        os.flush();
+    }
+    sent as u64
+}
+
+// ---- the port's
+
+fn port_read(bytes: &[u8], size: usize) -> u64 {
+    // SAFETY: proved on every slice.
+    unsafe { bench_read(bytes.as_ptr(), bytes.len(), size) }
+}
+
+fn port_gather(payload: &[u8], size: usize, buf: &mut [u8]) -> u64 {
+    // SAFETY: proved on every pair of slices.
+    unsafe { bench_gather(payload.as_ptr(), payload.len(), size, buf.as_mut_ptr(), buf.len()) }
+}
+
+fn port_write(kind: u32, n: usize, data: &[u8], buf: &mut [u8], out: &mut [u8]) -> u64 {
+    // SAFETY: proved on every three slices.
+    unsafe { bench_write(kind, n, data.as_ptr(), data.len(), buf.as_mut_ptr(), buf.len(), out.as_mut_ptr(), out.len()) }
+}
+
+// ---- measuring
+
+fn time(best: &mut Duration, work: impl FnOnce() -> u64) -> u64 {
+    let start = Instant::now();
+    let answer = black_box(work());
+    *best = start.elapsed().min(*best);
+    answer
+}
+
+/// Turn by turn: the Rust, the port, a copy of as many bytes.
+fn row(name: &str, bytes: &[u8], mut rust: impl FnMut() -> u64, mut port: impl FnMut() -> u64) {
+    let mut best = [Duration::MAX; 3];
+    let mut copy = vec![1u8; bytes.len()];
+    let mut agree = true;
+    for _ in 0..ROUNDS {
+        let a = time(&mut best[0], &mut rust);
+        let b = time(&mut best[1], &mut port);
+        agree &= a == b;
+        time(&mut best[2], || {
+            copy.copy_from_slice(black_box(bytes));
+            black_box(&copy).len() as u64
+        });
+    }
+    let [r, p, c] = best.map(|d| d.as_secs_f64());
+    let rate = |t: f64| bytes.len() as f64 / t / 1e6;
+    println!(
+        "| {name} | {} | {:.0} | {:.0} | {:.2} | {:.0} |{}",
+        bytes.len(),
+        rate(r),
+        rate(p),
+        p / r,
+        p / c,
+        if agree { "" } else { " THE ANSWERS DIFFER" }
+    );
+}
+
+pub fn all() {
+    let data: Vec<u8> = (0..BLOB).map(|i| b'a' + (i % 26) as u8).collect();
+    let mut out = vec![1u8; 9 << 20];
+    let tickets: Vec<(&str, Vec<u8>)> = KINDS
+        .iter()
+        .map(|&(name, kind, n)| {
+            let len = rust_write(kind, n, &data, &mut [0; 4096], &mut out) as usize;
+            (name, out[..len].to_vec())
+        })
+        .collect();
+    println!("| work | bytes | Rust, MB/s | port, MB/s | port / Rust, time | port / copy, time |");
+    println!("|---|---|---|---|---|---|");
+    for (size, how) in [(0, "whole"), (64, "in 64-byte chunks")] {
+        for (name, ticket) in &tickets {
+            row(&format!("read {how}: {name}"), ticket, || rust_read(ticket, size), || port_read(ticket, size));
+        }
+    }
+    let mut acc = Box::new(PayloadAcc::<GATHERED>::new());
+    let mut buf = vec![1u8; GATHERED];
+    for size in [16, 64, 4096] {
+        let payload = &data[..GATHERED];
+        row(&format!("gather 64 KB in {size}-byte pieces"), payload, || rust_gather(&mut acc, payload, size), || port_gather(payload, size, &mut buf));
+    }
+    let mut other = vec![1u8; 9 << 20];
+    for (length, share) in [(4096, 1), (1, 8)] {
+        for &(name, kind, n) in &KINDS {
+            let n = n.div_ceil(share);
+            let data = if kind == 3 { &data[..BLOB / share] } else { &data[..] };
+            let (mut a, mut b) = (vec![1u8; length], vec![1u8; length]);
+            let len = rust_write(kind, n, data, &mut a, &mut out) as usize;
+            port_write(kind, n, data, &mut b, &mut other);
+            if out[..len] != other[..len] {
+                println!("| write {name}: the bytes differ |");
+            }
+            let bytes = out[..len].to_vec();
+            row(&format!("write into {length} bytes: {name}"), &bytes, || rust_write(kind, n, data, &mut a, &mut out), || port_write(kind, n, data, &mut b, &mut other));
+        }
+    }
+    println!("\nThe Rust's states in bytes: reader {}, writer without its buffer and sink {}, gatherer without its buffer {}.", size_of::<IStream>(), size_of::<OStream>() - size_of::<&mut [u8]>(), size_of::<PayloadAcc<64>>() - 64);
+}

@@ -1,0 +1,66 @@
+//! The comparison of the port with the Rust: one driver for the differential runs, the planted faults, the list to replay and the benchmark.
+
+mod bench;
+mod bytes;
+mod case;
+mod fault;
+mod gen;
+mod oracle;
+mod port;
+mod runs;
+
+use case::Kind;
+use runs::Runs;
+
+const HELP: &str = "\
+compare/run DIR COMMAND
+  differ SEED SIZE      everything below: tickets of up to 3 bytes, every cut of the corpus, SIZE random cases of each kind
+  short BYTES           all tickets of up to BYTES bytes, in every cut
+  cuts                  every cut of every ticket in the corpus
+  random SEED SIZE [KINDS]
+                        SIZE random cases of each kind (KINDS: some of the letters rgw, for reader, gatherer and writer)
+  faults SEED SIZE [KINDS]
+                        each planted fault in turn, until it is found
+  sample SEED FILE      writes a list of cases with the Rust's answers
+  replay FILE           gives a list's cases to the port
+  answer KIND HEX       both answers to one case (KIND: reader, gatherer, writer)
+  bench                 times of both sides";
+
+fn number(args: &[String], i: usize, or: u64) -> u64 {
+    args.get(i).and_then(|a| a.parse().ok()).unwrap_or(or)
+}
+
+fn main() {
+    let args: Vec<String> = std::env::args().skip(1).collect();
+    let seed = number(&args, 1, 1);
+    let size = number(&args, 2, 100_000);
+    let kinds = args.get(3).map_or("rgw", |k| k);
+    let mut runs = Runs::new(0);
+    match args.first().map(String::as_str) {
+        Some("differ") => {
+            runs.short(3);
+            runs.cuts();
+            runs.random(seed, size, kinds);
+        }
+        Some("short") => runs.short(number(&args, 1, 3) as usize),
+        Some("cuts") => runs.cuts(),
+        Some("random") => runs.random(seed, size, kinds),
+        Some("faults") => std::process::exit(runs::faults(seed, size, kinds)),
+        Some("sample") => std::process::exit(runs::sample(seed, args.get(2).map_or("list", |f| f))),
+        Some("replay") => std::process::exit(runs::replay(args.get(1).map_or("list", |f| f))),
+        Some("bench") => return bench::all(),
+        Some("answer") => {
+            let kind = match args.get(1).map(String::as_str) {
+                Some("reader") => Kind::Reader,
+                Some("gatherer") => Kind::Gatherer,
+                _ => Kind::Writer,
+            };
+            let case = bytes::unhex(args.get(2).map_or("", |h| h)).expect("hexadecimal");
+            println!("rust {}\nport {}", bytes::hex(&runs.rust(kind, &case)), bytes::hex(&runs.port(kind, &case)));
+            return;
+        }
+        _ => return println!("{HELP}"),
+    }
+    println!("{} cases, {} differences", runs.cases, runs.differences);
+    std::process::exit((runs.differences != 0) as i32);
+}

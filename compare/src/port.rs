@@ -1,0 +1,22 @@
+//! The port's side: the exports of the crate `trace`, which parse a case, make its calls and write the answer.
+
+use crate::case::Kind;
+
+#[link(name = "trace", kind = "static")]
+extern "C" {
+    fn trace_reader(case: *const u8, case_len: usize, out: *mut u8, out_len: usize) -> i64;
+    fn trace_gatherer(case: *const u8, case_len: usize, out: *mut u8, out_len: usize) -> i64;
+    fn trace_writer(case: *const u8, case_len: usize, out: *mut u8, out_len: usize) -> i64;
+}
+
+/// The answer's length. `out` is long enough for any case that the generators make.
+pub fn answer(kind: Kind, case: &[u8], out: &mut [u8]) -> usize {
+    let export = match kind {
+        Kind::Reader => trace_reader,
+        Kind::Gatherer => trace_gatherer,
+        Kind::Writer => trace_writer,
+    };
+    // SAFETY: the exports are proved on every pair of slices, and are given just these.
+    let n = unsafe { export(case.as_ptr(), case.len(), out.as_mut_ptr(), out.len()) };
+    usize::try_from(n).expect("a length").min(out.len())
+}

@@ -1,0 +1,326 @@
+//! The differential runs: each gives both sides the same cases, compares the answers byte by byte, and shows the smallest case where they part.
+
+use crate::bytes::hex;
+use crate::case::{Case, Kind, Reader};
+use crate::fault::{Fault, FAULTS};
+use crate::gen::{self, Random};
+use crate::oracle::Oracle;
+use crate::port;
+
+pub struct Runs {
+    oracle: Oracle,
+    pub cases: u64,
+    pub differences: u64,
+    case: Vec<u8>,
+    rust: Vec<u8>,
+    port: Vec<u8>,
+    quiet: bool,
+}
+
+/// Differences shown before a run goes on without showing more.
+const SHOWN: u64 = 5;
+
+impl Runs {
+    pub fn new(fault: usize) -> Runs {
+        Runs { oracle: Oracle::new(Fault(fault)), cases: 0, differences: 0, case: Vec::new(), rust: Vec::new(), port: vec![0; 1 << 20], quiet: fault != 0 }
+    }
+
+    pub fn rust(&mut self, kind: Kind, case: &[u8]) -> Vec<u8> {
+        let mut out = Vec::new();
+        answer(&mut self.oracle, kind, case, &mut out);
+        out
+    }
+
+    pub fn port(&mut self, kind: Kind, case: &[u8]) -> Vec<u8> {
+        let n = port::answer(kind, case, &mut self.port);
+        self.port[..n].to_vec()
+    }
+
+    /// Whether both sides answer the case alike.
+    fn same<C: Case>(&mut self, case: &C) -> bool {
+        self.case.clear();
+        case.encode(&mut self.case);
+        self.same_bytes(C::KIND)
+    }
+
+    fn same_bytes(&mut self, kind: Kind) -> bool {
+        self.rust.clear();
+        answer(&mut self.oracle, kind, &self.case, &mut self.rust);
+        let n = port::answer(kind, &self.case, &mut self.port);
+        self.rust == self.port[..n]
+    }
+
+    pub fn compare<C: Case>(&mut self, case: &C) {
+        self.cases += 1;
+        if self.same(case) {
+            return;
+        }
+        self.differences += 1;
+        if self.quiet || SHOWN < self.differences {
+            return;
+        }
+        let mut least = case.clone();
+        while let Some(c) = least.smaller().into_iter().find(|c| !self.same(c)) {
+            least = c;
+        }
+        self.same(&least);
+        let n = port::answer(C::KIND, &self.case, &mut self.port);
+        println!("difference, {:?}: {}\n case {}\n rust {}\n port {}", C::KIND, least.show(), hex(&self.case), hex(&self.rust), hex(&self.port[..n]));
+    }
+
+    /// Every ticket of up to `most` bytes, in every cut.
+    pub fn short(&mut self, most: usize) {
+        let before = self.cases;
+        for len in 0..=most {
+            for n in 0u64..1 << (8 * len) {
+                let ticket = n.to_be_bytes()[8 - len..].to_vec();
+                self.every_cut(&mut Reader { chunks: Vec::new(), ticket });
+            }
+        }
+        println!("tickets of up to {most} bytes, every cut: {} cases", self.cases - before);
+    }
+
+    fn every_cut(&mut self, case: &mut Reader) {
+        let gaps = case.ticket.len().saturating_sub(1);
+        for cut in 0u32..1 << gaps {
+            case.chunks.clear();
+            let mut from = 0;
+            for i in 0..gaps {
+                if cut >> i & 1 == 1 {
+                    case.chunks.push(i + 1 - from);
+                    from = i + 1;
+                }
+            }
+            case.chunks.push(case.ticket.len() - from);
+            self.compare(case);
+        }
+    }
+
+    pub fn cuts(&mut self) {
+        let before = self.cases;
+        for ticket in gen::corpus() {
+            let mut case = Reader { chunks: Vec::new(), ticket };
+            self.every_cut(&mut case);
+            // And each chunk with an empty one on both sides.
+            case.chunks = std::iter::once(0).chain(case.ticket.iter().flat_map(|_| [1, 0])).collect();
+            self.compare(&case);
+        }
+        println!("every cut of the corpus: {} cases", self.cases - before);
+    }
+
+    /// Case number i of each kind asked for.
+    fn turn(&mut self, seed: u64, i: u64, kinds: &str) {
+        if kinds.contains('r') {
+            self.compare(&gen::reader(&mut case_seed(seed, i, 1)));
+        }
+        if kinds.contains('g') {
+            self.compare(&gen::gatherer(&mut case_seed(seed, i, 2)));
+        }
+        if kinds.contains('w') {
+            self.compare(&gen::writer(&mut case_seed(seed, i, 3)));
+        }
+    }
+
+    pub fn random(&mut self, seed: u64, size: u64, kinds: &str) {
+        (0..size).for_each(|i| self.turn(seed, i, kinds));
+        println!("random, seed {seed}: {size} cases of each kind ({kinds})");
+    }
+}
+
+fn answer(oracle: &mut Oracle, kind: Kind, case: &[u8], out: &mut Vec<u8>) {
+    match kind {
+        Kind::Reader => oracle.reader(case, out),
+        Kind::Gatherer => oracle.gatherer(case, out),
+        Kind::Writer => oracle.writer(case, out),
+    }
+}
+
+fn case_seed(seed: u64, i: u64, kind: u64) -> Random {
+    let mut r = Random(seed ^ kind << 56);
+    r.0 = r.next() ^ i.wrapping_mul(0x2545_F491_4F6C_DD1D);
+    r
+}
+
+/// Plants each fault in turn; answers 0 if every one was found and the run without one finds nothing.
+pub fn faults(seed: u64, size: u64, kinds: &str) -> i32 {
+    let mut missed = 0;
+    for (n, name) in FAULTS.iter().enumerate().filter(|(n, name)| *n == 0 || kinds.contains(&name[..1])) {
+        let mut runs = Runs::new(n);
+        let mut i = 0;
+        while i < size && (n == 0 || runs.differences == 0) {
+            runs.turn(seed, i, kinds);
+            i += 1;
+        }
+        let found = runs.differences != 0;
+        missed += (found != (n != 0)) as i32;
+        println!("{name}: {} after {} cases", if found { "found" } else { "not found" }, runs.cases);
+    }
+    println!("{} faults, {missed} not as expected", FAULTS.len() - 1);
+    (missed != 0) as i32
+}
+
+// ---- the list to replay: for each case its kind, two lengths, the case and the Rust's answer
+
+/// Most bytes of a list, and of a case with its answer in it; how often a feature is wanted.
+const LIST: usize = 290_000;
+const LONGEST: usize = 240;
+const WANTED: u32 = 4;
+
+/// What a case shows, each as a number: a case comes into the list where it shows something that the list hasn't shown often enough.
+fn features(kind: Kind, case: &[u8], answer: &[u8]) -> Vec<u64> {
+    let mut found = Vec::new();
+    let mut add = |parts: &[u64]| found.push(parts.iter().fold(kind as u64, |h, &p| (h ^ p).wrapping_mul(0x100_0000_01B3).rotate_left(17)));
+    let number = |at: usize, n: usize| answer[at..at + n].iter().rev().fold(0u64, |s, &b| s << 8 | b as u64);
+    let bits = |n: u64| 64 - n.leading_zeros() as u64;
+    let mut at = 0;
+    let mut last = [0, 0];
+    match kind {
+        Kind::Reader => {
+            while at < answer.len() {
+                let tag = answer[at] as u64;
+                let (detail, len) = match tag {
+                    1 | 2 => (bits(number(at + 7, 8)), 15),
+                    3 => (number(at + 9, 2) / 8, 11),
+                    4 => (number(at + 13, 2) / 8, 15),
+                    5 | 6 => (number(at + 7, 1) * 64 + bits(number(at + 8, 4)), 12),
+                    7 => {
+                        let (total, offset, n) = (number(at + 8, 4), number(at + 12, 4), number(at + 16, 2));
+                        (number(at + 7, 1) * 16 + (n == 0) as u64 * 4 + (offset == 0) as u64 * 2 + (offset + n == total) as u64, 18 + n as usize)
+                    }
+                    8 => (bits(number(at + 3, 4)), 7),
+                    0x12 => (0, 4),
+                    _ => (0, 3),
+                };
+                add(&[tag, detail, last[1]]);
+                add(&[tag, last[0], last[1], 1]);
+                last = [last[1], tag];
+                at += len;
+            }
+        }
+        Kind::Gatherer => {
+            let capacity = case[0] as u64 + case[1] as u64 * 256;
+            let (mut from, mut held) = (2, 0);
+            while at < answer.len() {
+                let tag = answer[at] as u64;
+                let small = |at: usize, n: usize| case[at..at + n].iter().rev().fold(0u64, |s, &b| s << 8 | b as u64);
+                let call = if case[from] == 1 {
+                    from += 1;
+                    [9, 9, 9]
+                } else {
+                    let (total, offset, n) = (small(from + 1, 8), small(from + 9, 8), small(from + 17, 2));
+                    from += 19 + n as usize;
+                    let order = |a: u64, b: u64| 1 + (a > b) as u64 - (a < b) as u64;
+                    [order(total, capacity) * 3 + order(total, held), (offset == 0) as u64 * 3 + order(offset, held), order(n + held, total)]
+                };
+                at += match tag {
+                    1 | 2 => 3 + number(at + 1, 2) as usize,
+                    3 => 2,
+                    _ => 1,
+                };
+                held = number(at, 2);
+                add(&[tag, call[0], call[1], call[2]]);
+                add(&[tag, last[0], last[1], answer[at + 2] as u64, 1]);
+                last = [last[1], tag];
+                at += 3 + capacity as usize;
+            }
+        }
+        Kind::Writer => {
+            let codes = crate::oracle::codes(case);
+            let mut call = 0;
+            let mut drains = 0u64;
+            while at < answer.len() {
+                let tag = answer[at] as u64;
+                if tag == 0x20 {
+                    drains += 1;
+                    at += 3 + number(at + 1, 2) as usize;
+                    continue;
+                }
+                let detail = if tag == 3 { number(at + 1, 1) } else { 0 };
+                at += match tag {
+                    0 => 1,
+                    3 => 2,
+                    _ => 5,
+                };
+                let code = if call == 0 { 0 } else { codes[call - 1] as u64 };
+                add(&[tag, detail, code, drains.min(3), case[0] as u64]);
+                add(&[tag, code, last[0], last[1]]);
+                last = [last[1], code];
+                call += 1;
+                drains = 0;
+                if at < answer.len() {
+                    at += 4 + number(at + 2, 2) as usize;
+                }
+            }
+        }
+    }
+    found
+}
+
+pub fn sample(seed: u64, file: &str) -> i32 {
+    let mut oracle = Oracle::new(Fault(0));
+    let mut list = Vec::new();
+    let mut shown: std::collections::HashMap<u64, u32> = std::collections::HashMap::new();
+    let mut count = 0;
+    let mut add = |kind: Kind, case: Vec<u8>, list: &mut Vec<u8>, any: bool, share: usize| {
+        let mut out = Vec::new();
+        answer(&mut oracle, kind, &case, &mut out);
+        if LONGEST < case.len() + out.len() || share < list.len() + case.len() + out.len() + 5 {
+            return;
+        }
+        let features = features(kind, &case, &out);
+        if any || features.iter().any(|f| shown.get(f).copied().unwrap_or(0) < WANTED) {
+            features.into_iter().for_each(|f| *shown.entry(f).or_default() += 1);
+            list.push(kind as u8);
+            crate::bytes::put16(list, case.len());
+            crate::bytes::put16(list, out.len());
+            list.extend_from_slice(&case);
+            list.extend_from_slice(&out);
+            count += 1;
+        }
+    };
+    let encode = |c: &dyn Fn(&mut Vec<u8>)| {
+        let mut v = Vec::new();
+        c(&mut v);
+        v
+    };
+    for ticket in gen::corpus() {
+        let n = ticket.len();
+        for chunks in [vec![n], vec![1; n], vec![n / 2, 0, n - n / 2]] {
+            let case = Reader { chunks, ticket: ticket.clone() };
+            add(Kind::Reader, encode(&|v| case.encode(v)), &mut list, n < 8, LIST / 3);
+        }
+    }
+    for i in 0..40_000 {
+        let c = gen::reader(&mut case_seed(seed, i, 1));
+        add(Kind::Reader, encode(&|v| c.encode(v)), &mut list, false, LIST * 2 / 5);
+        let c = gen::gatherer(&mut case_seed(seed, i, 2));
+        add(Kind::Gatherer, encode(&|v| c.encode(v)), &mut list, false, LIST * 13 / 20);
+        let c = gen::writer(&mut case_seed(seed, i, 3));
+        add(Kind::Writer, encode(&|v| c.encode(v)), &mut list, false, LIST);
+    }
+    println!("{count} cases, {} bytes", list.len());
+    match std::fs::write(file, list) {
+        Ok(()) => 0,
+        Err(e) => {
+            println!("{file}: {e}");
+            1
+        }
+    }
+}
+
+pub fn replay(file: &str) -> i32 {
+    let list = std::fs::read(file).expect("a list");
+    let mut runs = Runs::new(0);
+    let (mut at, mut cases, mut differences) = (0, 0, 0);
+    while at < list.len() {
+        let kind = [Kind::Reader, Kind::Gatherer, Kind::Writer][list[at] as usize - 1];
+        let c = u16::from_le_bytes([list[at + 1], list[at + 2]]) as usize;
+        let a = u16::from_le_bytes([list[at + 3], list[at + 4]]) as usize;
+        let case = &list[at + 5..at + 5 + c];
+        differences += (runs.port(kind, case) != list[at + 5 + c..at + 5 + c + a]) as u64;
+        cases += 1;
+        at += 5 + c + a;
+    }
+    println!("{cases} cases, {differences} differences");
+    (differences != 0) as i32
+}

@@ -1,0 +1,78 @@
+-- `istream::scan` meets its contract: each turn, the call is what reading on from the state reached comes to.
+use Prim.Native.Nat.{_≤_, _-_}
+use mathlib.Core.Path.{_≡_, _∙_}
+use native.Mathlib.Omega.{arith}
+use lib.ListN.{length, getD, drop}
+use mir.Syntax.{w8}
+use mir.Val.{Fits}
+use borrow.Author.Needs.{needs}
+use Rattle.layout.specs.Limits.{base}
+use Rattle.machine.specs.Call.{call}
+use Rattle.istream.specs.Stream.{stateOf}
+use Rattle.istream.specs.Sound.{AtBytes}
+use Rattle.istream.proofs.Calls.{scanOn, call-scan, turn-ends, turn-goes, turn-last}
+use Rattle.istream.proofs.scan.Statement.{statement}
+use Rattle.istream.proofs.scan.Tie as tie
+
+abbrev Inv-loop : tie.InvT-loop
+Inv-loop chunk at₀ n₀ at n = (n ≤ length chunk) × (AtBytes (stateOf at) × (call base (stateOf at₀) chunk ≡ scanOn n (stateOf at) (drop n chunk)))
+
+abbrev μ-loop : tie.MeasureT-loop
+μ-loop chunk at₀ n₀ at n = length chunk - n
+
+loop-holds : tie.Need-loop-holds Inv-loop μ-loop
+loop-holds c =
+    (omega arith, (c .before .pre, call-scan (stateOf (c .before .args .stream)) (c .before .args .chunk .now)))
+
+shared-slice-read-step : tie.Need-shared-slice-read-step Inv-loop μ-loop
+shared-slice-read-step c = search needs
+
+step-requires : tie.Need-step-requires Inv-loop μ-loop
+step-requires c κs = c .before .before .loop .inv .1 .0
+
+add-read : tie.Need-add-read Inv-loop μ-loop
+add-read c = search needs
+
+enum-known-s : tie.Need-enum-known-s Inv-loop μ-loop
+enum-known-s c = search needs
+
+stop-requires : tie.Need-stop-requires Inv-loop μ-loop
+stop-requires c κs = search needs
+
+returns : tie.Need-returns Inv-loop μ-loop
+returns c =
+    let f : Fits w8 (getD (c .before .before .before .before .before .before .before .args .chunk .now) (c .before .before .before .before .before .loop .n) 0) = c .before .before .before .shared-slice-known2 .given (c .before .before .before .before .before .loop .n) in
+    c .stop .ensures ∙ turn-ends (c .before .before .before .before .before .before .before .args .chunk .now) (stateOf (c .before .before .before .before .before .before .before .args .stream)) (c .before .before .before .before .before .loop .at) (c .before .before .before .before .before .loop .n) (c .before .before .before .before .before .loop .inv .1 .0) (c .before .before .before .before .before .loop .inv .1 .1) (c .before .before .step .result) (c .before .before .before .before .loop-test .taken) (f .fits) (c .before .before .step .ensures) (c .before .match .keys2)
+
+loop-less : tie.Need-loop-less Inv-loop μ-loop
+loop-less c = search needs
+
+loop-again : tie.Need-loop-again Inv-loop μ-loop
+loop-again c =
+    let f : Fits w8 (getD (c .before .before .before .before .before .before .before .before .args .chunk .now) (c .before .before .before .before .before .before .loop .n) 0) = c .before .before .before .before .shared-slice-known2 .given (c .before .before .before .before .before .before .loop .n) in
+    turn-goes (c .before .before .before .before .before .before .before .before .args .chunk .now) (stateOf (c .before .before .before .before .before .before .before .before .args .stream)) (c .before .before .before .before .before .before .loop .at) (c .before .before .before .before .before .before .loop .n) (c .before .before .before .before .before .before .loop .inv .1 .0) (c .before .before .before .before .before .before .loop .inv .1 .1) (c .before .before .before .step .result) _ (c .before .before .before .before .before .loop-test .taken) (f .fits) (c .before .before .before .step .ensures) (c .before .s .given .1)
+
+stop-requires-2 : tie.Need-stop-requires-2 Inv-loop μ-loop
+stop-requires-2 c κs = search needs
+
+returns-2 : tie.Need-returns-2 Inv-loop μ-loop
+returns-2 c =
+    c .stop2 .ensures ∙ turn-last (c .before .before .before .before .args .chunk .now) (stateOf (c .before .before .before .before .args .stream)) (c .before .before .loop .at) (c .before .before .loop .n) (c .before .before .loop .inv .1 .0) (c .before .before .loop .inv .1 .1) (c .before .before .loop .inv .0) (c .before .loop-test .left)
+
+pub scan-spec : {M : Type 1} → statement M
+scan-spec =
+    tie.close
+    (tie.spec
+    Inv-loop
+    μ-loop
+    loop-holds
+    shared-slice-read-step
+    step-requires
+    add-read
+    enum-known-s
+    stop-requires
+    returns
+    loop-less
+    loop-again
+    stop-requires-2
+    returns-2)

@@ -1,0 +1,37 @@
+-- `istream::stop` meets its contract.
+use mathlib.Core.Path.{sym, ap, _∙_}
+use Rattle.istream.specs.declared.Status.{Status}
+use Rattle.istream.specs.declared.Answer.the-variants as Answers
+use Rattle.istream.specs.Stream.{stopped}
+use borrow.Author.Needs.{needs}
+use Rattle.istream.proofs.stop.Statement.{statement}
+use Rattle.istream.proofs.stop.Tie as tie
+
+enum-known-s : tie.Need-enum-known-s
+enum-known-s c = search needs
+
+status-requires : tie.Need-status-requires
+status-requires c κs = search needs
+
+enum-known-s-2 : tie.Need-enum-known-s-2
+enum-known-s-2 c = search needs
+
+enum-told : tie.Need-enum-told
+enum-told c = search needs
+
+returns : tie.Need-returns
+returns c =
+    ap (λ (t : Status). record { read = c .before .before .before .before .args .n; answer = Answers.Status t; stream = c .before .before .s .given .0 .0 }) (c .status .ensures) ∙ sym (ap (stopped (c .before .before .before .before .args .n)) (c .before .before .s .given .1))
+
+returns-2 : tie.Need-returns-2
+returns-2 c =
+    sym (ap (stopped (c .before .before .before .args .n)) (c .before .s2 .given .1))
+
+returns-3 : tie.Need-returns-3
+returns-3 c =
+    sym (ap (stopped (c .before .before .args .n)) (c .enum-told .given .1))
+
+pub stop-spec : {M : Type 1} → statement M
+stop-spec =
+    tie.close
+    (tie.spec enum-known-s status-requires enum-known-s-2 enum-told returns returns-2 returns-3)

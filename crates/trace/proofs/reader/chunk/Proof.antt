@@ -1,0 +1,55 @@
+-- `trace::reader::chunk` is safe and ends: each turn takes one from `turns`.
+use borrow.Author.Needs.{needs}
+use mathlib.Core.Path.{_≡_}
+use lib.ListN.{length}
+use Rattle.trace.proofs.reader.chunk.Statement.{statement}
+use Rattle.trace.proofs.reader.chunk.Tie as tie
+
+abbrev Inv-loop : tie.InvT-loop
+Inv-loop bytes end out₀ t₀ turns₀ out t turns = length out ≡ length out₀
+
+abbrev μ-loop : tie.MeasureT-loop
+μ-loop bytes end out₀ t₀ turns₀ out t turns = turns
+
+loop-holds : tie.Need-loop-holds Inv-loop μ-loop
+loop-holds c = search needs
+
+call-requires : tie.Need-call-requires Inv-loop μ-loop
+call-requires c κs = search needs
+
+sub-turns : tie.Need-sub-turns Inv-loop μ-loop
+sub-turns c = search needs
+
+loop-less : tie.Need-loop-less Inv-loop μ-loop
+loop-less c = search needs
+
+loop-again : tie.Need-loop-again Inv-loop μ-loop
+loop-again c = search needs
+
+same-length : tie.Need-same-length Inv-loop μ-loop
+same-length c = search needs
+
+returns : tie.Need-returns Inv-loop μ-loop
+returns c = search needs
+
+same-length-2 : tie.Need-same-length-2 Inv-loop μ-loop
+same-length-2 c = search needs
+
+returns-2 : tie.Need-returns-2 Inv-loop μ-loop
+returns-2 c = search needs
+
+pub chunk-spec : {M : Type 1} → statement M
+chunk-spec =
+    tie.close
+    (tie.spec
+    Inv-loop
+    μ-loop
+    loop-holds
+    call-requires
+    sub-turns
+    loop-less
+    loop-again
+    same-length
+    returns
+    same-length-2
+    returns-2)

@@ -107,6 +107,10 @@ scan-byte n d (inArrayWord id c k v) b bs e = refl
 scan-byte n d (inFloat id w left k v) b bs e = refl
 scan-byte n d (inPayload id r total o) b bs e = let z : _≡_ {A = ℕ} 0 1 = cc in absurd (omega arith)
 
+pub scan-end : (n d : ℕ) (p : machine.Phase) → scan base n d p [] ≡ record { read = n; answer = pieces.verdict (pieces.verdictAt d p); state = reading d p }
+unfolding scan
+scan-end n d p = refl
+
 -- a byte that ends the call
 leave : (n : ℕ) (m : machine.Stepped) (f : ℕ → machine.Phase → Called) → Kept m → OneOf (1 ∷ 2 ∷ []) (tagOf the-type (stepped m)) → stopped n (stepped m) ≡ fedIn (scanned n m f)
 unfolding scanned fedIn

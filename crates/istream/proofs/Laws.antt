@@ -30,7 +30,7 @@ use Rattle.istream.specs.Stream.{stateAt, stateOf, streamIn, soundPhase,
 use Rattle.istream.specs.Sound.{SoundAt, SoundState, AtBytes, Kept}
 use Rattle.istream.proofs.Steps.{width-back}
 use Rattle.istream.proofs.Keeps.{step-keeps}
-use Rattle.istream.proofs.Calls.{Live, state-of-stream, scan-byte}
+use Rattle.istream.proofs.Calls.{Live, scan-end, scan-byte}
 use Rattle.istream.proofs.Phase.{the-type}
 
 -- ---- the test of a state, and what it says
@@ -155,3 +155,64 @@ pub owed-piece : (d id : ℕ) (r : RawType) (c : List ℕ) (v : Given.Event) (p 
 unfolding call fedIn
 owed-piece d id Raws.Str c v p e f = λ i. record { read = 0; answer = Answers.Event (e i); stream = record { phase = f i; depth = d } }
 owed-piece d id Raws.Blob c v p e f = λ i. record { read = 0; answer = Answers.Event (e i); stream = record { phase = f i; depth = d } }
+
+-- ---- a call keeps a state sound
+
+-- "bytes": each element is below 256
+abbrev pub Bytes : List ℕ → Type 0
+Bytes bs = (i : ℕ) → getD bs i 0 < 256
+
+scanned-keeps : (n : ℕ) (m : machine.Stepped) (f : ℕ → machine.Phase → Called) → Kept m → ((d : ℕ) (p : machine.Phase) → AtBytes (reading d p) → SoundState (f d p .state)) → SoundState (scanned n m f .state)
+unfolding scanned
+scanned-keeps n (on [] d p) f k g = g d p k
+scanned-keeps n (on (e ∷ es) d p) f k g = k .1
+scanned-keeps n bad f k g = tt
+
+at-bytes-sound : (d : ℕ) (p : machine.Phase) → AtBytes (reading d p) → SoundState (reading d p)
+at-bytes-sound d p (l, (s, e)) = (l, s)
+
+bytes-keep : (n d : ℕ) (p : machine.Phase) (bs : List ℕ) → Bytes bs → AtBytes (reading d p) → SoundState (scan base n d p bs .state)
+bytes-keep n d p [] h a = end-keeps n d p (at-bytes-sound d p a)
+  where
+    end-keeps : (n d : ℕ) (p : machine.Phase) → SoundState (reading d p) → SoundState (scan base n d p [] .state)
+    end-keeps n d p s = subst (λ (c : Called). SoundState (c .state)) (sym (scan-end n d p)) s
+bytes-keep n d p (b ∷ bs) h a =
+    subst (λ (c : Called). SoundState (c .state)) (sym (scan-byte n d p b bs (a .1 .1)))
+    (scanned-keeps (suc n) (machine.step base d p b) (λ d′ p′. scan base (suc n) d′ p′ bs) (step-keeps d p b a (h 0)) (λ d′ p′ k. bytes-keep (suc n) d′ p′ bs (λ i. h (suc i)) k))
+
+piece-keeps : (d id : ℕ) (r : Raw) (total o : ℕ) (c : List ℕ) → SoundState (reading d (inPayload id r total o)) → SoundState (call base (reading d (inPayload id r total o)) c .state)
+unfolding call scan
+piece-keeps d id r total o [] s = s
+piece-keeps d id r total o (b ∷ bs) (l, (i, (t, n))) = go (ltb (o + min (total - o) (length (b ∷ bs))) total) refl
+  where
+    go : (x : Bool) → ltb (o + min (total - o) (length (b ∷ bs))) total ≡ x → SoundState (reading d (pick x (inPayload id r total (o + min (total - o) (length (b ∷ bs)))) idle))
+    go true q = (l, (i, (t, ltb-true _ _ q)))
+    go false q = (l, varint.sound-start)
+
+call-keeps : (d : ℕ) (p : Phase) (c : List ℕ) → Bytes c → SoundState (stateAt d p) → SoundState (call base (stateAt d p) c .state)
+unfolding call
+call-keeps d (Header a) c h (l, s) = bytes-keep 0 d _ c h (l, (s, refl))
+call-keeps d (Unsigned id left a) c h (l, s) = bytes-keep 0 d _ c h (l, (s, refl))
+call-keeps d (Signed id left a) c h (l, s) = bytes-keep 0 d _ c h (l, (s, refl))
+call-keeps d (Word id a) c h (l, s) = bytes-keep 0 d _ c h (l, (s, refl))
+call-keeps d (UnsignedCount id a) c h (l, s) = bytes-keep 0 d _ c h (l, (s, refl))
+call-keeps d (SignedCount id a) c h (l, s) = bytes-keep 0 d _ c h (l, (s, refl))
+call-keeps d (FloatCount id a) c h (l, s) = bytes-keep 0 d _ c h (l, (s, refl))
+call-keeps d (ArrayWord id count a) c h (l, s) = bytes-keep 0 d _ c h (l, (s, refl))
+call-keeps d (Float id w left k v) c h (l, s) = bytes-keep 0 d _ c h (l, (s, refl))
+call-keeps d (Payload id r total o) c h s = piece-keeps d id (rawSort r) total o c s
+call-keeps d (Empty id r) c h (l, i) = (l, varint.sound-start)
+call-keeps d Broken c h s = tt
+
+-- a call on a sound state hands back a sound one
+pub feed-keeps : (s : IStream) (c : List ℕ) → Bytes c → soundStream s ≡ true → soundStream (fedOf s c .stream) ≡ true
+unfolding fedOf fedIn
+feed-keeps s c h t = go (stateOf s) refl
+  where
+    fed : soundStream (streamIn (call base (stateOf s) c .state)) ≡ true
+    fed = sound-is (call base (stateOf s) c .state) (call-keeps (s .depth) (s .phase) c h (is-sound s t))
+
+    go : (st : State) → stateOf s ≡ st → soundStream (fedFrom (stateOf s) s c .stream) ≡ true
+    go (reading d p) e = ap (λ (x : State). soundStream (fedFrom x s c .stream)) e ∙ simp t fed
+    go (owing d id r) e = ap (λ (x : State). soundStream (fedFrom x s c .stream)) e ∙ simp t fed
+    go broke e = ap (λ (x : State). soundStream (fedFrom x s c .stream)) e ∙ t

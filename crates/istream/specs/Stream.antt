@@ -30,6 +30,7 @@ use Rattle.istream.specs.declared.Status.the-variants.{Complete, Incompl
 use Rattle.istream.specs.declared.Answer.{Answer}
 use Rattle.istream.specs.declared.Answer.the-variants as Answers
 use Rattle.istream.specs.declared.Fed.{Fed}
+use Rattle.istream.specs.declared.Taken.{Taken}
 use Rattle.istream.specs.declared.Stepped.{Stepped}
 use Rattle.istream.specs.declared.Stepped.the-variants.{On, Raised, Bad}
 
@@ -176,3 +177,7 @@ fedFrom broke s c = still s
 -- a broken reader is always sound, whatever its depth
 unfoldable pub fedOf : IStream → List ℕ → Fed
 fedOf s c = fedFrom (stateOf s) s c
+
+-- the same, with the answer apart from the state
+unfoldable pub takenOf : IStream → List ℕ → Taken
+takenOf s c = record { heard = record { read = fedOf s c .read; answer = fedOf s c .answer }; stream = fedOf s c .stream }

@@ -12,7 +12,7 @@ ghost use Rattle.machine.specs.Call.{reading, fresh, call};
 ghost use Rattle.event.specs.Event.{declared};
 ghost use Rattle.types.specs.Types.{width, rawSort};
 ghost use Rattle.varint.specs.Varint.{Sound, soundAcc};
-ghost use Rattle.istream.specs.Stream.{stateOf, phaseIn, streamIn, idIn, countIn, soundPhase, soundStream, stepped, stepOn, statusOf, stopped, pieceIn, fedIn, fedOf};
+ghost use Rattle.istream.specs.Stream.{stateOf, phaseIn, streamIn, idIn, countIn, soundPhase, soundStream, stepped, stepOn, statusOf, stopped, pieceIn, fedIn, fedOf, takenOf};
 ghost use Rattle.istream.specs.Sound.{AtBytes};
 use event::Bounds;
 use event::Event;
@@ -69,6 +69,17 @@ pub enum Answer {
 pub struct Fed {
     pub read: usize,
     pub answer: Answer,
+    pub stream: IStream,
+}
+
+// What a call through a reference answers: the bytes read of the chunk, and the answer.
+pub struct Heard {
+    pub read: usize,
+    pub answer: Answer,
+}
+
+pub struct Taken {
+    pub heard: Heard,
     pub stream: IStream,
 }
 
@@ -436,10 +447,12 @@ fn float_count(depth: u8, id: u32, a: Acc, b: u8) -> Stepped
     if (ARRAY_MAX as u64) < v {
         return Stepped::Bad;
     }
-    Stepped::On(IStream {
-        phase: Phase::ArrayWord(id, v as u32, Acc { value: 0, taken: 0 }),
+    let count = v as u32;
+    let word = IStream {
+        phase: Phase::ArrayWord(id, count, Acc { value: 0, taken: 0 }),
         depth,
-    })
+    };
+    Stepped::On(word)
 }
 
 fn array_word(depth: u8, id: u32, count: u32, a: Acc, b: u8) -> Stepped
@@ -591,11 +604,12 @@ fn scan(stream: IStream, chunk: &[u8]) -> Fed
     let mut n: usize = 0;
     while n < chunk.len() {
         let s = step(at, chunk[n]);
-        n += 1;
+        let read = n + 1;
         let Stepped::On(next) = s else {
-            return stop(n, s);
+            return stop(read, s);
         };
         at = next;
+        n = read;
     }
     stop(n, Stepped::On(at))
 }
@@ -731,5 +745,40 @@ impl IStream {
             },
             _ => scan(self, chunk),
         }
+    }
+}
+
+// A call's answer, and beside it the reader after the call.
+fn split(r: IStream, chunk: &[u8]) -> Taken
+    ensures { λ l. ⌜ l ≡ takenOf r (now (chunk .entry)) ⌝ }
+{
+    let f = r.feed(chunk);
+    let read = f.read;
+    let answer = f.answer;
+    let stream = f.stream;
+    Taken {
+        heard: Heard { read, answer },
+        stream,
+    }
+}
+
+// The thin feed: the reader is taken out of the reference, fed by value and stored back.
+pub fn feed_ref(r: &mut IStream, chunk: &[u8]) -> Heard
+    ensures { λ a. ⌜ (a ≡ takenOf (now (r .entry)) (now (chunk .entry)) .heard) × (now (r .exit) ≡ takenOf (now (r .entry)) (now (chunk .entry)) .stream) ⌝ }
+{
+    let f = split(*r, chunk);
+    *r = f.stream;
+    f.heard
+}
+
+// The reader lent by mutable reference, for callers that have it by value: what a main loop calls.
+pub fn lent(r: IStream, chunk: &[u8]) -> Taken
+    ensures { λ l. ⌜ l ≡ takenOf r (now (chunk .entry)) ⌝ }
+{
+    let mut m = r;
+    let a = feed_ref(&mut m, chunk);
+    Taken {
+        heard: a,
+        stream: m,
     }
 }

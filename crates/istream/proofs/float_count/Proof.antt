@@ -33,8 +33,8 @@ unfolding step
 returns-3 c =
     count-bad-float (c .before .before .before .before .before .args .depth) (c .before .before .before .before .before .args .id) (c .before .before .p .given .0 .0) (c .if1 .taken) ∙ value-in (c .before .before .before .before .before .args .a) (c .before .before .before .before .before .args .b) (c .before .before .before .before .push .result) (c .before .before .before .before .push .ensures) _ _ _ _ (c .before .before .p .given .1)
 
-cast-t12 : tie.Need-cast-t12
-cast-t12 c = search needs
+cast-count : tie.Need-cast-count
+cast-count c = search needs
 
 returns-4 : tie.Need-returns-4
 unfolding step
@@ -52,5 +52,5 @@ float-count-spec =
     returns-2
     cast-if1
     returns-3
-    cast-t12
+    cast-count
     returns-4)

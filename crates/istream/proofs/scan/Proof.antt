@@ -31,8 +31,8 @@ shared-slice-read-step c = search needs
 step-requires : tie.Need-step-requires Inv-loop μ-loop
 step-requires c κs = c .before .before .loop .inv .1 .0
 
-add-n : tie.Need-add-n Inv-loop μ-loop
-add-n c = search needs
+add-read : tie.Need-add-read Inv-loop μ-loop
+add-read c = search needs
 
 enum-known-s : tie.Need-enum-known-s Inv-loop μ-loop
 enum-known-s c = search needs
@@ -69,7 +69,7 @@ scan-spec =
     loop-holds
     shared-slice-read-step
     step-requires
-    add-n
+    add-read
     enum-known-s
     stop-requires
     returns

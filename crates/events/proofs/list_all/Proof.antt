@@ -1,0 +1,77 @@
+-- `events::list_all` is safe and ends.
+use Prim.Native.Nat.{_≤_, _-_, _+_}
+use mathlib.Core.Path.{_≡_}
+use lib.ListN.{length}
+use borrow.Author.Needs.{needs}
+use Rattle.events.proofs.list_all.Statement.{statement}
+use Rattle.events.proofs.list_all.Tie as tie
+use Rattle.events.proofs.list_all.Reads as reads
+use Rattle.events.proofs.list_all.Lts as lts
+use Rattle.events.proofs.stop.Reads as stop-reads
+use Rattle.events.proofs.take_chunk.Reads as take-chunk-reads
+use Rattle.istream.proofs.IStream.new.Reads as new-reads
+
+abbrev Inv-loop : tie.InvT-loop
+Inv-loop input₀ out₀ l₀ turns₀ input out l turns = (length input ≡ length input₀) × (length out ≡ length out₀)
+
+abbrev μ-loop : tie.MeasureT-loop
+μ-loop input₀ out₀ l₀ turns₀ input out l turns = turns
+
+new-requires : tie.Need-new-requires Inv-loop μ-loop
+new-requires c κs = search needs
+
+stop-requires : tie.Need-stop-requires Inv-loop μ-loop
+stop-requires c κs = search needs
+
+loop-holds : tie.Need-loop-holds Inv-loop μ-loop
+loop-holds c = search needs
+
+take-chunk-requires : tie.Need-take-chunk-requires Inv-loop μ-loop
+take-chunk-requires c κs = search needs
+
+same-length : tie.Need-same-length Inv-loop μ-loop
+same-length c = search needs
+
+same-length-2 : tie.Need-same-length-2 Inv-loop μ-loop
+same-length-2 c = search needs
+
+returns : tie.Need-returns Inv-loop μ-loop
+returns c = search needs
+
+sub-turns : tie.Need-sub-turns Inv-loop μ-loop
+sub-turns c = search needs
+
+loop-less : tie.Need-loop-less Inv-loop μ-loop
+loop-less c = search needs
+
+loop-again : tie.Need-loop-again Inv-loop μ-loop
+loop-again c = search needs
+
+same-length-3 : tie.Need-same-length-3 Inv-loop μ-loop
+same-length-3 c = search needs
+
+same-length-4 : tie.Need-same-length-4 Inv-loop μ-loop
+same-length-4 c = search needs
+
+returns-2 : tie.Need-returns-2 Inv-loop μ-loop
+returns-2 c = search needs
+
+pub list-all-spec : {M : Type 1} → statement M
+list-all-spec =
+    tie.close
+    (tie.spec
+    Inv-loop
+    μ-loop
+    new-requires
+    stop-requires
+    loop-holds
+    take-chunk-requires
+    same-length
+    same-length-2
+    returns
+    sub-turns
+    loop-less
+    loop-again
+    same-length-3
+    same-length-4
+    returns-2)

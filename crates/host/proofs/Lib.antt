@@ -1,0 +1,2 @@
+-- The laws behind the exports.
+pub mod Numbers

@@ -1,0 +1,22 @@
+-- The number of a verdict as the reader answers it.
+use mathlib.Core.Path.{_≡_, refl, sym, ap, _∙_}
+use lib.IntN.{ℤ, pos, negsuc}
+use Rattle.layout.specs.Message as layout
+use Rattle.whole.specs.declared.Verdict.{Verdict}
+use Rattle.whole.specs.declared.Verdict.the-variants.{Complete, Incomplete, Broken}
+use Rattle.whole.specs.Whole.{verdictIn}
+use Rattle.host.specs.Host.{number}
+
+abbrev code : Verdict → ℤ
+code Complete = pos 0
+code Incomplete = pos 1
+code (Broken n) = negsuc 1
+
+alike : (v : layout.Verdict) → code (verdictIn v) ≡ number v
+unfolding number
+alike layout.complete = refl
+alike layout.incomplete = refl
+alike (layout.brokenAt n) = refl
+
+pub numbered : (v : layout.Verdict) (r w : Verdict) → r ≡ verdictIn v → r ≡ w → code w ≡ number v
+numbered v r w e g = ap code (sym g ∙ e) ∙ alike v

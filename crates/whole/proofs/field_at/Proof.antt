@@ -1,0 +1,41 @@
+-- `whole::field_at` meets its contract: a header, and what follows one of its type.
+use mathlib.Core.Path.{ap, _∙_}
+use Rattle.whole.specs.Whole.{deepened}
+use Rattle.whole.proofs.Ends.{reaches-inside}
+use Rattle.whole.proofs.Fields.{field-then, field-else}
+use borrow.Author.Needs.{needs}
+use Rattle.whole.proofs.field_at.Statement.{statement}
+use Rattle.whole.proofs.field_at.Tie as tie
+
+header-at-requires : tie.Need-header-at-requires
+header-at-requires c κs = search needs
+
+enum-known-found : tie.Need-enum-known-found
+enum-known-found c = search needs
+
+leave-requires : tie.Need-leave-requires
+leave-requires c κs = search needs
+
+at-depth-requires : tie.Need-at-depth-requires
+at-depth-requires c κs = search needs
+
+returns : tie.Need-returns
+returns c = field-else _ _ _ (c .before .before .match .keys2) (c .before .before .before .header-at .ensures) (c .at-depth .ensures ∙ ap (deepened _) (c .before .leave .ensures))
+
+body-at-requires : tie.Need-body-at-requires
+body-at-requires c κs = let p = c .before in reaches-inside (p .found .given .1) (p .before .before .header-at .ensures)
+
+returns-2 : tie.Need-returns-2
+returns-2 c = let p = c .before .before in field-then _ _ _ _ _ (p .found .given .1) (p .before .before .header-at .ensures) (c .body-at .ensures)
+
+pub field-at-spec : {M : Type 1} → statement M
+field-at-spec =
+    tie.close
+    (tie.spec
+    header-at-requires
+    enum-known-found
+    leave-requires
+    at-depth-requires
+    returns
+    body-at-requires
+    returns-2)

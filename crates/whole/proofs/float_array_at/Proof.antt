@@ -1,0 +1,98 @@
+-- `whole::float_array_at` meets its contract: a count, a word, and one jump over the elements.
+use mathlib.Core.Path.{sym, subst}
+use native.Mathlib.Omega.{arith}
+use Rattle.layout.specs.Field.{fp32, fp64}
+use Rattle.whole.specs.Whole.{Passes}
+use Rattle.whole.proofs.Ends.{reaches-inside}
+use Rattle.whole.proofs.Landing.{count-small, floats-then, floats-else, floats-jump, floats-fail, floats-word-else}
+use borrow.Author.Needs.{needs}
+use Rattle.whole.proofs.float_array_at.Statement.{statement}
+use Rattle.whole.proofs.float_array_at.Tie as tie
+
+count-at-requires : tie.Need-count-at-requires
+count-at-requires c κs = search needs
+
+enum-known-count : tie.Need-enum-known-count
+enum-known-count c = search needs
+
+leave-requires : tie.Need-leave-requires
+leave-requires c κs = search needs
+
+returns : tie.Need-returns
+returns c id = subst (Passes _ _ _) (sym (c .leave .ensures)) (floats-else _ (c .before .match .keys2) (c .before .before .count-at .ensures) id)
+
+varint-at-requires : tie.Need-varint-at-requires
+varint-at-requires c κs = let p = c .before in reaches-inside (p .count .given .1) (p .before .before .count-at .ensures)
+
+enum-known-found : tie.Need-enum-known-found
+enum-known-found c = search needs
+
+leave-requires-2 : tie.Need-leave-requires-2
+leave-requires-2 c κs = search needs
+
+returns-2 : tie.Need-returns-2
+returns-2 c id =
+    let v = c .before .before in
+    let p = v .before .before in
+    floats-then (p .count .given .1) (p .before .before .count-at .ensures) id _
+    (subst (Passes _ _ _) (sym (c .leave2 .ensures)) (floats-word-else _ (c .before .match2 .keys2) (v .varint-at .ensures) id _))
+
+mul-jump : tie.Need-mul-jump
+mul-jump c =
+    let p = c .before .before .before .before .before .before in
+    omega (arith, count-small (p .count .given .1) (p .before .before .count-at .ensures))
+
+jump-requires : tie.Need-jump-requires
+jump-requires c κs = let w = c .before .before in reaches-inside (w .found .given .1) (w .before .before .varint-at .ensures)
+
+returns-3 : tie.Need-returns-3
+returns-3 c id =
+    let w = c .before .before .before in
+    let v = w .before .before in
+    let p = v .before .before in
+    floats-then (p .count .given .1) (p .before .before .count-at .ensures) id _
+    (floats-jump (w .found .given .1) (v .varint-at .ensures) id _ fp32 _ (omega (arith, c .before .if1 .taken)) (omega (arith, c .before .if1 .taken)) (c .jump .ensures))
+
+mul-jump-2 : tie.Need-mul-jump-2
+mul-jump-2 c =
+    let p = c .before .before .before .before .before .before .before in
+    omega (arith, count-small (p .count .given .1) (p .before .before .count-at .ensures))
+
+jump-requires-2 : tie.Need-jump-requires-2
+jump-requires-2 c κs = let w = c .before .before .before in reaches-inside (w .found .given .1) (w .before .before .varint-at .ensures)
+
+returns-4 : tie.Need-returns-4
+returns-4 c id =
+    let w = c .before .before .before .before in
+    let v = w .before .before in
+    let p = v .before .before in
+    floats-then (p .count .given .1) (p .before .before .count-at .ensures) id _
+    (floats-jump (w .found .given .1) (v .varint-at .ensures) id _ fp64 _ (omega (arith, c .before .if2 .taken)) (omega (arith, c .before .if2 .taken)) (c .jump2 .ensures))
+
+returns-5 : tie.Need-returns-5
+returns-5 c id =
+    let w = c .before .before .before in
+    let v = w .before .before in
+    let p = v .before .before in
+    floats-then (p .count .given .1) (p .before .before .count-at .ensures) id _
+    (floats-fail (w .found .given .1) (v .varint-at .ensures) id _ (c .before .if1 .left) (c .if2 .left))
+
+pub float-array-at-spec : {M : Type 1} → statement M
+float-array-at-spec =
+    tie.close
+    (tie.spec
+    count-at-requires
+    enum-known-count
+    leave-requires
+    returns
+    varint-at-requires
+    enum-known-found
+    leave-requires-2
+    returns-2
+    mul-jump
+    jump-requires
+    returns-3
+    mul-jump-2
+    jump-requires-2
+    returns-4
+    returns-5)

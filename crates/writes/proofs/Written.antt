@@ -1,0 +1,385 @@
+-- The writer's calls are steady, and their outputs are what was written, by the rule for held sequences.
+use Prim.Native.Nat.{ℕ, zero, suc, _+_, _-_, _≤_, _<_}
+use native.Mathlib.Omega.{arith}
+use native.Mathlib.Nat.{not-suc-le-zero}
+use native.Mathlib.Numerals.{add-one}
+use mathlib.Core.Path.{_≡_, refl, sym, ap, _∙_, subst}
+use mathlib.Core.Bool.{Bool, true, false, not, _&&_}
+use mathlib.Core.List.{List, [], _∷_, _++_, append-assoc, append-nil}
+use lib.Dec.{ltb, leb, eqb}
+use borrow.Author.Tests.{ltb-true, ltb-false, leb-true, leb-false, eqb-true, eqb-false, lt-ltb, le-ltb, le-leb, lt-leb, eq-eqb, ne-eqb}
+use lib.ListN.{length, take, drop, set, replicate, length-append, length-set, length-replicate, length-drop, length-take, drop-of-length-le}
+use lib.Seq.{take-suc-set, drop-set-lt, take-set-le, set-split, drop-at, length-take-le}
+use Rattle.layout.specs.Limits.{base, pick}
+use Rattle.layout.specs.Message.{All}
+use Rattle.layout.specs.Field.{Field, header, each, begin, end, T-begin}
+use Rattle.layout.specs.Copy.{fieldBytes}
+use Rattle.types.specs.declared.Error.{Error}
+use Rattle.ostream.specs.declared.OStream.{OStream}
+use Rattle.ostream.specs.Stream.{at, every, soundStream, lazyDepth, heldBytes, zeroed, committed, holding, dropped, opened}
+use Rattle.ostream.specs.Emission.{Test, Verdict, accepted, refusedWith, judged}
+use Rattle.ostream.specs.Calls.{unsound, idTooLarge, tooDeep, noneOpen}
+use Rattle.ostream.proofs.Called.{Sound, is-sound, both}
+use Rattle.ostream.proofs.Places.{length-zeroed}
+use Rattle.writes.specs.Series.{Able, Op, Steady, outputs, Desk, Act, acts, act, drain, whole}
+use Rattle.writes.specs.Written.{Item, field, fixlen, itemBytes, Write, puts, opens, closes, keeps, begins, front, written, opOf, op, opsOf}
+use Rattle.writes.proofs.Runs.{Placed, at-start, Fine, all-sent, Plain, Lean, few-drains}
+
+-- ---- tests that pass
+
+passed : (t : Test) (ts : List Test) → judged (t ∷ ts) ≡ accepted → (t .fails ≡ false) × (judged ts ≡ accepted)
+passed t ts h = go (t .fails) refl h
+  where
+    go : (b : Bool) → t .fails ≡ b → pick b (refusedWith (t .error)) (judged ts) ≡ accepted → (t .fails ≡ false) × (judged ts ≡ accepted)
+    go true e f = let z : _≡_ {A = ℕ} 0 1 = cc in absurd (omega arith)
+    go false e f = (e, f)
+
+-- ---- sound states
+
+every-append : (p : ℕ → Bool) (xs ys : List ℕ) → every p xs ≡ true → every p ys ≡ true → every p (xs ++ ys) ≡ true
+unfolding every
+every-append p [] ys h g = g
+every-append p (x ∷ xs) ys h g = let b = both (p x) (every p xs) h in simp (b .0) (every-append p xs ys (b .1) g)
+
+every-zeros : (n : ℕ) → every (λ x. eqb x 0) (replicate n 0) ≡ true
+unfolding every
+every-zeros zero = refl
+every-zeros (suc n) = every-zeros n
+
+-- the tests of a sound state, put together
+make-sound : (s : OStream) (size : ℕ) → Sound s size → soundStream s size ≡ true
+unfolding soundStream
+make-sound s size h =
+    simp (le-leb _ _ (h .inside), le-leb _ _ (h .few), le-leb _ _ (h .nested), le-leb _ _ (h .shallow), h .legal, h .zeros)
+
+none-legal : every (λ x. leb x (base .id)) [] ≡ true
+unfolding every
+none-legal = refl
+
+-- a state with none held any more
+committed-able : (s : OStream) (size d p q : ℕ) → Able s size → d ≤ base .depth → p ≤ q → Able (at (committed s d) p) q
+unfolding committed
+committed-able s size d p q a h l =
+    let f = is-sound s size (a .0) in (
+      make-sound (at (committed s d) p) q
+          (record {
+            inside = l;
+            few = omega arith;
+            nested = omega arith;
+            shallow = h;
+            legal = none-legal;
+            zeros = every-append (λ x. eqb x 0) (replicate (s .npending) 0) (drop (s .npending) (s .pending)) (every-zeros (s .npending)) (f .zeros);
+          }),
+      length-zeroed (s .pending) (s .npending) (omega (arith, f .few, a .1)) ∙ a .1,
+    )
+
+one-legal : (id : ℕ) → id ≤ base .id → every (λ x. leb x (base .id)) (id ∷ []) ≡ true
+unfolding every
+one-legal id h = simp (le-leb _ _ h)
+
+more-zeros : (xs : List ℕ) → every (λ x. eqb x 0) xs ≡ true → every (λ x. eqb x 0) (0 ∷ xs) ≡ true
+unfolding every
+more-zeros xs h = h
+
+-- one fewer of a list's end, and of its start
+every-less : (p : ℕ → Bool) (xs : List ℕ) (n : ℕ) → n < length xs → every p (drop n xs) ≡ true → every p (drop (suc n) xs) ≡ true
+unfolding every
+every-less p [] n h g = refl
+every-less p (x ∷ xs) zero h g = both (p x) (every p xs) g .1
+every-less p (x ∷ xs) (suc n) h g = every-less p xs n (omega arith) g
+
+every-fewer : (p : ℕ → Bool) (xs : List ℕ) (n m : ℕ) → m ≤ n → every p (take n xs) ≡ true → every p (take m xs) ≡ true
+unfolding every
+every-fewer p xs n zero h g = refl
+every-fewer p [] n (suc m) h g = refl
+every-fewer p (x ∷ xs) zero (suc m) h g = absurd (not-suc-le-zero h)
+every-fewer p (x ∷ xs) (suc n) (suc m) h g = let b = both (p x) (every p (take n xs)) g in simp (b .0) (every-fewer p xs n m (omega arith) (b .1))
+
+-- a state with one more held
+holding-able : (s : OStream) (size id p q : ℕ) → Able s size → s .npending < lazyDepth → s .depth < base .depth → id ≤ base .id → p ≤ q → Able (at (holding s id) p) q
+unfolding holding every
+holding-able s size id p q a n h i l =
+    let f = is-sound s size (a .0) in
+    let k : s .npending < length (s .pending) = omega (arith, a .1) in
+    let t : take (s .npending + 1) (set (s .pending) (s .npending) id) ≡ take (s .npending) (s .pending) ++ (id ∷ []) =
+    ap (λ (m : ℕ). take m (set (s .pending) (s .npending) id)) (add-one (s .npending)) ∙ take-suc-set (s .pending) (s .npending) id k in
+    let u : drop (s .npending + 1) (set (s .pending) (s .npending) id) ≡ drop (suc (s .npending)) (s .pending) =
+    ap (λ (m : ℕ). drop m (set (s .pending) (s .npending) id)) (add-one (s .npending)) ∙ drop-set-lt (suc (s .npending)) (s .pending) (s .npending) id (omega arith) in (
+      make-sound (at (holding s id) p) q
+          (record {
+            inside = l;
+            few = omega arith;
+            nested = omega (arith, f .nested);
+            shallow = omega arith;
+            legal = ap (every (λ x. leb x (base .id))) t ∙ every-append (λ x. leb x (base .id)) (take (s .npending) (s .pending)) (id ∷ []) (f .legal) (one-legal id i);
+            zeros = ap (every (λ x. eqb x 0)) u ∙ every-less (λ x. eqb x 0) (s .pending) (s .npending) k (f .zeros);
+          }),
+      length-set (s .pending) (s .npending) id ∙ a .1,
+    )
+
+-- a state with one fewer held
+dropped-able : (s : OStream) (size p q : ℕ) → Able s size → 0 < s .npending → p ≤ q → Able (at (dropped s) p) q
+unfolding dropped
+dropped-able s size p q a n l =
+    let f = is-sound s size (a .0) in
+    let m : suc (s .npending - 1) ≡ s .npending = omega arith in
+    let k : s .npending - 1 < length (s .pending) = omega (arith, a .1, f .few) in
+    let t : take (s .npending - 1) (set (s .pending) (s .npending - 1) 0) ≡ take (s .npending - 1) (s .pending) = take-set-le (s .npending - 1) (s .pending) (s .npending - 1) 0 (omega arith) in
+    let u : drop (s .npending - 1) (set (s .pending) (s .npending - 1) 0) ≡ 0 ∷ drop (s .npending) (s .pending) =
+    ap (drop (s .npending - 1)) (set-split (s .pending) (s .npending - 1) 0 k)
+    ∙ drop-at (take (s .npending - 1) (s .pending)) _ (s .npending - 1) (length-take-le (s .npending - 1) (s .pending) (omega arith))
+    ∙ ap (λ (j : ℕ). 0 ∷ drop j (s .pending)) m in (
+      make-sound (at (dropped s) p) q
+          (record {
+            inside = l;
+            few = omega (arith, f .few);
+            nested = omega (arith, f .nested);
+            shallow = omega (arith, f .shallow);
+            legal = ap (every (λ x. leb x (base .id))) t ∙ every-fewer (λ x. leb x (base .id)) (s .pending) (s .npending) (s .npending - 1) (omega arith) (f .legal);
+            zeros = ap (every (λ x. eqb x 0)) u ∙ more-zeros (drop (s .npending) (s .pending)) (f .zeros);
+          }),
+      length-set (s .pending) (s .npending - 1) 0 ∙ a .1,
+    )
+
+-- ---- each write is steady
+
+at-pick : (t : Bool) (a a′ b b′ : OStream) (q : ℕ) → at a q ≡ at a′ q → at b q ≡ at b′ q → at (pick t a b) q ≡ at (pick t a′ b′) q
+at-pick true a a′ b b′ q e f = e
+at-pick false a a′ b b′ q e f = f
+
+positive : (n : ℕ) → (n ≡ 0 → ⊥) → 0 < n
+positive zero h = absurd (h refl)
+positive (suc n) h = omega arith
+
+puts-steady : (ts : List Test) (x : Item) → Steady (op (puts ts x))
+unfolding heldBytes committed
+puts-steady ts x =
+    record {
+      outputs = λ s p. refl;
+      leaves = λ s p q. refl;
+      sound = λ s size p q a t l. committed-able s size (s .depth) p q a (is-sound s size (a .0) .shallow) l;
+    }
+
+opens-steady : (id : ℕ) → Steady (op (opens id))
+unfolding heldBytes committed holding
+opens-steady id =
+    record {
+      outputs = λ s p. refl;
+      leaves = λ s p q. at-pick (ltb (s .npending) lazyDepth) (holding (at s p) id) (holding s id) (committed (at s p) (s .depth + 1)) (committed s (s .depth + 1)) q refl refl;
+      sound = λ s size p q a t l. opened-able s size p q a t l;
+    }
+  where
+    opened-able : (s : OStream) (size p q : ℕ) → Able s size → judged (op (opens id) .tests s size) ≡ accepted → p ≤ q
+        → Able (at (pick (ltb (s .npending) lazyDepth) (holding s id) (committed s (s .depth + 1))) p) q
+    opened-able s size p q a t l =
+        let x = passed (unsound s size) (tooDeep s ∷ idTooLarge id ∷ []) t in
+        let y = passed (tooDeep s) (idTooLarge id ∷ []) (x .1) in
+        let z = passed (idTooLarge id) [] (y .1) in
+        let d : s .depth < base .depth = leb-false _ _ (y .0) in
+        let i : id ≤ base .id = ltb-false _ _ (z .0) in
+        by-room (ltb (s .npending) lazyDepth) refl d i
+      where
+        by-room : (b : Bool) → ltb (s .npending) lazyDepth ≡ b → s .depth < base .depth → id ≤ base .id → Able (at (pick b (holding s id) (committed s (s .depth + 1))) p) q
+        by-room true e d i = holding-able s size id p q a (ltb-true _ _ e) d i l
+        by-room false e d i = committed-able s size (s .depth + 1) p q a (omega arith) l
+
+closes-steady : Steady (op closes)
+unfolding heldBytes committed dropped
+closes-steady =
+    record {
+      outputs = λ s p. refl;
+      leaves = λ s p q. at-pick (eqb (s .npending) 0) (committed (at s p) (s .depth - 1)) (committed s (s .depth - 1)) (dropped (at s p)) (dropped s) q refl refl;
+      sound = closed-able;
+    }
+  where
+    closed-able : (s : OStream) (size p q : ℕ) → Able s size → judged (op closes .tests s size) ≡ accepted → p ≤ q → Able (at (pick (eqb (s .npending) 0) (committed s (s .depth - 1)) (dropped s)) p) q
+    closed-able s size p q a t l = by-held (eqb (s .npending) 0) refl
+      where
+        by-held : (b : Bool) → eqb (s .npending) 0 ≡ b → Able (at (pick b (committed s (s .depth - 1)) (dropped s)) p) q
+        by-held true e = committed-able s size (s .depth - 1) p q a (omega (arith, is-sound s size (a .0) .shallow)) l
+        by-held false e = dropped-able s size p q a (positive (s .npending) (eqb-false _ _ e)) l
+
+keeps-steady : Steady (op keeps)
+unfolding heldBytes committed
+keeps-steady =
+    record {
+      outputs = λ s p. refl;
+      leaves = λ s p q. refl;
+      sound = λ s size p q a t l. committed-able s size (s .depth - 1) p q a (omega (arith, is-sound s size (a .0) .shallow)) l;
+    }
+
+pub steady : (ws : List Write) → All Steady (opsOf ws)
+steady [] = tt
+steady (puts ts x ∷ ws) = (puts-steady ts x, steady ws)
+steady (opens id ∷ ws) = (opens-steady id, steady ws)
+steady (closes ∷ ws) = (closes-steady, steady ws)
+steady (keeps ∷ ws) = (keeps-steady, steady ws)
+
+-- ---- what is written
+
+each-append : {A : Type 0} (f : A → List ℕ) (xs ys : List A) → each f (xs ++ ys) ≡ each f xs ++ each f ys
+unfolding each
+each-append f [] ys = refl
+each-append f (x ∷ xs) ys = ap (λ (l : List ℕ). f x ++ l) (each-append f xs ys) ∙ sym (append-assoc (f x) (each f xs) (each f ys))
+
+abbrev held : OStream → List ℕ
+held s = take (s .npending) (s .pending)
+
+held-items : (ids : List ℕ) → each itemBytes (begins ids) ≡ each (λ id. header id T-begin) ids
+unfolding each fieldBytes
+held-items [] = refl
+held-items (id ∷ ids) = ap (λ (l : List ℕ). header id T-begin ++ l) (held-items ids)
+
+-- held headers, an item, and what follows
+after-held : (s : OStream) (x : Item) (rest : List Item) → (heldBytes s ++ itemBytes x) ++ each itemBytes rest ≡ each itemBytes (begins (held s) ++ (x ∷ rest))
+unfolding heldBytes each
+after-held s x rest =
+    append-assoc (heldBytes s) (itemBytes x) (each itemBytes rest)
+    ∙ ap (λ (l : List ℕ). l ++ (itemBytes x ++ each itemBytes rest)) (sym (held-items (held s)))
+    ∙ sym (each-append itemBytes (begins (held s)) (x ∷ rest))
+
+-- eight places, of which at most eight are used
+abbrev Eight : OStream → Type 0
+Eight s = (length (s .pending) ≡ lazyDepth) × (s .npending ≤ lazyDepth)
+
+eight-committed : (s : OStream) (d : ℕ) → Eight s → Eight (committed s d)
+unfolding committed
+eight-committed s d h = (length-zeroed (s .pending) (s .npending) (omega (arith, h .0, h .1)) ∙ h .0, omega arith)
+
+held-length : (s : OStream) → Eight s → length (held s) ≡ s .npending
+held-length s h = length-take-le (s .npending) (s .pending) (omega (arith, h .0, h .1))
+
+held-holding : (s : OStream) (id : ℕ) → Eight s → s .npending < lazyDepth → held (holding s id) ≡ held s ++ (id ∷ [])
+unfolding holding
+held-holding s id h n = ap (λ (m : ℕ). take m (set (s .pending) (s .npending) id)) (add-one (s .npending)) ∙ take-suc-set (s .pending) (s .npending) id (omega (arith, h .0))
+
+eight-holding : (s : OStream) (id : ℕ) → Eight s → s .npending < lazyDepth → Eight (holding s id)
+unfolding holding
+eight-holding s id h n = (length-set (s .pending) (s .npending) id ∙ h .0, omega arith)
+
+eight-dropped : (s : OStream) → Eight s → Eight (dropped s)
+unfolding dropped
+eight-dropped s h = (length-set (s .pending) (s .npending - 1) 0 ∙ h .0, omega (arith, h .1))
+
+front-take : (xs : List ℕ) (n : ℕ) → suc n ≤ length xs → front (take (suc n) xs) ≡ take n xs
+front-take [] n h = absurd (not-suc-le-zero h)
+front-take (x ∷ xs) zero h = refl
+front-take (x ∷ []) (suc n) h = absurd (omega arith)
+front-take (x ∷ y ∷ ys) (suc n) h = ap (λ (l : List ℕ). x ∷ l) (front-take (y ∷ ys) n (omega arith))
+
+held-dropped : (s : OStream) → Eight s → 0 < s .npending → held (dropped s) ≡ front (held s)
+unfolding dropped
+held-dropped s h n =
+    let m : suc (s .npending - 1) ≡ s .npending = omega arith in
+    take-set-le (s .npending - 1) (s .pending) (s .npending - 1) 0 (omega arith)
+    ∙ sym (front-take (s .pending) (s .npending - 1) (omega (arith, h .0, h .1)))
+    ∙ ap (λ (j : ℕ). front (take j (s .pending))) m
+
+none-held : (s : OStream) → s .npending ≡ 0 → held s ≡ []
+none-held s e = ap (λ (n : ℕ). take n (s .pending)) e
+
+no-held : (s : OStream) (d : ℕ) (ws : List Write) → each itemBytes (written (held (committed s d)) ws) ≡ each itemBytes (written [] ws)
+unfolding committed
+no-held s d ws = refl
+
+close-none : (s : OStream) (ws : List Write) → outputs (committed s (s .depth - 1)) (opsOf ws) ≡ each itemBytes (written [] ws) → held s ≡ []
+    → fieldBytes (end 0) ++ outputs (committed s (s .depth - 1)) (opsOf ws) ≡ each itemBytes (written (held s) (closes ∷ ws))
+unfolding written each
+close-none s ws ih e = ap (λ (l : List ℕ). fieldBytes (end 0) ++ l) ih ∙ ap (λ (l : List ℕ). each itemBytes (written l (closes ∷ ws))) (sym e)
+
+some-held : (ids : List ℕ) (ws : List Write) → 0 < length ids → each itemBytes (written (front ids) ws) ≡ each itemBytes (written ids (closes ∷ ws))
+unfolding written
+some-held [] ws h = absurd (not-suc-le-zero h)
+some-held (x ∷ xs) ws h = refl
+
+-- after content, nothing is held
+content-written : (s : OStream) (d : ℕ) (x : Item) (ws : List Write) → outputs (committed s d) (opsOf ws) ≡ each itemBytes (written [] ws)
+    → (heldBytes s ++ itemBytes x) ++ outputs (committed s d) (opsOf ws) ≡ each itemBytes (begins (held s) ++ (x ∷ written [] ws))
+content-written s d x ws ih = ap (λ (l : List ℕ). (heldBytes s ++ itemBytes x) ++ l) ih ∙ after-held s x (written [] ws)
+
+-- an open: held where there is room, else written
+open-written : (s : OStream) (id : ℕ) (ws : List Write) → Eight s
+    → (s .npending < lazyDepth → outputs (holding s id) (opsOf ws) ≡ each itemBytes (written (held (holding s id)) ws))
+    → outputs (committed s (s .depth + 1)) (opsOf ws) ≡ each itemBytes (written [] ws)
+    → pick (ltb (s .npending) lazyDepth) [] (heldBytes s ++ fieldBytes (begin id)) ++ outputs (pick (ltb (s .npending) lazyDepth) (holding s id) (committed s (s .depth + 1))) (opsOf ws)
+    ≡ each itemBytes (written (held s) (opens id ∷ ws))
+unfolding written
+open-written s id ws h more full = go (ltb (s .npending) lazyDepth) refl
+  where
+    go : (t : Bool) → ltb (s .npending) lazyDepth ≡ t
+        → pick t [] (heldBytes s ++ fieldBytes (begin id)) ++ outputs (pick t (holding s id) (committed s (s .depth + 1))) (opsOf ws)
+        ≡ each itemBytes (elim (ltb (length (held s)) lazyDepth) [ true ↦ written (held s ++ (id ∷ [])) ws | false ↦ begins (held s) ++ (field (begin id) ∷ written [] ws) ])
+    go true e =
+        let n : s .npending < lazyDepth = ltb-true _ _ e in
+        let t : ltb (length (held s)) lazyDepth ≡ true = ap (λ (m : ℕ). ltb m lazyDepth) (held-length s h) ∙ e in
+        more n ∙ ap (λ (l : List ℕ). each itemBytes (written l ws)) (held-holding s id h n)
+        ∙ ap (λ (b : Bool). each itemBytes (elim b as (λ x. List Item) [ true ↦ written (held s ++ (id ∷ [])) ws | false ↦ begins (held s) ++ (field (begin id) ∷ written [] ws) ])) (sym t)
+    go false e =
+        let t : ltb (length (held s)) lazyDepth ≡ false = ap (λ (m : ℕ). ltb m lazyDepth) (held-length s h) ∙ e in
+        content-written s (s .depth + 1) (field (begin id)) ws full
+        ∙ ap (λ (b : Bool). each itemBytes (elim b as (λ x. List Item) [ true ↦ written (held s ++ (id ∷ [])) ws | false ↦ begins (held s) ++ (field (begin id) ∷ written [] ws) ])) (sym t)
+
+-- a plain close: written where none is held, else one is dropped
+close-written : (s : OStream) (ws : List Write) → Eight s
+    → (0 < s .npending → outputs (dropped s) (opsOf ws) ≡ each itemBytes (written (held (dropped s)) ws))
+    → outputs (committed s (s .depth - 1)) (opsOf ws) ≡ each itemBytes (written [] ws)
+    → pick (eqb (s .npending) 0) (fieldBytes (end 0)) [] ++ outputs (pick (eqb (s .npending) 0) (committed s (s .depth - 1)) (dropped s)) (opsOf ws)
+    ≡ each itemBytes (written (held s) (closes ∷ ws))
+close-written s ws h fewer none = go (eqb (s .npending) 0) refl
+  where
+    go : (t : Bool) → eqb (s .npending) 0 ≡ t
+        → pick t (fieldBytes (end 0)) [] ++ outputs (pick t (committed s (s .depth - 1)) (dropped s)) (opsOf ws) ≡ each itemBytes (written (held s) (closes ∷ ws))
+    go true e = close-none s ws none (none-held s (eqb-true _ _ e))
+    go false e =
+        let n : 0 < s .npending = positive (s .npending) (eqb-false _ _ e) in
+        fewer n ∙ ap (λ (l : List ℕ). each itemBytes (written l ws)) (held-dropped s h n) ∙ some-held (held s) ws (omega (arith, held-length s h))
+
+-- The writes' outputs are the items written, one after another.
+pub outputs-written : (s : OStream) (ws : List Write) → Eight s → outputs s (opsOf ws) ≡ each itemBytes (written (held s) ws)
+unfolding outputs written each
+outputs-written s [] h = refl
+outputs-written s (puts ts x ∷ ws) h = content-written s (s .depth) x ws (outputs-written (committed s (s .depth)) ws (eight-committed s (s .depth) h) ∙ no-held s (s .depth) ws)
+outputs-written s (opens id ∷ ws) h =
+    open-written s id ws h (λ n. outputs-written (holding s id) ws (eight-holding s id h n))
+    (outputs-written (committed s (s .depth + 1)) ws (eight-committed s (s .depth + 1) h) ∙ no-held s (s .depth + 1) ws)
+outputs-written s (closes ∷ ws) h =
+    close-written s ws h (λ n. outputs-written (dropped s) ws (eight-dropped s h))
+    (outputs-written (committed s (s .depth - 1)) ws (eight-committed s (s .depth - 1) h) ∙ no-held s (s .depth - 1) ws)
+outputs-written s (keeps ∷ ws) h = content-written s (s .depth - 1) (field (end 0)) ws (outputs-written (committed s (s .depth - 1)) ws (eight-committed s (s .depth - 1) h) ∙ no-held s (s .depth - 1) ws)
+
+-- ---- from the start
+
+-- a fresh writer over a buffer, its first o bytes reserved
+abbrev pub freshDesk : List ℕ → ℕ → List Write → Desk
+freshDesk b o ws = record { stream = opened o; buf = b; reserved = o; sent = []; ops = opsOf ws; place = 0; full = false; drains = 0 }
+
+pub fresh-able : (o size : ℕ) → o ≤ size → Able (opened o) size
+unfolding opened every
+fresh-able o size h = (make-sound (opened o) size (record { inside = h; few = omega arith; nested = omega arith; shallow = omega arith; legal = refl; zeros = refl }), refl)
+
+start-placed : (o : ℕ) (ws : List Write) → Placed 0 (opened o) (opsOf ws)
+start-placed o ws = at-start (opened o) (opsOf ws)
+
+pub fresh-fine : (b : List ℕ) (o : ℕ) (ws : List Write) → o ≤ length b → Fine (freshDesk b o ws)
+unfolding opened
+fresh-fine b o ws h = record { sound = fresh-able o (length b) h; reserved = omega arith; steady = steady ws; placed = start-placed o ws }
+
+fresh-whole : (b : List ℕ) (o : ℕ) (ws : List Write) → whole (freshDesk b o ws) ≡ each itemBytes (written [] ws)
+unfolding whole opened
+fresh-whole b o ws =
+    let y : length (take o b) ≤ o = omega (arith, length-take o b) in
+    ap (λ (l : List ℕ). l ++ outputs (opened o) (opsOf ws)) (drop-of-length-le (take o b) y) ∙ outputs-written (opened o) ws (refl, omega arith)
+
+-- For every list of writes, every buffer with any bytes reserved at its start, and every series of calls, drains and buffer changes after
+-- which no write is left: the bytes sent, less the reserved ones, are the items written, by the rule for held sequences.
+pub writes-sent : (b : List ℕ) (o : ℕ) (ws : List Write) (as′ : List Act) → o ≤ length b → acts as′ (freshDesk b o ws) .ops ≡ []
+    → act drain (acts as′ (freshDesk b o ws)) .sent ≡ each itemBytes (written [] ws)
+writes-sent b o ws as′ h e = all-sent as′ (freshDesk b o ws) (fresh-fine b o ws h) e ∙ fresh-whole b o ws
+
+-- From offset 0, over buffers of any lengths from 1 that start at 0: no more drains than bytes.
+pub writes-drains : (b : List ℕ) (ws : List Write) (as′ : List Act) → 1 ≤ length b → All Plain as′ → acts as′ (freshDesk b 0 ws) .ops ≡ []
+    → act drain (acts as′ (freshDesk b 0 ws)) .drains ≤ length (each itemBytes (written [] ws))
+writes-drains b ws as′ h p e =
+    subst (λ (l : List ℕ). act drain (acts as′ (freshDesk b 0 ws)) .drains ≤ length l) (fresh-whole b 0 ws)
+    (few-drains as′ (freshDesk b 0 ws) (fresh-fine b 0 ws (omega arith))
+    (record { room = h; start = refl; few = omega arith; filled = λ x. let w : _≡_ {A = ℕ} 0 1 = cc in absurd (omega arith) }) p e)

@@ -1,0 +1,2 @@
+pub mod Series
+pub mod Written

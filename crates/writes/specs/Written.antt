@@ -1,0 +1,62 @@
+-- What a list of writes comes to, by 01's rule for held sequences: "An opened sequence is held back until content or a keeping close
+-- comes. Up to eight are held, outermost first; a ninth open writes all eight and itself. A plain close of a held one drops it."
+use Prim.Native.Nat.{ℕ}
+use mathlib.Core.Bool.{true, false}
+use mathlib.Core.List.{List, [], _∷_, _++_}
+use lib.Dec.{ltb, leb}
+use lib.ListN.{length}
+use Rattle.layout.specs.Field.{Field, Subtype, begin, end}
+use Rattle.layout.specs.Copy.{fieldBytes}
+use Rattle.ostream.specs.declared.OStream.{OStream}
+use Rattle.ostream.specs.Stream.{lazyDepth}
+use Rattle.ostream.specs.Emission.{Test, Call}
+use Rattle.ostream.specs.Calls.{unsound, content, fixlenBytes, beginCall, endCall, endKeepCall}
+use Rattle.writes.specs.Series.{Op}
+
+-- what stands in a message: a field of the layout, or what the general fixed-length writer was given, at any length
+pub data Item : Type 0 where
+  field : Field → Item
+  fixlen : (id : ℕ) (s : Subtype) (bytes : List ℕ) → Item
+
+abbrev pub itemBytes : Item → List ℕ
+itemBytes (field x) = fieldBytes x
+itemBytes (fixlen id s bs) = fixlenBytes id s bs
+
+-- a write: content, with what its call tests besides the state; an open, a plain close, a keeping close
+pub data Write : Type 0 where
+  puts : (tests : List Test) → Item → Write
+  opens : (id : ℕ) → Write
+  closes keeps : Write
+
+abbrev pub begins : List ℕ → List Item
+begins [] = []
+begins (id ∷ ids) = field (begin id) ∷ begins ids
+
+-- all but the last
+abbrev pub front : List ℕ → List ℕ
+front [] = []
+front (x ∷ []) = []
+front (x ∷ y ∷ ys) = x ∷ front (y ∷ ys)
+
+-- what is written, where these ids are held
+unfoldable pub written : List ℕ → List Write → List Item
+written held [] = []
+written held (puts ts x ∷ ws) = begins held ++ (x ∷ written [] ws)
+written held (opens id ∷ ws) = elim (ltb (length held) lazyDepth) [ true ↦ written (held ++ (id ∷ [])) ws | false ↦ begins held ++ (field (begin id) ∷ written [] ws) ]
+written [] (closes ∷ ws) = field (end 0) ∷ written [] ws
+written (x ∷ xs) (closes ∷ ws) = written (front (x ∷ xs)) ws
+written held (keeps ∷ ws) = begins held ++ (field (end 0) ∷ written [] ws)
+
+-- the calls of the writer, as operations
+abbrev pub opOf : (OStream → ℕ → Call) → Op
+opOf c = record { tests = λ s size. c s size .tests; output = λ s. c s 0 .output; done = λ s. c s 0 .done }
+
+abbrev pub op : Write → Op
+op (puts ts x) = opOf (λ s size. content (unsound s size ∷ ts) s (itemBytes x))
+op (opens id) = opOf (λ s size. beginCall s size id)
+op closes = opOf endCall
+op keeps = opOf endKeepCall
+
+abbrev pub opsOf : List Write → List Op
+opsOf [] = []
+opsOf (w ∷ ws) = op w ∷ opsOf ws

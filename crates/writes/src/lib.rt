@@ -1,0 +1,1 @@
+// Series of writes with drains and buffer changes between them: a theorem. This crate has no code.

@@ -219,6 +219,9 @@ pub fn all() {
             row(&format!("read {how}: {name}"), ticket, || rust_read(ticket, size), || port_read(ticket, size));
         }
     }
+    for (name, ticket) in &tickets {
+        row(&format!("verdict alone: {name}"), ticket, || crate::oracle::verdict(ticket) as u64, || crate::port::verdict(ticket) as u64);
+    }
     let mut acc = Box::new(PayloadAcc::<GATHERED>::new());
     let mut buf = vec![1u8; GATHERED];
     for size in [16, 64, 4096] {

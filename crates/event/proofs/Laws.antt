@@ -6,7 +6,7 @@ use Prim.Native.Nat.{ℕ, _+_, _*_, _^_, _<_}
 use lib.ListN.{length}
 use lib.Seq.{slice}
 use lib.Dec.{T}
-use lib.Ieee.{Format, binary32, binary64, ofBits, toBits, nanBits, isNan, top}
+use lib.Ieee.{Format, binary32, binary64, ofBits, toBits, nanBits, top}
 use lib.Ieee.Bits.{nanBits-is, toBits-ofBits}
 use Rattle.layout.specs.Field.{Subtype, Kind, fp32, fp64, string, blob, float, raw, unsigneds, signeds, floats}
 use Rattle.layout.specs.Event.{Event, Unsigned, Signed, Float, Piece, Fixlen, Array, Begin, End}

@@ -1,24 +1,22 @@
 -- A call step by step: the state there and back, and what the machine's scan comes to at each turn of the code's loop.
 use mathlib.Core.Path.{_≡_, refl, sym, ap, _∙_, subst}
-use mathlib.Core.Bool.{Bool, true, false, _&&_}
 use mathlib.Core.List.{List, [], _∷_}
-use Prim.Native.Nat.{ℕ, zero, suc, _+_, _-_, _*_, _/_, _%_, _^_, _<_, _≤_, min}
+use Prim.Native.Nat.{ℕ, suc, _+_, _-_, _<_, _≤_, min}
 use native.Mathlib.Omega.{arith}
 use native.Mathlib.Nat.{min-eq-left, min-eq-right}
 use lib.ListN.{length, getD, take, drop}
 use lib.Seq.{drop-cons, drop-length, length-take-le}
-use lib.Dec.{ltb, leb, eqb}
-use borrow.Author.Tests.{le-leb, lt-ltb, le-ltb}
+use lib.Dec.{ltb}
+use borrow.Author.Tests.{lt-ltb, le-ltb}
 use types.Run.{OneOf, miss}
 use denote.Enum.Declared.{tagOf}
 use Rattle.layout.specs.Limits.{base, pick}
 use Rattle.layout.specs.Field.{Width, Raw, string, blob}
-use Rattle.layout.specs.Event as layout
 use Rattle.machine.specs.Machine as machine
 use Rattle.machine.specs.Machine.{inHeader, inUnsigned, inSigned, inWord, inUnsignedCount, inSignedCount, inFloatCount, inArrayWord, inFloat, inPayload, idle, on, bad}
 use Rattle.machine.specs.Call.{State, reading, owing, broke, Called, call, scan, scanned, verdictSo, paceOf, byte, raisedState}
 use Rattle.machine.specs.Call as pieces
-use Rattle.types.specs.Types.{width, floatType, rawSort, rawType}
+use Rattle.types.specs.Types.{rawSort}
 use Rattle.types.specs.declared.FloatType.{FloatType}
 use Rattle.types.specs.declared.RawType.{RawType}
 use Rattle.types.specs.declared.RawType.the-variants as Raws
@@ -28,9 +26,8 @@ use Rattle.istream.specs.declared.Phase.{Phase}
 use Rattle.istream.specs.declared.Phase.the-variants.{Header, Unsigned, Signed, Word, UnsignedCount, SignedCount, FloatCount, ArrayWord, Float, Payload, Empty, Broken}
 use Rattle.istream.specs.declared.IStream.{IStream}
 use Rattle.istream.specs.declared.Answer.the-variants as Answers
-use Rattle.istream.specs.declared.Fed.{Fed}
 use Rattle.istream.specs.declared.Stepped.{Stepped}
-use Rattle.istream.specs.declared.Stepped.the-variants.{On, Raised, Bad}
+use Rattle.istream.specs.declared.Stepped.the-variants.{On, Raised}
 use Rattle.istream.specs.Stream.{stateAt, stateOf, phaseIn, streamAt, streamIn, stepped, stepOn, statusIn, statusOf, covered, fedIn, stopped, pieceIn}
 use Rattle.istream.specs.Sound.{AtBytes, Kept}
 use Rattle.istream.proofs.Steps.{float-back, raw-back, width-back, sort-back}

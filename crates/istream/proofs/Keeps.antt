@@ -1,19 +1,18 @@
 -- A byte keeps a sound state sound: what it raises, and the depth and phase after it, phase by phase.
-use mathlib.Core.Path.{_≡_, refl, sym, ap, _∙_, subst}
+use mathlib.Core.Path.{_≡_, refl, sym, subst}
 use mathlib.Core.Bool.{Bool, true, false}
-use mathlib.Core.List.{List, [], _∷_}
 use Prim.Native.Nat.{ℕ, zero, suc, _+_, _-_, _*_, _/_, _%_, _^_, _<_, _≤_}
 use native.Mathlib.Omega.{arith}
 use lib.Dec.{ltb, leb, eqb, lit<, lit≤}
-use borrow.Author.Tests.{leb-true, ltb-true, ltb-false, eqb-false}
+use borrow.Author.Tests.{leb-true, ltb-true}
 use Rattle.layout.specs.Limits.{base, pick}
 use Rattle.layout.specs.Varint as varints
-use Rattle.layout.specs.Field.{Wire, Width, Raw, Subtype, Subtyped, bytesOf, subtypeOf, wireOf, fp32, fp64, string, blob, known, unknown, float, raw}
+use Rattle.layout.specs.Field.{Wire, Width, Raw, Subtyped, bytesOf, subtypeOf, wireOf, fp32, fp64, known, unknown, float, raw}
 use Rattle.layout.specs.Field.{T-unsigned, T-signed, T-fixlen, T-unsigneds, T-signeds, T-floats, T-begin, T-end}
 use Rattle.layout.specs.Event.{Event}
-use Rattle.machine.specs.Machine.{Phase, inHeader, inUnsigned, inSigned, inWord, inUnsignedCount, inSignedCount, inFloatCount, inArrayWord, inFloat, inPayload, idle}
-use Rattle.machine.specs.Machine.{Stepped, on, bad, nextOr, firstOr, atWire, atHeader, atPayload, atSubtype, atWord, atUnsignedCount, atSignedCount, atFloatCount, atElement, atArrayWord, atUnsigned, atSigned, atFloat, within, step}
-use Rattle.machine.specs.Call.{State, reading, paceOf, byte}
+use Rattle.machine.specs.Machine.{Phase, inHeader, inUnsigned, inSigned, inWord, inUnsignedCount, inSignedCount, inFloatCount, inArrayWord, inFloat, inPayload}
+use Rattle.machine.specs.Machine.{Stepped, nextOr, atWire, atHeader, atPayload, atSubtype, atWord, atUnsignedCount, atSignedCount, atFloatCount, atElement, atArrayWord, atUnsigned, atSigned, atFloat, within, step}
+use Rattle.machine.specs.Call.{reading}
 use Rattle.varint.specs.declared.Acc.{Acc}
 use Rattle.varint.specs.declared.Push.{Push}
 use Rattle.varint.specs.declared.Push.the-variants.{More, Value, Overlong}

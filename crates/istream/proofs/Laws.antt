@@ -2,10 +2,10 @@
 use mathlib.Core.Path.{_≡_, refl, sym, ap, _∙_, subst}
 use mathlib.Core.Bool.{Bool, true, false, _&&_, true≢false}
 use mathlib.Core.List.{List, [], _∷_}
-use Prim.Native.Nat.{ℕ, zero, suc, _+_, _-_, _^_, _<_, _≤_, min}
+use Prim.Native.Nat.{ℕ, suc, _+_, _-_, _<_, _≤_, min}
 use native.Mathlib.Omega.{arith}
 use lib.ListN.{length, getD}
-use lib.Dec.{ltb, leb, lit<, lit≤}
+use lib.Dec.{ltb, leb, lit≤}
 use borrow.Author.Tests.{le-leb, lt-ltb, leb-true, ltb-true}
 use types.Run.{OneOf, miss}
 use denote.Enum.Declared.{tagOf}
@@ -13,11 +13,11 @@ use Rattle.layout.specs.Limits.{base, pick}
 use Rattle.layout.specs.Field.{Raw, bytesOf}
 use Rattle.machine.specs.Machine as machine
 use Rattle.machine.specs.Machine.{inHeader, inUnsigned, inSigned, inWord, inUnsignedCount, inSignedCount, inFloatCount, inArrayWord, inFloat, inPayload, idle, on, bad}
-use Rattle.machine.specs.Call.{State, reading, owing, broke, fresh, Called, call, scan, scanned, raisedState, paceOf, byte}
+use Rattle.machine.specs.Call.{State, reading, owing, broke, fresh, Called, call, scan, scanned}
 use Rattle.types.specs.declared.RawType.{RawType}
 use Rattle.types.specs.declared.RawType.the-variants as Raws
-use Rattle.types.specs.declared.Error.the-variants.{UnsoundReader, InvalidMsg}
-use Rattle.types.specs.Types.{width, floatType, rawSort, rawType}
+use Rattle.types.specs.declared.Error.the-variants.{UnsoundReader}
+use Rattle.types.specs.Types.{rawSort}
 use Rattle.varint.specs.Varint.{Sound, soundAcc}
 use Rattle.varint.proofs.Laws as varint
 use Rattle.event.specs.declared.Event as Given
@@ -25,9 +25,8 @@ use Rattle.istream.specs.declared.Phase.{Phase}
 use Rattle.istream.specs.declared.Phase.the-variants.{Header, Unsigned, Signed, Word, UnsignedCount, SignedCount, FloatCount, ArrayWord, Float, Payload, Empty, Broken}
 use Rattle.istream.specs.declared.IStream.{IStream}
 use Rattle.istream.specs.declared.Answer.the-variants as Answers
-use Rattle.istream.specs.declared.Fed.{Fed}
 use Rattle.istream.specs.Stream.{stateAt, stateOf, streamIn, soundPhase, soundStream, phaseIn, pieceIn, fedIn, still, fedFrom, fedOf}
-use Rattle.istream.specs.Sound.{SoundAt, SoundState, AtBytes, Kept}
+use Rattle.istream.specs.Sound.{SoundState, AtBytes, Kept}
 use Rattle.istream.proofs.Steps.{width-back}
 use Rattle.istream.proofs.Keeps.{step-keeps}
 use Rattle.istream.proofs.Calls.{Live, scan-end, scan-byte}

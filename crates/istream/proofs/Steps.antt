@@ -1,8 +1,7 @@
 -- The machine's steps in the form in which the code makes them: a law for each way out of a function.
 use mathlib.Core.Path.{_≡_, refl, sym, ap, _∙_, subst}
-use mathlib.Core.Logic.{_⊎_, inl, inr}
-use mathlib.Core.Bool.{Bool, true, false}
-use mathlib.Core.List.{List, [], _∷_}
+use mathlib.Core.Logic.{inl, inr}
+use mathlib.Core.List.{[], _∷_}
 use Prim.Native.Nat.{ℕ, zero, suc, _+_, _-_, _*_, _/_, _%_, _^_, _<_, _≤_}
 use native.Mathlib.Nat.{pow-suc, suc-mul, add-comm, mul-le-mul-right}
 use native.Mathlib.Omega.{arith}
@@ -12,9 +11,9 @@ use lib.Dec.{lit≤}
 use borrow.Author.Tests.{lt-ltb, le-ltb, le-leb, lt-leb, eq-eqb, ne-eqb}
 use types.Run.{OneOf}
 use denote.Enum.Declared.{tagOf}
-use Rattle.layout.specs.Limits.{base, pick}
+use Rattle.layout.specs.Limits.{base}
 use Rattle.layout.specs.Varint as varints
-use Rattle.layout.specs.Field.{Wire, Width, Raw, Subtyped, bytesOf, subtypeOf, wireOf, fp32, fp64, string, blob, known, unknown, float, raw, floats, unsigneds, signeds, T-begin, T-end}
+use Rattle.layout.specs.Field.{Width, Raw, bytesOf, subtypeOf, wireOf, fp32, fp64, string, blob, known, float, raw, floats, T-begin, T-end}
 use Rattle.layout.specs.Event as layout
 use Rattle.machine.specs.Machine as machine
 use Rattle.machine.specs.Machine.{inUnsigned, inSigned, inArrayWord, inFloat, idle, nextOr, firstOr, atWire, atHeader, atSubtype, atElement, atUnsignedCount, atSignedCount, atFloatCount, atFloat, within}

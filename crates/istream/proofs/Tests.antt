@@ -1,27 +1,26 @@
 -- The tests that the code makes of a state, as the definitions make them: the verdict so far, and soundness.
 use mathlib.Core.Path.{_≡_, refl, sym, ap, _∙_, subst}
-use mathlib.Core.Bool.{Bool, true, false, _&&_}
+use mathlib.Core.Bool.{Bool, true, false}
 use mathlib.Core.List.{[], _∷_}
 use Prim.Native.Nat.{ℕ, zero, suc, _*_, _/_, _^_, _<_, _≤_}
 use native.Mathlib.Nat.{div-eq-of-lt, div-lt-iff-lt-mul, one-mul}
 use native.Mathlib.Omega.{arith}
-use lib.Dec.{ltb, leb, eqb}
+use lib.Dec.{ltb, eqb}
 use lib.Pow.{pow-pos}
 use borrow.Author.Tests.{le-leb, ltb-true, ltb-false, eq-eqb, ne-eqb}
 use types.Run.{OneOf, miss}
 use denote.Enum.Declared.{tagOf}
-use Rattle.layout.specs.Limits.{base, pick}
+use Rattle.layout.specs.Limits.{pick}
 use Rattle.layout.specs.Field.{Raw}
-use Rattle.layout.specs.Varint.{Outcome}
 use Rattle.machine.specs.Machine.{inHeader, inPayload, ending, judge}
-use Rattle.machine.specs.Call.{reading, verdictSo, paceOf, byte}
+use Rattle.machine.specs.Call.{verdictSo, paceOf, byte}
 use Rattle.varint.specs.declared.Acc.{Acc}
 use Rattle.istream.specs.declared.Phase.{Phase}
 use Rattle.istream.specs.declared.Phase.the-variants.{Header, Unsigned, Signed, Word, UnsignedCount, SignedCount, FloatCount, ArrayWord, Float, Payload, Empty, Broken}
 use Rattle.istream.specs.declared.IStream.{IStream}
 use Rattle.istream.specs.declared.Status.{Status}
 use Rattle.istream.specs.declared.Status.the-variants.{Complete, Incomplete}
-use Rattle.istream.specs.Stream.{stateOf, statusIn, statusOf, soundPhase, soundStream}
+use Rattle.istream.specs.Stream.{statusIn, statusOf, soundPhase, soundStream}
 use Rattle.istream.proofs.Steps.{pow256}
 use Rattle.istream.proofs.Phase.{the-type}
 

@@ -1,7 +1,7 @@
 -- Sound states as facts about the machine's: what the code may rely on, and what every byte keeps.
 use Prim.Native.Nat.{ℕ, _^_, _<_, _≤_}
 use mathlib.Core.Path.{_≡_}
-use mathlib.Core.List.{List, [], _∷_}
+use mathlib.Core.List.{[], _∷_}
 use Rattle.layout.specs.Limits.{base}
 use Rattle.layout.specs.Field.{bytesOf}
 use Rattle.machine.specs.Machine.{Phase, inHeader, inUnsigned, inSigned, inWord, inUnsignedCount, inSignedCount, inFloatCount, inArrayWord, inFloat, inPayload, Stepped, on, bad}

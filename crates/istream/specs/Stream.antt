@@ -1,6 +1,6 @@
 -- The reader's state as the machine's and back, which states are sound, and what a call answers: `fedOf`.
 use Prim.Native.Nat.{ℕ, _-_, _^_}
-use mathlib.Core.Bool.{Bool, true, false, _&&_}
+use mathlib.Core.Bool.{Bool, true, _&&_}
 use mathlib.Core.List.{List, [], _∷_}
 use lib.ListN.{length}
 use lib.Dec.{leb, ltb}

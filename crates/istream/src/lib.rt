@@ -3,7 +3,7 @@
 // a payload is its bounds in the chunk.
 ghost use mathlib.Core.Path.{_≡_};
 ghost use mathlib.Core.Bool.{_&&_};
-ghost use Prim.Native.Nat.{_+_, _-_, _^_, _<_, _≤_};
+ghost use Prim.Native.Nat.{_+_, _-_, _^_, _<_};
 ghost use Rattle.layout.specs.Limits.{base};
 ghost use Rattle.layout.specs.Field.{bytesOf, wireOf, subtypeOf, T-begin, T-end, known, float, raw};
 ghost use Rattle.layout.specs.Event.{Float};
@@ -21,7 +21,6 @@ use event::fp64;
 use types::ARRAY_MAX;
 use types::ArrayKind;
 use types::Error;
-use types::FixlenType;
 use types::FloatType;
 use types::ID_MAX;
 use types::MAX_DEPTH;

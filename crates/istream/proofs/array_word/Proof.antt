@@ -1,5 +1,5 @@
 -- `istream::array_word` meets its contract: more, overlong, or a word.
-use mathlib.Core.Path.{_≡_, sym, ap, _∙_}
+use mathlib.Core.Path.{_∙_}
 use Rattle.istream.proofs.Steps.{over-in, more-in, value-in}
 use Rattle.machine.specs.Machine.{step, atArrayWord}
 use borrow.Author.Needs.{needs}

@@ -1,5 +1,5 @@
 -- `istream::element` meets its contract: the float subtypes, and no others.
-use mathlib.Core.Path.{_≡_, sym, ap, _∙_}
+use mathlib.Core.Path.{sym, ap, _∙_}
 use Prim.Native.Nat.{ℕ}
 use Rattle.layout.specs.Field.{subtypeOf}
 use Rattle.machine.specs.Machine.{atElement}

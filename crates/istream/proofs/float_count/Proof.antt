@@ -1,5 +1,5 @@
 -- `istream::float_count` meets its contract: more, overlong, a count beyond the largest, or the array's word next.
-use mathlib.Core.Path.{_≡_, sym, ap, _∙_}
+use mathlib.Core.Path.{_∙_}
 use Rattle.istream.proofs.Steps.{over-in, more-in, value-in, count-bad-float, count-in-float}
 use Rattle.machine.specs.Machine.{step}
 use borrow.Author.Needs.{needs}

@@ -1,5 +1,5 @@
 -- `istream::float_event` meets its contract.
-use mathlib.Core.Path.{_≡_, sym, ap, _∙_, subst}
+use mathlib.Core.Path.{sym, ap, _∙_, subst}
 use Prim.Native.Nat.{_^_, _<_}
 use Rattle.layout.specs.Field.{bytesOf}
 use Rattle.layout.specs.Event.{Float}

@@ -1,11 +1,11 @@
 -- `istream::floats` meets its contract.
-use mathlib.Core.Path.{_≡_, sym, ap, _∙_}
+use mathlib.Core.Path.{sym, ap, _∙_}
 use Rattle.types.specs.declared.FloatType.{FloatType}
 use Rattle.types.specs.Types.{width}
 use Rattle.machine.specs.Machine.{inFloat}
 use Rattle.istream.specs.declared.Phase.the-variants.{Float}
 use Rattle.istream.specs.Stream.{phaseIn}
-use Rattle.istream.proofs.Steps.{some-left, none-left, float-back}
+use Rattle.istream.proofs.Steps.{some-left, float-back}
 use borrow.Author.Needs.{needs}
 use Rattle.istream.proofs.floats.Statement.{statement}
 use Rattle.istream.proofs.floats.Tie as tie

@@ -1,5 +1,5 @@
 -- `istream::header` meets its contract: more, overlong, an id beyond the largest, or a field.
-use mathlib.Core.Path.{_≡_, sym, ap, _∙_}
+use mathlib.Core.Path.{_∙_}
 use Rattle.istream.proofs.Steps.{over-in, more-in, value-in, id-beyond, header-in}
 use Rattle.machine.specs.Machine.{step}
 use borrow.Author.Needs.{needs}

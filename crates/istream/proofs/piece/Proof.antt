@@ -1,5 +1,5 @@
 -- `istream::piece` meets its contract.
-use mathlib.Core.Path.{_≡_, sym, ap}
+use mathlib.Core.Path.{sym, ap}
 use Rattle.types.specs.declared.RawType.{RawType}
 use Rattle.istream.specs.Stream.{pieceIn}
 use borrow.Author.Needs.{needs}

@@ -1,7 +1,6 @@
 -- `istream::scan` meets its contract: each turn, the call is what reading on from the state reached comes to.
 use Prim.Native.Nat.{_≤_, _-_}
 use mathlib.Core.Path.{_≡_, _∙_}
-use mathlib.Core.List.{List}
 use native.Mathlib.Omega.{arith}
 use lib.ListN.{length, getD, drop}
 use mir.Syntax.{w8}

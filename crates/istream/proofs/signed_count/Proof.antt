@@ -1,5 +1,5 @@
 -- `istream::signed_count` meets its contract: more, overlong, a count beyond the largest, or an array.
-use mathlib.Core.Path.{_≡_, sym, ap, _∙_}
+use mathlib.Core.Path.{_∙_}
 use Rattle.event.specs.declared.Event.the-variants.{Array}
 use Rattle.types.specs.declared.ArrayKind.the-variants as ArrayKinds
 use Rattle.istream.proofs.Steps.{over-in, more-in, value-in, raised, count-bad-signed, count-in-signed}

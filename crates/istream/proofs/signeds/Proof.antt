@@ -1,8 +1,8 @@
 -- `istream::signeds` meets its contract.
-use mathlib.Core.Path.{_≡_, sym, ap}
+use mathlib.Core.Path.{sym, ap}
 use Rattle.machine.specs.Machine.{inSigned}
 use Rattle.istream.specs.Stream.{phaseIn}
-use Rattle.istream.proofs.Steps.{some-left, none-left}
+use Rattle.istream.proofs.Steps.{some-left}
 use borrow.Author.Needs.{needs}
 use Rattle.istream.proofs.signeds.Statement.{statement}
 use Rattle.istream.proofs.signeds.Tie as tie

@@ -1,6 +1,6 @@
 -- `istream::sound_float` meets its contract: nothing is left above the bytes taken.
 use Prim.Native.Nat.{ℕ, _<_, _≤_}
-use mathlib.Core.Path.{_≡_, subst}
+use mathlib.Core.Path.{subst}
 use native.Mathlib.Omega.{arith}
 use borrow.Author.Tests.{lt-leb, le-leb, lt-ltb, le-ltb}
 use Rattle.istream.proofs.Steps.{bytes-8}

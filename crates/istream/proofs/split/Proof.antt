@@ -1,5 +1,5 @@
 -- `istream::split` meets its contract: the same call, its answer apart.
-use mathlib.Core.Path.{_≡_, ap}
+use mathlib.Core.Path.{ap}
 use Rattle.istream.specs.declared.Fed.{Fed}
 use Rattle.istream.specs.Stream.{takenOf}
 use borrow.Author.Needs.{needs}

@@ -1,5 +1,5 @@
 -- `istream::step` meets its contract, phase by phase.
-use mathlib.Core.Path.{_≡_, sym, ap, _∙_, subst}
+use mathlib.Core.Path.{sym, ap, _∙_, subst}
 use Rattle.istream.specs.declared.Phase.{Phase}
 use Rattle.istream.specs.Stream.{stateAt, stepped, stepOn}
 use Rattle.istream.specs.Sound.{AtBytes}

@@ -1,8 +1,7 @@
 -- `istream::stop` meets its contract.
-use mathlib.Core.Path.{_≡_, sym, ap, _∙_}
+use mathlib.Core.Path.{sym, ap, _∙_}
 use Rattle.istream.specs.declared.Status.{Status}
 use Rattle.istream.specs.declared.Answer.the-variants as Answers
-use Rattle.istream.specs.declared.Fed.{Fed}
 use Rattle.istream.specs.Stream.{stopped}
 use borrow.Author.Needs.{needs}
 use Rattle.istream.proofs.stop.Statement.{statement}

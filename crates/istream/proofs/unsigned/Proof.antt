@@ -1,5 +1,5 @@
 -- `istream::unsigned` meets its contract: more, overlong, or a number.
-use mathlib.Core.Path.{_≡_, sym, ap, _∙_}
+use mathlib.Core.Path.{ap, _∙_}
 use Prim.Native.Nat.{ℕ}
 use Rattle.event.specs.declared.Event.the-variants.{Unsigned}
 use Rattle.istream.specs.Stream.{phaseIn}

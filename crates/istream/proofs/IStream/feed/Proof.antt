@@ -1,5 +1,5 @@
 -- `istream::IStream::feed` meets its contract: refused as unsound, a payload, an empty piece that is due, broken, or byte by byte.
-use mathlib.Core.Path.{_≡_, refl, sym, ap, _∙_, subst}
+use mathlib.Core.Path.{refl, sym, ap, _∙_, subst}
 use mir.Syntax.{w8}
 use mir.Val.{Fits}
 use borrow.Author.Tests.{not-true, not-false}

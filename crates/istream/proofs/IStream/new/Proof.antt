@@ -1,7 +1,6 @@
 -- `istream::IStream::new` meets its contract.
-use mathlib.Core.Path.{_≡_, ap}
+use mathlib.Core.Path.{ap}
 use Rattle.istream.specs.declared.Phase.{Phase}
-use Rattle.istream.specs.declared.IStream.{IStream}
 use borrow.Author.Needs.{needs}
 use Rattle.istream.proofs.IStream.new.Statement.{statement}
 use Rattle.istream.proofs.IStream.new.Tie as tie

@@ -1,5 +1,5 @@
 -- `istream::IStream::status` meets its contract: complete between fields at depth 0.
-use mathlib.Core.Path.{_≡_, sym, ap, _∙_}
+use mathlib.Core.Path.{sym, ap, _∙_}
 use Rattle.istream.specs.declared.Phase.{Phase}
 use Rattle.istream.specs.Stream.{statusOf}
 use Rattle.istream.proofs.Tests.{status-else, status-complete, status-deep, status-taken}

@@ -1,8 +1,9 @@
-//! Times of both sides, on the same bytes, turn by turn in one run. Each figure is the best of the rounds.
+//! Times of both sides, on the same bytes, turn by turn in one run. Each figure is the best of the rounds, and counts the time that the
+//! thread itself ran, so that other work on the machine disturbs it little.
 
 use sofab::*;
 use std::hint::black_box;
-use std::time::{Duration, Instant};
+use std::time::Duration;
 
 #[link(name = "bench", kind = "static")]
 extern "C" {
@@ -11,7 +12,7 @@ extern "C" {
     fn bench_write(kind: u32, n: usize, data: *const u8, data_len: usize, buf: *mut u8, buf_len: usize, out: *mut u8, out_len: usize) -> u64;
 }
 
-const ROUNDS: usize = 9;
+const ROUNDS: usize = 15;
 const BLOB: usize = 8 << 20;
 const GATHERED: usize = 1 << 16;
 
@@ -150,10 +151,27 @@ fn port_write(kind: u32, n: usize, data: &[u8], buf: &mut [u8], out: &mut [u8]) 
 
 // ---- measuring
 
+/// The time that this thread has run.
+fn ran() -> Duration {
+    #[repr(C)]
+    struct Timespec {
+        seconds: i64,
+        nanoseconds: i64,
+    }
+    extern "C" {
+        fn clock_gettime(clock: i32, time: *mut Timespec) -> i32;
+    }
+    const CLOCK_THREAD_CPUTIME_ID: i32 = 3;
+    let mut now = Timespec { seconds: 0, nanoseconds: 0 };
+    // SAFETY: Linux's C library on a 64-bit machine, with a place for its answer.
+    unsafe { clock_gettime(CLOCK_THREAD_CPUTIME_ID, &mut now) };
+    Duration::new(now.seconds as u64, now.nanoseconds as u32)
+}
+
 fn time(best: &mut Duration, work: impl FnOnce() -> u64) -> u64 {
-    let start = Instant::now();
+    let start = ran();
     let answer = black_box(work());
-    *best = start.elapsed().min(*best);
+    *best = (ran() - start).min(*best);
     answer
 }
 
@@ -200,6 +218,9 @@ pub fn all() {
         for (name, ticket) in &tickets {
             row(&format!("read {how}: {name}"), ticket, || rust_read(ticket, size), || port_read(ticket, size));
         }
+    }
+    for (name, ticket) in &tickets {
+        row(&format!("verdict alone: {name}"), ticket, || crate::oracle::verdict(ticket) as u64, || crate::port::verdict(ticket) as u64);
     }
     let mut acc = Box::new(PayloadAcc::<GATHERED>::new());
     let mut buf = vec![1u8; GATHERED];

@@ -207,6 +207,19 @@ impl Oracle {
     }
 }
 
+struct Nobody;
+
+impl Visitor for Nobody {}
+
+/// The verdict on a whole message, as the port's export numbers it.
+pub fn verdict(ticket: &[u8]) -> i64 {
+    match IStream::new().feed(ticket, &mut Nobody) {
+        Ok(Status::Complete) => 0,
+        Ok(Status::Incomplete) => 1,
+        Err(_) => -2,
+    }
+}
+
 /// An event as numbers, for the planted faults: tag, id, and what follows.
 pub type Fields = [u64; 6];
 

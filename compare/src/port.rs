@@ -1,4 +1,4 @@
-//! The port's side: the exports of the crate `trace`, which parse a case, make its calls and write the answer.
+//! The port's side: the exports of the crate `trace`, which parse a case, make its calls and write the answer, and that of `host`.
 
 use crate::case::Kind;
 
@@ -7,6 +7,17 @@ extern "C" {
     fn trace_reader(case: *const u8, case_len: usize, out: *mut u8, out_len: usize) -> i64;
     fn trace_gatherer(case: *const u8, case_len: usize, out: *mut u8, out_len: usize) -> i64;
     fn trace_writer(case: *const u8, case_len: usize, out: *mut u8, out_len: usize) -> i64;
+}
+
+#[link(name = "host", kind = "static")]
+extern "C" {
+    fn sofab_verdict(ticket: *const u8, len: usize) -> i64;
+}
+
+/// The verdict on a whole message: 0 complete, 1 incomplete, -2 broken.
+pub fn verdict(ticket: &[u8]) -> i64 {
+    // SAFETY: the export is proved on every slice.
+    unsafe { sofab_verdict(ticket.as_ptr(), ticket.len()) }
 }
 
 /// The answer's length. `out` is long enough for any case that the generators make.

@@ -4,7 +4,7 @@ use crate::bytes::hex;
 use crate::case::{Case, Kind, Reader};
 use crate::fault::{Fault, FAULTS};
 use crate::gen::{self, Random};
-use crate::oracle::Oracle;
+use crate::oracle::{self, Oracle};
 use crate::port;
 
 pub struct Runs {
@@ -68,16 +68,29 @@ impl Runs {
         println!("difference, {:?}: {}\n case {}\n rust {}\n port {}", C::KIND, least.show(), hex(&self.case), hex(&self.rust), hex(&self.port[..n]));
     }
 
+    /// The export that gives the verdict on a whole message, on one ticket.
+    fn verdict(&mut self, ticket: &[u8]) {
+        self.cases += 1;
+        let (rust, port) = (oracle::verdict(ticket), port::verdict(ticket));
+        if rust != port {
+            self.differences += 1;
+            if !self.quiet && self.differences <= SHOWN {
+                println!("difference, verdict of {}: rust {rust}, port {port}", hex(ticket));
+            }
+        }
+    }
+
     /// Every ticket of up to `most` bytes, in every cut.
     pub fn short(&mut self, most: usize) {
         let before = self.cases;
         for len in 0..=most {
             for n in 0u64..1 << (8 * len) {
                 let ticket = n.to_be_bytes()[8 - len..].to_vec();
+                self.verdict(&ticket);
                 self.every_cut(&mut Reader { chunks: Vec::new(), ticket });
             }
         }
-        println!("tickets of up to {most} bytes, every cut: {} cases", self.cases - before);
+        println!("tickets of up to {most} bytes, every cut, and the verdict on each whole: {} cases", self.cases - before);
     }
 
     fn every_cut(&mut self, case: &mut Reader) {
@@ -99,19 +112,22 @@ impl Runs {
     pub fn cuts(&mut self) {
         let before = self.cases;
         for ticket in gen::corpus() {
+            self.verdict(&ticket);
             let mut case = Reader { chunks: Vec::new(), ticket };
             self.every_cut(&mut case);
             // And each chunk with an empty one on both sides.
             case.chunks = std::iter::once(0).chain(case.ticket.iter().flat_map(|_| [1, 0])).collect();
             self.compare(&case);
         }
-        println!("every cut of the corpus: {} cases", self.cases - before);
+        println!("every cut of the corpus, and the verdicts: {} cases", self.cases - before);
     }
 
     /// Case number i of each kind asked for.
     fn turn(&mut self, seed: u64, i: u64, kinds: &str) {
         if kinds.contains('r') {
-            self.compare(&gen::reader(&mut case_seed(seed, i, 1)));
+            let case = gen::reader(&mut case_seed(seed, i, 1));
+            self.verdict(&case.ticket);
+            self.compare(&case);
         }
         if kinds.contains('g') {
             self.compare(&gen::gatherer(&mut case_seed(seed, i, 2)));

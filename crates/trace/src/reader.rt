@@ -14,6 +14,7 @@ use event::Event;
 use event::fp32_bits;
 use event::fp64_bits;
 use istream::Answer;
+use istream::Fed;
 use istream::IStream;
 use istream::Status;
 
@@ -106,11 +107,27 @@ struct Turn {
     open: bool,
 }
 
+// The same call by value and by the thin feed, in turns: at odd counts of bytes read the reader is lent by reference.
+fn fed(stream: IStream, chunk: &[u8], read: usize) -> Fed {
+    if read % 2 == 0 {
+        return stream.feed(chunk);
+    }
+    let k = istream::lent(stream, chunk);
+    let h = k.heard;
+    let answer = h.answer;
+    let left = k.stream;
+    Fed {
+        read: h.read,
+        answer,
+        stream: left,
+    }
+}
+
 fn call(bytes: &[u8], end: usize, t: Turn, out: &mut [u8]) -> Turn {
     let at = t.at;
     let stream = t.stream;
     let rest = between(bytes, at, end);
-    let f = stream.feed(rest);
+    let f = fed(stream, rest, t.read);
     let w = f.answer;
     let left = f.stream;
     let read = ahead(bytes, t.read, f.read);

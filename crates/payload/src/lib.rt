@@ -141,13 +141,18 @@ impl PayloadAcc {
     pub fn feed(self, buf: &mut [u8], total: usize, offset: usize, chunk: &[u8]) -> Fed
         ensures { λ r. ⌜ leftBy r (now (buf .exit)) ≡ gathered self (now (buf .entry)) total offset (now (chunk .entry)) ⌝ }
     {
-        if buf.len() < self.len {
+        // Built from its fields: a copied struct takes its padding along, through memory, and over small pieces that costs more than their bytes.
+        let held = PayloadAcc {
+            len: self.len,
+            complete: self.complete,
+        };
+        if buf.len() < held.len {
             return Fed {
                 answer: Answer::Refused(Error::UnsoundGatherer),
-                acc: self,
+                acc: held,
             };
         }
-        let acc = self.begin(offset);
+        let acc = held.begin(offset);
         acc.accept(buf, total, offset, chunk)
     }
 

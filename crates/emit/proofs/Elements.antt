@@ -1,6 +1,6 @@
 -- Segments that a loop emits one element after another: the bytes of a list's elements, and what is still owed at each turn.
 use mathlib.Core.Path.{_≡_, refl, sym, ap, _∙_, subst}
-use mathlib.Core.List.{List, [], _∷_, _++_, append-assoc}
+use mathlib.Core.List.{List, [], _∷_, _++_, map, append-assoc}
 use Prim.Native.Nat.{ℕ, zero, suc, _+_, _-_, _*_, _≤_, _<_, min}
 use native.Mathlib.Numerals.{add-one}
 use native.Mathlib.Nat.{mul-suc, suc-mul, zero-mul}
@@ -28,6 +28,11 @@ module _ {A : Type 0} (f : A → List ℕ) where
   unfolding each
   each-append [] t = refl
   each-append (x ∷ s) t = ap (λ (l : List ℕ). f x ++ l) (each-append s t) ∙ sym (append-assoc (f x) (each f s) (each f t))
+
+pub each-map : {A B : Type 0} (f : B → List ℕ) (g : A → B) (l : List A) → each f (map g l) ≡ each (λ x. f (g x)) l
+unfolding each
+each-map f g [] = refl
+each-map f g (x ∷ l) = ap (λ (t : List ℕ). f (g x) ++ t) (each-map f g l)
 
 -- ---- a count of those bytes: n so far, of the first i elements, none of them longer than m
 

@@ -4,8 +4,11 @@
 ghost use mathlib.Core.Path.{_≡_};
 ghost use Prim.Native.Nat.{_+_, _-_, _*_, _≤_, min};
 ghost use lib.ListN.{length, drop};
+use event::fp32_bits;
+use event::fp64_bits;
 use varint::varint_len;
 use varint::zigzag_encode;
+ghost use lib.Ieee.{binary32, binary64, toBits};
 ghost use Rattle.layout.specs.Varint.{shortest};
 ghost use Rattle.layout.specs.Field.{lowBytes, each};
 ghost use Rattle.layout.specs.Zigzag.{zigzag};
@@ -211,6 +214,46 @@ impl Cursor {
         while i < items.len() {
             let bits = items[i];
             cursor = cursor.put_fp64(buf, bits);
+            i += 1;
+        }
+        cursor
+    }
+
+    // The same by value; a NaN's bits are the one pattern that the logic knows.
+    pub fn put_f32s(self, buf: &mut [u8], items: &[f32]) -> Cursor
+        requires { ⌜ self .pos ≤ length (now buf) ⌝ }
+        ensures { λ r. ⌜ (r ≡ moved self (now (buf .entry)) (each (λ x. lowBytes 4 (toBits binary32 x)) (now (items .entry)))) × (now (buf .exit) ≡ placed self (now (buf .entry)) (each (λ x. lowBytes 4 (toBits binary32 x)) (now (items .entry)))) ⌝ }
+    {
+        let pos = self.pos;
+        let skip = self.skip;
+        let mut i = least(skip / 4, items.len());
+        let mut cursor = Cursor {
+            pos,
+            skip: skip - i * 4,
+        };
+        while i < items.len() {
+            let value = items[i];
+            cursor = cursor.put_fp32(buf, fp32_bits(value));
+            i += 1;
+        }
+        cursor
+    }
+
+    // The same by value; a NaN's bits are the one pattern that the logic knows.
+    pub fn put_f64s(self, buf: &mut [u8], items: &[f64]) -> Cursor
+        requires { ⌜ self .pos ≤ length (now buf) ⌝ }
+        ensures { λ r. ⌜ (r ≡ moved self (now (buf .entry)) (each (λ x. lowBytes 8 (toBits binary64 x)) (now (items .entry)))) × (now (buf .exit) ≡ placed self (now (buf .entry)) (each (λ x. lowBytes 8 (toBits binary64 x)) (now (items .entry)))) ⌝ }
+    {
+        let pos = self.pos;
+        let skip = self.skip;
+        let mut i = least(skip / 8, items.len());
+        let mut cursor = Cursor {
+            pos,
+            skip: skip - i * 8,
+        };
+        while i < items.len() {
+            let value = items[i];
+            cursor = cursor.put_fp64(buf, fp64_bits(value));
             i += 1;
         }
         cursor

@@ -6,7 +6,7 @@ use Prim.Native.Nat.{ℕ, zero, suc, _+_, _-_, _≤_, _<_}
 use native.Mathlib.Omega.{arith}
 use lib.Dec.{leb, eqb, ltb}
 use lib.ListN.{length, take, drop, length-drop}
-use borrow.Author.Tests.{leb-true, lt-ltb, le-ltb, not-true, not-false}
+use borrow.Author.Tests.{leb-true, lt-ltb, le-ltb, ltb-false, not-true, not-false}
 use Rattle.layout.specs.Limits.{base, pick}
 use Rattle.layout.specs.Field.{header, each, T-begin}
 use Rattle.types.specs.declared.Error.{Error}
@@ -18,8 +18,10 @@ use Rattle.emit.proofs.Writes.{put-none}
 use Rattle.emit.proofs.Segments.{Emitted}
 use Rattle.ostream.specs.declared.OStream.{OStream}
 use Rattle.ostream.specs.declared.Written.{Written}
+use Rattle.ostream.specs.declared.Check.{Check}
+use Rattle.ostream.specs.Calls.{unsound, idTooLarge, payloadTooLong, fieldTests, checkOf}
 use Rattle.ostream.specs.Stream.{every, soundStream, lazyDepth, heldBytes}
-use Rattle.ostream.specs.Emission.{Call, Verdict, accepted, refusedWith, judged, refused, answered, left, start, calledBy, leavesBy, called, leaves}
+use Rattle.ostream.specs.Emission.{Test, Call, Verdict, accepted, refusedWith, judged, refused, answered, left, start, calledBy, leavesBy, called, leaves}
 
 -- ---- a sound state
 
@@ -132,3 +134,36 @@ recalled k k′ s b place j o d r b′ (e, f) = (e ∙ ap (λ (v : Verdict). cal
     buffers : (v : Verdict) → leavesBy v k s b place ≡ leavesBy v k′ s b place
     buffers accepted = ap (λ (l : List ℕ). left s b l place) o
     buffers (refusedWith e) = refl
+
+-- ---- the first tests of a field
+
+pub passed : (t : Test) (ts : List Test) → judged (t ∷ ts) ≡ accepted → (t .fails ≡ false) × (judged ts ≡ accepted)
+passed t ts e = go (t .fails) refl e
+  where
+    go : (b : Bool) → t .fails ≡ b → pick b (refusedWith (t .error)) (judged ts) ≡ accepted → (t .fails ≡ false) × (judged ts ≡ accepted)
+    go true p e = let z : _≡_ {A = ℕ} 0 1 = cc in absurd (omega arith)
+    go false p e = (p, e)
+
+pub check-passes : (v : Verdict) (r : Check) → r ≡ checkOf v → not (r .ok) ≡ false → v ≡ accepted
+check-passes accepted r e h = refl
+check-passes (refusedWith x) r e h = let z : true ≡ false = sym (ap (λ (c : Check). not (c .ok)) e) ∙ h in let y : _≡_ {A = ℕ} 0 1 = cc in absurd (omega arith)
+
+pub check-fails : (v : Verdict) (r : Check) → r ≡ checkOf v → not (r .ok) ≡ true → v ≡ refusedWith (r .error)
+check-fails accepted r e h = let z : false ≡ true = sym (ap (λ (c : Check). not (c .ok)) e) ∙ h in let y : _≡_ {A = ℕ} 0 1 = cc in absurd (omega arith)
+check-fails (refusedWith x) r e h = ap (λ (c : Check). refusedWith (c .error)) (sym e)
+
+-- of a field that passes them: its state is sound, and its payload or array is no longer than it may be
+module _ (s : OStream) (size id n : ℕ) (e : judged (fieldTests s size id n) ≡ accepted) where
+  pub check-sound : Sound s size
+  check-sound = is-sound s size (not-false (soundStream s size) (passed (unsound s size) (idTooLarge id ∷ payloadTooLong n ∷ []) e .0))
+
+  pub check-short : n ≤ base .size
+  check-short =
+      let f = passed (unsound s size) (idTooLarge id ∷ payloadTooLong n ∷ []) e .1 in
+      let g = passed (idTooLarge id) (payloadTooLong n ∷ []) f .1 in
+      ltb-false (base .size) n (passed (payloadTooLong n) [] g .0)
+
+-- the answer of a call whose place lies beyond its output
+pub overshoots : (k : Call) (s : OStream) (b : List ℕ) (place : ℕ) (r : Written) → judged (k .tests) ≡ accepted → length (k .output) < place
+    → r ≡ answered s (length b) (length (k .output)) place (k .done) → (r ≡ called k s b place) × (b ≡ leaves k s b place)
+overshoots k s b place r j l h = accepts k s b place r b j (h, left-beyond s b (k .output) place l)

@@ -12,10 +12,11 @@ use Rattle.layout.specs.Copy.{fieldBytes}
 use Rattle.types.specs.declared.FixlenType.{FixlenType}
 use Rattle.types.specs.Types.{subtype}
 use Rattle.types.specs.declared.Error.{Error}
-use Rattle.types.specs.declared.Error.the-variants.{UnsoundWriter, StringSubtype, Nesting, IdTooLarge, TooLong}
+use Rattle.types.specs.declared.Error.the-variants.{UnsoundWriter, StringSubtype, Nesting, IdTooLarge, TooLong, PlaceBeyond}
 use Rattle.ostream.specs.declared.OStream.{OStream}
+use Rattle.ostream.specs.declared.Check.{Check}
 use Rattle.ostream.specs.Stream.{soundStream, lazyDepth, heldBytes, committed, holding, dropped}
-use Rattle.ostream.specs.Emission.{Test, Call}
+use Rattle.ostream.specs.Emission.{Test, Verdict, accepted, refusedWith, Call}
 
 abbrev pub isString : Subtype → Bool
 isString (float w) = false
@@ -49,6 +50,14 @@ payloadTooLong n = record { fails = ltb (base .size) n; error = TooLong }
 
 abbrev pub arrayTooLong : ℕ → Test
 arrayTooLong n = record { fails = ltb (base .count) n; error = TooLong }
+
+-- The tests that a field with a payload or array of n begins with, and how the code says what they come to.
+abbrev pub fieldTests : OStream → ℕ → ℕ → ℕ → List Test
+fieldTests s size id n = unsound s size ∷ idTooLarge id ∷ payloadTooLong n ∷ []
+
+abbrev pub checkOf : Verdict → Check
+checkOf accepted = record { ok = true; error = PlaceBeyond }
+checkOf (refusedWith e) = record { ok = false; error = e }
 
 -- ---- a field
 

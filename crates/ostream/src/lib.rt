@@ -22,7 +22,7 @@ use types::T_VARINTARRAY_UNSIGNED;
 use varint::varint_len;
 use varint::zigzag_encode;
 ghost use mathlib.Core.Path.{_≡_};
-ghost use mathlib.Core.List.{_++_};
+ghost use mathlib.Core.List.{_++_, map};
 ghost use Prim.Native.Nat.{_+_, _-_, _*_, _≤_, _<_};
 ghost use mathlib.Core.Bool.{true, false};
 ghost use lib.Dec.{leb, eqb};
@@ -34,9 +34,9 @@ ghost use Rattle.layout.specs.Field.{fp32, fp64, string, blob, lowBytes};
 ghost use Rattle.layout.specs.Limits.{base, pick};
 ghost use Rattle.ostream.specs.Stream.{every, soundStream, heldBytes, headBytes, zeroed, committed, holding, dropped, opened};
 ghost use Rattle.emit.specs.Cursor.{placed, moved};
-ghost use Rattle.ostream.specs.Emission.{start, answered, left, refused, called, leaves};
+ghost use Rattle.ostream.specs.Emission.{start, answered, left, refused, refusedWith, judged, called, leaves};
 ghost use Rattle.ostream.specs.Buffer.{badBuffer, opening, draining, changing};
-ghost use Rattle.ostream.specs.Calls.{isString, rawCall, fixlenCall, floatCall, payloadCall, unsignedArrayCall, signedArrayCall, floatArrayCall};
+ghost use Rattle.ostream.specs.Calls.{fieldTests, checkOf, isString, rawCall, fixlenCall, floatCall, payloadCall, unsignedArrayCall, signedArrayCall, floatArrayCall};
 ghost use Rattle.ostream.specs.Calls.{varintCall, unsignedCall, signedCall, booleanCall, beginCall, endCall, endKeepCall};
 
 // A writer's state. `offset` is where the next byte goes; `depth` counts the open sequences; `pending` has the ids of the innermost
@@ -60,6 +60,12 @@ pub struct Written {
     pub stream: OStream,
 }
 
+// Whether a call's first tests pass; else the refusal. (With `ok`, the error says nothing: the place is tested later.)
+struct Check {
+    ok: bool,
+    error: Error,
+}
+
 // What a call comes to that answers a position: that many bytes stand below it.
 pub enum Count {
     Bytes(usize),
@@ -69,6 +75,12 @@ pub enum Count {
 pub struct Counted {
     pub answer: Count,
     pub stream: OStream,
+}
+
+fn failed(error: Error) -> Check
+    ensures { λ r. ⌜ r ≡ checkOf (refusedWith error) ⌝ }
+{
+    Check { ok: false, error }
 }
 
 // Whether the first n ids are legal.
@@ -314,6 +326,25 @@ impl OStream {
         }
     }
 
+    // The refusals of a field, in order: the state, the id, and how long its payload or array is.
+    fn check(self, size: usize, id: u32, len: usize) -> Check
+        ensures { λ r. ⌜ r ≡ checkOf (judged (fieldTests self size id len)) ⌝ }
+    {
+        if !self.sound(size) {
+            return failed(Error::UnsoundWriter);
+        }
+        if ID_MAX < id {
+            return failed(Error::IdTooLarge);
+        }
+        if (ARRAY_MAX as usize) < len {
+            return failed(Error::TooLong);
+        }
+        Check {
+            ok: true,
+            error: Error::PlaceBeyond,
+        }
+    }
+
     fn refuse(self, e: Error) -> Written
         ensures { λ r. ⌜ r ≡ refused self e ⌝ }
     {
@@ -430,16 +461,15 @@ impl OStream {
         ensures { λ r. ⌜ (r ≡ called (varintCall self (length (now (buf .entry))) id wire value) self (now (buf .entry)) place) × (now (buf .exit) ≡ leaves (varintCall self (length (now (buf .entry))) id wire value) self (now (buf .entry)) place) ⌝ }
     {
         let size = buf.len();
-        if !self.sound(size) {
-            return self.refuse(Error::UnsoundWriter);
-        }
-        if ID_MAX < id {
-            return self.refuse(Error::IdTooLarge);
+        let check = self.check(size, id, 0);
+        let error = check.error;
+        if !check.ok {
+            return self.refuse(error);
         }
         let header = tagged(id, wire);
         let total = self.head_len(header, value);
         if total < place {
-            return self.refuse(Error::PlaceBeyond);
+            return self.complete(size, total, place, self.depth);
         }
         self.put_head(buf, header, value, place);
         self.complete(size, total, place, self.depth)
@@ -478,20 +508,16 @@ impl OStream {
         ensures { λ r. ⌜ (r ≡ called (rawCall self (length (now (buf .entry))) id (now (bytes .entry)) subtype) self (now (buf .entry)) place) × (now (buf .exit) ≡ leaves (rawCall self (length (now (buf .entry))) id (now (bytes .entry)) subtype) self (now (buf .entry)) place) ⌝ }
     {
         let size = buf.len();
-        if !self.sound(size) {
-            return self.refuse(Error::UnsoundWriter);
-        }
-        if ID_MAX < id {
-            return self.refuse(Error::IdTooLarge);
-        }
-        if (ARRAY_MAX as usize) < bytes.len() {
-            return self.refuse(Error::TooLong);
+        let check = self.check(size, id, bytes.len());
+        let error = check.error;
+        if !check.ok {
+            return self.refuse(error);
         }
         let header = tagged(id, T_FIXLEN);
         let word = tagged(bytes.len() as u32, subtype.raw());
         let total = self.head_len(header, word) + bytes.len();
         if total < place {
-            return self.refuse(Error::PlaceBeyond);
+            return self.complete(size, total, place, self.depth);
         }
         let head = self.put_head(buf, header, word, place);
         head.put_bytes(buf, bytes);
@@ -573,20 +599,16 @@ impl OStream {
         ensures { λ r. ⌜ (r ≡ called (unsignedArrayCall self (length (now (buf .entry))) id (now (items .entry))) self (now (buf .entry)) place) × (now (buf .exit) ≡ leaves (unsignedArrayCall self (length (now (buf .entry))) id (now (items .entry))) self (now (buf .entry)) place) ⌝ }
     {
         let size = buf.len();
-        if !self.sound(size) {
-            return self.refuse(Error::UnsoundWriter);
-        }
-        if ID_MAX < id {
-            return self.refuse(Error::IdTooLarge);
-        }
-        if (ARRAY_MAX as usize) < items.len() {
-            return self.refuse(Error::TooLong);
+        let check = self.check(size, id, items.len());
+        let error = check.error;
+        if !check.ok {
+            return self.refuse(error);
         }
         let header = tagged(id, T_VARINTARRAY_UNSIGNED);
         let count = items.len() as u64;
         let total = self.head_len(header, count) + varints_len(items);
         if total < place {
-            return self.refuse(Error::PlaceBeyond);
+            return self.complete(size, total, place, self.depth);
         }
         let head = self.put_head(buf, header, count, place);
         head.put_varints(buf, items);
@@ -604,20 +626,16 @@ impl OStream {
         ensures { λ r. ⌜ (r ≡ called (signedArrayCall self (length (now (buf .entry))) id (now (items .entry))) self (now (buf .entry)) place) × (now (buf .exit) ≡ leaves (signedArrayCall self (length (now (buf .entry))) id (now (items .entry))) self (now (buf .entry)) place) ⌝ }
     {
         let size = buf.len();
-        if !self.sound(size) {
-            return self.refuse(Error::UnsoundWriter);
-        }
-        if ID_MAX < id {
-            return self.refuse(Error::IdTooLarge);
-        }
-        if (ARRAY_MAX as usize) < items.len() {
-            return self.refuse(Error::TooLong);
+        let check = self.check(size, id, items.len());
+        let error = check.error;
+        if !check.ok {
+            return self.refuse(error);
         }
         let header = tagged(id, T_VARINTARRAY_SIGNED);
         let count = items.len() as u64;
         let total = self.head_len(header, count) + zigzags_len(items);
         if total < place {
-            return self.refuse(Error::PlaceBeyond);
+            return self.complete(size, total, place, self.depth);
         }
         let head = self.put_head(buf, header, count, place);
         head.put_zigzags(buf, items);
@@ -635,24 +653,48 @@ impl OStream {
         ensures { λ r. ⌜ (r ≡ called (floatArrayCall self (length (now (buf .entry))) id fp32 (now (items .entry))) self (now (buf .entry)) place) × (now (buf .exit) ≡ leaves (floatArrayCall self (length (now (buf .entry))) id fp32 (now (items .entry))) self (now (buf .entry)) place) ⌝ }
     {
         let size = buf.len();
-        if !self.sound(size) {
-            return self.refuse(Error::UnsoundWriter);
-        }
-        if ID_MAX < id {
-            return self.refuse(Error::IdTooLarge);
-        }
-        if (ARRAY_MAX as usize) < items.len() {
-            return self.refuse(Error::TooLong);
+        let check = self.check(size, id, items.len());
+        let error = check.error;
+        if !check.ok {
+            return self.refuse(error);
         }
         let header = tagged(id, T_FIXLENARRAY);
         let count = items.len() as u64;
         let total = self.head_len(header, count) + (1 + items.len() * 4);
         if total < place {
-            return self.refuse(Error::PlaceBeyond);
+            return self.complete(size, total, place, self.depth);
         }
         let head = self.put_head(buf, header, count, place);
         let word = head.put_varint(buf, tagged(4, 0));
         word.put_fp32s(buf, items);
+        self.complete(size, total, place, self.depth)
+    }
+
+    // An array of floats of 32 bits. A NaN's bits are the one pattern that the logic knows.
+    pub fn write_array_fp32(
+        mut self,
+        buf: &mut [u8],
+        id: u32,
+        items: &[f32],
+        place: usize,
+    ) -> Written
+        ensures { λ r. ⌜ (r ≡ called (floatArrayCall self (length (now (buf .entry))) id fp32 (map (toBits binary32) (now (items .entry)))) self (now (buf .entry)) place) × (now (buf .exit) ≡ leaves (floatArrayCall self (length (now (buf .entry))) id fp32 (map (toBits binary32) (now (items .entry)))) self (now (buf .entry)) place) ⌝ }
+    {
+        let size = buf.len();
+        let check = self.check(size, id, items.len());
+        let error = check.error;
+        if !check.ok {
+            return self.refuse(error);
+        }
+        let header = tagged(id, T_FIXLENARRAY);
+        let count = items.len() as u64;
+        let total = self.head_len(header, count) + (1 + items.len() * 4);
+        if total < place {
+            return self.complete(size, total, place, self.depth);
+        }
+        let head = self.put_head(buf, header, count, place);
+        let word = head.put_varint(buf, tagged(4, 0));
+        word.put_f32s(buf, items);
         self.complete(size, total, place, self.depth)
     }
 
@@ -667,24 +709,48 @@ impl OStream {
         ensures { λ r. ⌜ (r ≡ called (floatArrayCall self (length (now (buf .entry))) id fp64 (now (items .entry))) self (now (buf .entry)) place) × (now (buf .exit) ≡ leaves (floatArrayCall self (length (now (buf .entry))) id fp64 (now (items .entry))) self (now (buf .entry)) place) ⌝ }
     {
         let size = buf.len();
-        if !self.sound(size) {
-            return self.refuse(Error::UnsoundWriter);
-        }
-        if ID_MAX < id {
-            return self.refuse(Error::IdTooLarge);
-        }
-        if (ARRAY_MAX as usize) < items.len() {
-            return self.refuse(Error::TooLong);
+        let check = self.check(size, id, items.len());
+        let error = check.error;
+        if !check.ok {
+            return self.refuse(error);
         }
         let header = tagged(id, T_FIXLENARRAY);
         let count = items.len() as u64;
         let total = self.head_len(header, count) + (1 + items.len() * 8);
         if total < place {
-            return self.refuse(Error::PlaceBeyond);
+            return self.complete(size, total, place, self.depth);
         }
         let head = self.put_head(buf, header, count, place);
         let word = head.put_varint(buf, tagged(8, 1));
         word.put_fp64s(buf, items);
+        self.complete(size, total, place, self.depth)
+    }
+
+    // An array of floats of 64 bits. A NaN's bits are the one pattern that the logic knows.
+    pub fn write_array_fp64(
+        mut self,
+        buf: &mut [u8],
+        id: u32,
+        items: &[f64],
+        place: usize,
+    ) -> Written
+        ensures { λ r. ⌜ (r ≡ called (floatArrayCall self (length (now (buf .entry))) id fp64 (map (toBits binary64) (now (items .entry)))) self (now (buf .entry)) place) × (now (buf .exit) ≡ leaves (floatArrayCall self (length (now (buf .entry))) id fp64 (map (toBits binary64) (now (items .entry)))) self (now (buf .entry)) place) ⌝ }
+    {
+        let size = buf.len();
+        let check = self.check(size, id, items.len());
+        let error = check.error;
+        if !check.ok {
+            return self.refuse(error);
+        }
+        let header = tagged(id, T_FIXLENARRAY);
+        let count = items.len() as u64;
+        let total = self.head_len(header, count) + (1 + items.len() * 8);
+        if total < place {
+            return self.complete(size, total, place, self.depth);
+        }
+        let head = self.put_head(buf, header, count, place);
+        let word = head.put_varint(buf, tagged(8, 1));
+        word.put_f64s(buf, items);
         self.complete(size, total, place, self.depth)
     }
 

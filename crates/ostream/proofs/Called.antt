@@ -2,25 +2,26 @@
 use mathlib.Core.Path.{_≡_, refl, sym, ap, _∙_, subst}
 use mathlib.Core.List.{List, [], _∷_, _++_, append-assoc}
 use mathlib.Core.Bool.{Bool, true, false, _&&_, not}
-use Prim.Native.Nat.{ℕ, zero, suc, _+_, _-_, _≤_, _<_}
+use Prim.Native.Nat.{ℕ, zero, suc, _+_, _-_, _≤_, _<_, min}
 use native.Mathlib.Omega.{arith}
 use lib.Dec.{leb, eqb, ltb}
 use lib.ListN.{length, take, drop, length-drop}
-use borrow.Author.Tests.{leb-true, lt-ltb, le-ltb, ltb-false, not-true, not-false}
+use borrow.Author.Tests.{leb-true, le-leb, lt-ltb, le-ltb, ltb-false, not-true, not-false}
 use Rattle.layout.specs.Limits.{base, pick}
 use Rattle.layout.specs.Field.{header, each, T-begin}
 use Rattle.types.specs.declared.Error.{Error}
 use Rattle.types.specs.declared.Error.the-variants.{PlaceBeyond}
 use Rattle.emit.specs.declared.Cursor.{Cursor}
-use Rattle.emit.specs.Put.{put}
+use Rattle.emit.specs.Put.{put, reached}
 use Rattle.emit.specs.Cursor.{placed, moved}
-use Rattle.emit.proofs.Writes.{put-none}
+use Rattle.emit.proofs.Writes.{put-none, reached-is}
 use Rattle.emit.proofs.Segments.{Emitted}
 use Rattle.ostream.specs.declared.OStream.{OStream}
+use Rattle.ostream.specs.declared.Answer.the-variants.{Done}
 use Rattle.ostream.specs.declared.Written.{Written}
 use Rattle.ostream.specs.declared.Check.{Check}
 use Rattle.ostream.specs.Calls.{unsound, idTooLarge, payloadTooLong, fieldTests, checkOf}
-use Rattle.ostream.specs.Stream.{every, soundStream, lazyDepth, heldBytes}
+use Rattle.ostream.specs.Stream.{every, soundStream, lazyDepth, heldBytes, readyStream, zeroed, committed, at}
 use Rattle.ostream.specs.Emission.{Test, Call, Verdict, accepted, refusedWith, judged, refused, answered, left, start, calledBy, leavesBy, called, leaves}
 
 -- ---- a sound state
@@ -46,6 +47,44 @@ is-sound s size e =
     let d = both _ _ (c .1) in
     let f = both _ _ (d .1) in
     record { inside = leb-true _ _ (a .0); few = leb-true _ _ (b .0); nested = leb-true _ _ (c .0); shallow = leb-true _ _ (d .0); legal = f .0; zeros = f .1 }
+
+-- a state that two varints can be written from straight away
+pub record Ready (s : OStream) (size id place : ℕ) : Type 0 where
+  pub room : s .offset + 20 ≤ size
+  pub first : place ≡ 0
+  pub legal : id ≤ base .id
+  pub none : s .npending ≡ 0
+  pub sound : soundStream s size ≡ true
+
+quiet : (s : OStream) (size : ℕ) → s .offset ≤ size → s .npending ≡ 0 → s .depth ≤ base .depth → every (λ x. eqb x 0) (drop 0 (s .pending)) ≡ true → soundStream s size ≡ true
+unfolding soundStream every
+quiet s size h e d z =
+    ap (λ (n : ℕ). leb (s .offset) size && (leb n lazyDepth && (leb n (s .depth) && (leb (s .depth) (base .depth) && (every (λ x. leb x (base .id)) (take n (s .pending)) && every (λ x. eqb x 0) (drop n (s .pending))))))) e
+    ∙ simp (le-leb (s .offset) size h, le-leb 0 (s .depth) (omega arith), le-leb (s .depth) (base .depth) d, z)
+
+pub is-ready : (s : OStream) (size id place : ℕ) → readyStream s size id place ≡ true → Ready s size id place
+unfolding readyStream
+is-ready s size id place e =
+    let a = both _ _ e in
+    let b = both _ _ (a .1) in
+    let c = both _ _ (b .1) in
+    let d = both _ _ (c .1) in
+    let f = both _ _ (d .1) in
+    let g = both _ _ (f .1) in
+    let ha : 20 ≤ size = leb-true _ _ (a .0) in
+    let hb : s .offset ≤ size - 20 = leb-true _ _ (b .0) in
+    let hc : place ≤ 0 = leb-true _ _ (c .0) in
+    let hf : s .npending ≤ 0 = leb-true _ _ (f .0) in
+    let n : s .npending ≡ 0 = omega arith in
+    record { room = omega arith; first = omega arith; legal = leb-true _ _ (d .0); none = n; sound = quiet s size (omega arith) n (leb-true _ _ (g .0)) (g .1) }
+
+-- where nothing is held, nothing is to be cleared
+pub committed-none : (s : OStream) → s .npending ≡ 0 → s ≡ committed s (s .depth)
+unfolding committed
+committed-none s e =
+    let z : s .pending ≡ zeroed (s .npending) (s .pending) = sym (ap (λ (n : ℕ). zeroed n (s .pending)) e) in
+    ap (λ (n : ℕ). record { offset = s .offset; depth = s .depth; pending = s .pending; npending = n }) e
+    ∙ ap (λ (l : List ℕ). record { offset = s .offset; depth = s .depth; pending = l; npending = 0 }) z
 
 -- ---- the buffer after an output
 
@@ -167,3 +206,35 @@ module _ (s : OStream) (size id n : ℕ) (e : judged (fieldTests s size id n) �
 pub overshoots : (k : Call) (s : OStream) (b : List ℕ) (place : ℕ) (r : Written) → judged (k .tests) ≡ accepted → length (k .output) < place
     → r ≡ answered s (length b) (length (k .output)) place (k .done) → (r ≡ called k s b place) × (b ≡ leaves k s b place)
 overshoots k s b place r j l h = accepts k s b place r b j (h, left-beyond s b (k .output) place l)
+
+-- ---- a call that a ready state makes
+
+-- where an output ends that there is room for
+emitted-end : (s : OStream) (b o : List ℕ) (place : ℕ) (c′ : Cursor) (b′ : List ℕ) → place ≡ 0 → s .offset + length o ≤ length b → Emitted (start s place) b o c′ b′ → c′ .pos ≡ s .offset + length o
+unfolding moved
+emitted-end s b o place c′ b′ z h e =
+    let d : length (drop place o) ≡ length o - place = length-drop place o in
+    let r : reached b (s .offset) (drop place o) ≡ s .offset + min (length (drop place o)) (length b - s .offset) = reached-is b (s .offset) (drop place o) in
+    let p : c′ .pos ≡ reached b (s .offset) (drop place o) = ap (λ (x : Cursor). x .pos) (e .0) in
+    omega arith
+
+answered-all : (s : OStream) (size total place : ℕ) (next : OStream) → place ≡ 0 → s .offset + total ≤ size
+    → (end : ℕ) → end ≡ s .offset + total → record { answer = Done; stream = at next end } ≡ answered s size total place next
+unfolding answered
+answered-all s size total place next z h end e =
+    let l : place ≤ total = omega arith in
+    let r : total - place ≤ size - s .offset = omega arith in
+    let f : end ≡ s .offset + (total - place) = omega arith in
+    ap (λ (n : ℕ). record { answer = Done; stream = at next n }) f ∙ sym (simp (le-ltb _ _ l, le-leb _ _ r))
+
+-- its output o is the call's, there is room for all of it, and the state is moved
+pub goes-straight : (k : Call) (s : OStream) (b o : List ℕ) (place : ℕ) (c′ : Cursor) (b′ : List ℕ) → judged (k .tests) ≡ accepted → o ≡ k .output → s ≡ k .done → place ≡ 0
+    → s .offset + length o ≤ length b → Emitted (start s place) b o c′ b′
+    → (record { answer = Done; stream = at s (c′ .pos) } ≡ called k s b place) × (b′ ≡ leaves k s b place)
+goes-straight k s b o place c′ b′ j eo en z h e =
+    let l : place ≤ length o = omega arith in
+    accepts-as k s b place _ o s b′ eo en j (answered-all s (length b) (length o) place s z h (c′ .pos) (emitted-end s b o place c′ b′ z h e), left-emitted s b o place c′ b′ l e)
+
+-- it passes the tests of a field of one varint
+pub ready-scalar : (s : OStream) (size id place : ℕ) → Ready s size id place → judged (unsound s size ∷ idTooLarge id ∷ []) ≡ accepted
+ready-scalar s size id place y = simp (y .sound, le-ltb _ _ (y .legal))

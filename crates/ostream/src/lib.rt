@@ -32,7 +32,7 @@ ghost use lib.Ieee.{binary32, binary64, toBits};
 ghost use Rattle.types.specs.Types.{subtype};
 ghost use Rattle.layout.specs.Field.{fp32, fp64, string, blob, lowBytes};
 ghost use Rattle.layout.specs.Limits.{base, pick};
-ghost use Rattle.ostream.specs.Stream.{every, soundStream, heldBytes, headBytes, zeroed, committed, holding, dropped, opened};
+ghost use Rattle.ostream.specs.Stream.{every, soundStream, heldBytes, headBytes, zeroed, committed, holding, dropped, opened, readyStream};
 ghost use Rattle.emit.specs.Cursor.{placed, moved};
 ghost use Rattle.ostream.specs.Emission.{start, answered, left, refused, refusedWith, judged, called, leaves};
 ghost use Rattle.ostream.specs.Buffer.{badBuffer, opening, draining, changing};
@@ -456,8 +456,71 @@ impl OStream {
         head.put_varint(buf, second)
     }
 
+    // Whether a call can write two varints straight away: it is at its first byte, no id is held, and there is room for the longest.
+    fn ready(self, size: usize, id: u32, place: usize) -> bool
+        ensures { λ r. ⌜ r ≡ readyStream self size id place ⌝ }
+    {
+        let offset = self.offset;
+        let depth = self.depth;
+        let held = self.npending;
+        let pending = self.pending;
+        if size < 20 {
+            return false;
+        }
+        if size - 20 < offset {
+            return false;
+        }
+        if 0 < place {
+            return false;
+        }
+        if ID_MAX < id {
+            return false;
+        }
+        if 0 < held {
+            return false;
+        }
+        if 255 < depth {
+            return false;
+        }
+        unused_zero(pending, 0)
+    }
+
     // A field of a header and one varint.
-    fn write_varint(self, buf: &mut [u8], id: u32, wire: u8, value: u64, place: usize) -> Written
+    fn write_varint(
+        mut self,
+        buf: &mut [u8],
+        id: u32,
+        wire: u8,
+        value: u64,
+        place: usize,
+    ) -> Written
+        ensures { λ r. ⌜ (r ≡ called (varintCall self (length (now (buf .entry))) id wire value) self (now (buf .entry)) place) × (now (buf .exit) ≡ leaves (varintCall self (length (now (buf .entry))) id wire value) self (now (buf .entry)) place) ⌝ }
+    {
+        if self.ready(buf.len(), id, place) {
+            let first = Cursor {
+                pos: self.offset,
+                skip: place,
+            };
+            let head = first.put_varint(buf, tagged(id, wire));
+            let end = head.put_varint(buf, value);
+            self.offset = end.pos;
+            return Written {
+                answer: Answer::Done,
+                stream: self,
+            };
+        }
+        self.write_varint_slowly(buf, id, wire, value, place)
+    }
+
+    // The same from any state and place.
+    fn write_varint_slowly(
+        self,
+        buf: &mut [u8],
+        id: u32,
+        wire: u8,
+        value: u64,
+        place: usize,
+    ) -> Written
         ensures { λ r. ⌜ (r ≡ called (varintCall self (length (now (buf .entry))) id wire value) self (now (buf .entry)) place) × (now (buf .exit) ≡ leaves (varintCall self (length (now (buf .entry))) id wire value) self (now (buf .entry)) place) ⌝ }
     {
         let size = buf.len();

@@ -1,4 +1,4 @@
--- The three ways that a call ends, and what a sound state is known to be.
+-- What a sound state is known to be, the ways that a call ends, and what the first tests of a field say.
 use mathlib.Core.Path.{_≡_, refl, sym, ap, _∙_, subst}
 use mathlib.Core.List.{List, [], _∷_, _++_, append-assoc}
 use mathlib.Core.Bool.{Bool, true, false, _&&_, not}
@@ -10,7 +10,6 @@ use borrow.Author.Tests.{leb-true, le-leb, lt-ltb, le-ltb, ltb-false, not-true, 
 use Rattle.layout.specs.Limits.{base, pick}
 use Rattle.layout.specs.Field.{header, each, T-begin}
 use Rattle.types.specs.declared.Error.{Error}
-use Rattle.types.specs.declared.Error.the-variants.{PlaceBeyond}
 use Rattle.emit.specs.declared.Cursor.{Cursor}
 use Rattle.emit.specs.Put.{put, reached}
 use Rattle.emit.specs.Cursor.{placed, moved}
@@ -88,10 +87,6 @@ committed-none s e =
 
 -- ---- the buffer after an output
 
-answered-beyond : (s : OStream) (size total place : ℕ) (next : OStream) → total < place → refused s PlaceBeyond ≡ answered s size total place next
-unfolding answered
-answered-beyond s size total place next l = sym (simp (lt-ltb _ _ l))
-
 abbrev pub Sent : OStream → List ℕ → List ℕ → ℕ → OStream → Written → List ℕ → Type 0
 Sent s b o place next r b′ = (r ≡ answered s (length b) (length o) place next) × (b′ ≡ left s b o place)
 
@@ -131,12 +126,6 @@ module _ (k : Call) (s : OStream) (b : List ℕ) (place : ℕ) (r : Written) whe
         h ∙ ap (λ (x : List ℕ). answered s (length b) (length x) place next) eo ∙ ap (λ (n : OStream). answered s (length b) (length (k .output)) place n) en,
         e ∙ ap (λ (x : List ℕ). left s b x place) eo,
       )
-
-  pub beyond : judged (k .tests) ≡ accepted → length (k .output) < place → r ≡ refused s PlaceBeyond → (r ≡ called k s b place) × (b ≡ leaves k s b place)
-  beyond j l h = accepts b j (h ∙ is-beyond, left-beyond s b (k .output) place l)
-    where
-      is-beyond : refused s PlaceBeyond ≡ answered s (length b) (length (k .output)) place (k .done)
-      is-beyond = answered-beyond s (length b) (length (k .output)) place (k .done) l
 
   -- all of the output goes to the emission
   pub sends : (b′ : List ℕ) (c′ : Cursor) → judged (k .tests) ≡ accepted → place ≤ length (k .output) → r ≡ answered s (length b) (length (k .output)) place (k .done)

@@ -262,6 +262,92 @@ fn offsets() {
     show(t.write_unsigned(&mut short, 1, 300, 0), &short);
 }
 
+// ---- limits, and states that fail two tests
+
+fn state(offset: usize, depth: u16, first: u32, last: u32, npending: u16) -> OStream {
+    OStream {
+        offset,
+        depth,
+        pending: [first, 0, 0, 0, 0, 0, 0, last],
+        npending,
+    }
+}
+
+// Depth 254 and 255; an open at 255 is refused with 8, also where its id is refused with 9; a keeping close there.
+fn depths() {
+    let mut buf = [0u8; 32];
+    let a = begin(state(0, 253, 0, 0, 0), &mut buf, 1);
+    let b = begin(a, &mut buf, 2147483647);
+    let c = begin(b, &mut buf, 3);
+    let d = begin(c, &mut buf, 2147483648);
+    keep(d, &mut buf);
+}
+
+// 6 before all others; 7 before 9; 8 and 9 before 11.
+fn orders() {
+    let mut buf = [0u8; 8];
+    show(
+        state(9, 0, 0, 0, 0).write_unsigned(&mut buf, 2147483648, 0, 99),
+        &buf,
+    );
+    show(state(0, 0, 5, 0, 1).write_unsigned(&mut buf, 0, 0, 0), &buf);
+    show(
+        state(0, 1, 2147483648, 0, 1).write_unsigned(&mut buf, 0, 0, 0),
+        &buf,
+    );
+    show(state(0, 1, 5, 6, 1).write_unsigned(&mut buf, 0, 0, 0), &buf);
+    show(
+        state(0, 256, 0, 0, 0).write_unsigned(&mut buf, 0, 0, 0),
+        &buf,
+    );
+    let s = OStream::new(&buf);
+    show(
+        s.write_fixlen(&mut buf, 2147483648, b"ab", FixlenType::Str, 99),
+        &buf,
+    );
+    show(s.write_sequence_end(&mut buf, 99), &buf);
+    show(s.write_unsigned(&mut buf, 2147483648, 0, 99), &buf);
+}
+
+// Of a buffer change 5 judges the new buffer first, then 6 the state by the old one.
+fn changes() {
+    let old = [0u8; 8];
+    let new = [0u8; 2];
+    change(state(9, 0, 0, 0, 0), &old, &new, 3, false);
+    change(state(9, 0, 0, 0, 0), &old, &new, 2, false);
+    change(state(7, 1, 5, 0, 1), &old, &new, 2, true);
+    change(state(7, 1, 5, 0, 1), &old, &new, 2, false);
+}
+
+fn change(s: OStream, old: &[u8], new: &[u8], offset: usize, drained: bool) {
+    let f = s.buffer_set(old, new, offset, drained);
+    let c = f.answer;
+    let t = f.stream;
+    match c {
+        Count::Bytes(n) => {
+            text(b"bytes");
+            number(n as u64);
+        }
+        Count::Refused(e) => {
+            text(b"R");
+            number(e.number() as u64);
+        }
+    }
+    number(t.offset as u64);
+    number(t.depth as u64);
+    number(t.npending as u64);
+    text(b"\n");
+}
+
+// Every buffer length from 1 to the message's.
+fn windows(all: &mut [u8], t: &[u8]) {
+    let mut n: usize = 0;
+    while n < all.len() {
+        n += 1;
+        window(&mut all[0..n], t);
+    }
+}
+
 fn main() {
     scalars();
     payloads();
@@ -272,4 +358,9 @@ fn main() {
     let mut three = [0u8; 3];
     window(&mut three, b"a window of three");
     offsets();
+    depths();
+    orders();
+    changes();
+    let mut all = [0u8; 10];
+    windows(&mut all, b"windows!");
 }

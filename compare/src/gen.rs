@@ -456,13 +456,18 @@ fn content(r: &mut Random) -> Call {
             let (width, data) = signed_elements(r);
             Call::ArraySigned(id, width, data)
         }
+        // Every second array has no NaN: only such a one can be given as floats.
         11 => {
             let n = size(r) / 2;
-            Call::ArrayFp32(id, (0..n).map(|_| bits32(r)).collect())
+            let plain = r.one_in(2);
+            let bits = (0..n).map(|_| bits32(r)).map(|b| if plain && 0x7f80_0000 < b % 0x8000_0000 { 0x3f80_0001 } else { b });
+            Call::ArrayFp32(id, bits.collect())
         }
         _ => {
             let n = size(r) / 2;
-            Call::ArrayFp64(id, (0..n).map(|_| bits64(r)).collect())
+            let plain = r.one_in(2);
+            let bits = (0..n).map(|_| bits64(r)).map(|b| if plain && 0x7ff0_0000_0000_0000 < b % (1 << 63) { 0xbff0_0000_0000_0001 } else { b });
+            Call::ArrayFp64(id, bits.collect())
         }
     }
 }

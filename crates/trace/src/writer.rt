@@ -88,6 +88,78 @@ fn first_u32<'a>(s: &'a [u32], n: usize) -> &'a [u32] {
     if n <= s.len() { &s[..n] } else { s }
 }
 
+fn first_f32<'a>(s: &'a [f32], n: usize) -> &'a [f32] {
+    if n <= s.len() { &s[..n] } else { s }
+}
+
+// Whether none of the bits are a NaN's.
+fn plain_32(bits: &[u32]) -> bool {
+    let mut i: usize = 0;
+    while i < bits.len() {
+        if 0x7f80_0000 < bits[i] % 0x8000_0000 {
+            return false;
+        }
+        i += 1;
+    }
+    true
+}
+
+// A float by its bits; 0 for a NaN's, and beyond the end.
+fn float_32(bits: &[u32], i: usize) -> f32 {
+    if bits.len() <= i {
+        return 0.0;
+    }
+    let e = event::fp32(0, bits[i]);
+    let Event::Fp32(_, value) = e else {
+        return 0.0;
+    };
+    value
+}
+
+fn fill_f32(bits: &[u32], floats: &mut [f32]) {
+    let mut i: usize = 0;
+    while i < floats.len() {
+        floats[i] = float_32(bits, i);
+        i += 1;
+    }
+}
+
+fn first_f64<'a>(s: &'a [f64], n: usize) -> &'a [f64] {
+    if n <= s.len() { &s[..n] } else { s }
+}
+
+// Whether none of the bits are a NaN's.
+fn plain_64(bits: &[u64]) -> bool {
+    let mut i: usize = 0;
+    while i < bits.len() {
+        if 0x7ff0_0000_0000_0000 < bits[i] % 0x8000_0000_0000_0000 {
+            return false;
+        }
+        i += 1;
+    }
+    true
+}
+
+// A float by its bits; 0 for a NaN's, and beyond the end.
+fn float_64(bits: &[u64], i: usize) -> f64 {
+    if bits.len() <= i {
+        return 0.0;
+    }
+    let e = event::fp64(0, bits[i]);
+    let Event::Fp64(_, value) = e else {
+        return 0.0;
+    };
+    value
+}
+
+fn fill_f64(bits: &[u64], floats: &mut [f64]) {
+    let mut i: usize = 0;
+    while i < floats.len() {
+        floats[i] = float_64(bits, i);
+        i += 1;
+    }
+}
+
 // ---- one call, from a place in its output on. `at` is where its arguments start, after the id.
 
 // Arrays have at most 192 elements. The width that an array of integers names is the Rust's matter: here each element has 64 bits.
@@ -119,6 +191,16 @@ fn array_signed(
     s.write_array_signed(buf, id, first_i64(&elements, count), place)
 }
 
+fn fp32s(s: OStream, bits: &[u32], id: u32, buf: &mut [u8], place: usize) -> Written {
+    if plain_32(bits) {
+        let mut floats = [0.0f32; 192];
+        fill_f32(bits, &mut floats);
+        s.write_array_fp32(buf, id, first_f32(&floats, bits.len()), place)
+    } else {
+        s.write_array_fp32_bits(buf, id, bits, place)
+    }
+}
+
 fn array_fp32(
     case: &[u8],
     at: usize,
@@ -130,7 +212,17 @@ fn array_fp32(
     let mut elements = [0u32; 192];
     fill_fp32(case, ahead(case, at, 2), &mut elements);
     let count = get16(case, at) as usize;
-    s.write_array_fp32_bits(buf, id, first_u32(&elements, count), place)
+    fp32s(s, first_u32(&elements, count), id, buf, place)
+}
+
+fn fp64s(s: OStream, bits: &[u64], id: u32, buf: &mut [u8], place: usize) -> Written {
+    if plain_64(bits) {
+        let mut floats = [0.0f64; 192];
+        fill_f64(bits, &mut floats);
+        s.write_array_fp64(buf, id, first_f64(&floats, bits.len()), place)
+    } else {
+        s.write_array_fp64_bits(buf, id, bits, place)
+    }
 }
 
 fn array_fp64(
@@ -144,10 +236,10 @@ fn array_fp64(
     let mut elements = [0u64; 192];
     fill_unsigned(case, ahead(case, at, 2), &mut elements);
     let count = get16(case, at) as usize;
-    s.write_array_fp64_bits(buf, id, first_u64(&elements, count), place)
+    fp64s(s, first_u64(&elements, count), id, buf, place)
 }
 
-// A float goes by the call for floats, and a NaN, whose bits no float carries, by the one for bits.
+// Floats go by the calls for floats, and where one is a NaN, whose bits no float carries, by those for bits.
 fn fp32(s: OStream, id: u32, bits: u32, buf: &mut [u8], place: usize) -> Written {
     let e = event::fp32(id, bits);
     let Event::Fp32(_, x) = e else {

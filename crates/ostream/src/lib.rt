@@ -503,10 +503,14 @@ impl OStream {
             };
             let head = first.put_varint(buf, tagged(id, wire));
             let end = head.put_varint(buf, value);
-            self.offset = end.pos;
             return Written {
                 answer: Answer::Done,
-                stream: self,
+                stream: OStream {
+                    offset: end.pos,
+                    depth: self.depth,
+                    pending: [0; 8],
+                    npending: 0,
+                },
             };
         }
         self.write_varint_slowly(buf, id, wire, value, place)

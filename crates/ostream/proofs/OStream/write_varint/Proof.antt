@@ -10,7 +10,7 @@ use Rattle.emit.proofs.Segments.{joined}
 use Rattle.ostream.specs.declared.OStream.{OStream}
 use Rattle.ostream.specs.Stream.{heldBytes}
 use Rattle.ostream.specs.Calls.{varintCall}
-use Rattle.ostream.proofs.Called.{Ready, is-ready, rested, ready-scalar, none-held, committed-none, goes-straight}
+use Rattle.ostream.proofs.Called.{Ready, is-ready, ready-scalar, none-held, committed-none, goes-straight}
 use borrow.Author.Needs.{needs}
 use Rattle.ostream.proofs.OStream.write_varint.Statement.{statement}
 use Rattle.ostream.proofs.OStream.write_varint.Tie as tie
@@ -24,9 +24,6 @@ use Rattle.ostream.proofs.tagged.Reads as tagged-reads
 -- the output of a state that holds nothing, with the header as it was made
 spelled : (s : OStream) → s .npending ≡ 0 → (h n v : ℕ) → h ≡ n → shortest h ++ shortest v ≡ heldBytes s ++ (shortest n ++ shortest v)
 spelled s e h n v q = ap (λ (m : ℕ). shortest m ++ shortest v) q ∙ ap (λ (l : List ℕ). l ++ (shortest n ++ shortest v)) (sym (none-held s e))
-
-eight : (c : tie.After-ready) → length (c .before .before .args .self .pending) ≡ 8
-eight c = search needs
 
 ready-requires : tie.Need-ready-requires
 ready-requires c κs = search needs
@@ -48,21 +45,18 @@ returns c =
     let t = c .before .before .before .before .before .before in
     let a = t .before .before .before .before .before .before .args in
     let f = t .before .before .before .before .before .before .fits in
-    let y = is-ready _ _ _ _ (sym (t .before .before .before .before .ready .ensures) ∙ t .before .before .before .if1 .taken) in
+    let y = is-ready _ _ _ 0 _ (sym (t .before .before .before .before .ready .ensures) ∙ t .before .before .before .if1 .taken) in
     let h = t .before .tagged .result in
     let lh = length-64 h (omega arith) in
     let lv = length-64 (a .value) (f .value .fits) in
     let o = length-append (shortest h) (shortest (a .value)) in
     let r = y .room in
-    let l = eight (t .before .before .before .before) in
-    goes-straight (varintCall (a .self) (length (a .buf .now)) (a .id) (a .wire) (a .value)) (a .self) (a .buf .now) (shortest h ++ shortest (a .value)) (a .place) _ _ (ready-scalar (a .self) (length (a .buf .now)) (a .id) (a .place) y)
+    goes-straight (varintCall (a .self) (length (a .buf .now)) (a .id) (a .wire) (a .value)) (a .self) (a .buf .now) (shortest h ++ shortest (a .value)) (a .place) _ _ (ready-scalar (a .self) (length (a .buf .now)) (a .id) 0 (a .place) y)
     (spelled (a .self) (y .none) h (a .id * 8 + a .wire) (a .value) (t .before .tagged .ensures))
     (committed-none (a .self) (y .none))
     (y .first)
     (omega arith)
     (joined _ _ _ _ _ _ _ _ (omega arith) (t .put-varint .ensures) (c .before .before .put-varint2 .ensures))
-    _
-    (rested (a .self) (length (a .buf .now)) (a .id) (a .place) _ y l)
 
 write-varint-slowly-requires : tie.Need-write-varint-slowly-requires
 write-varint-slowly-requires c κs = search needs

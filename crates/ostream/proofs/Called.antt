@@ -83,12 +83,12 @@ is-ready s size id n place e =
     record { room = omega arith; short = leb-true _ _ (b2 .0); first = omega arith; legal = leb-true _ _ (d .0); none = z; sound = quiet s size (omega arith) z (leb-true _ _ (g .0)) (g .1) }
 
 -- where nothing is held, nothing is to be cleared
-pub committed-none : (s : OStream) → s .npending ≡ 0 → s ≡ committed s (s .depth)
+pub committed-none : (s : OStream) (depth : ℕ) → s .npending ≡ 0 → record { offset = s .offset; depth = depth; pending = s .pending; npending = s .npending } ≡ committed s depth
 unfolding committed
-committed-none s e =
+committed-none s depth e =
     let z : s .pending ≡ zeroed (s .npending) (s .pending) = sym (ap (λ (n : ℕ). zeroed n (s .pending)) e) in
-    ap (λ (n : ℕ). record { offset = s .offset; depth = s .depth; pending = s .pending; npending = n }) e
-    ∙ ap (λ (l : List ℕ). record { offset = s .offset; depth = s .depth; pending = l; npending = 0 }) z
+    ap (λ (n : ℕ). record { offset = s .offset; depth = depth; pending = s .pending; npending = n }) e
+    ∙ ap (λ (l : List ℕ). record { offset = s .offset; depth = depth; pending = l; npending = 0 }) z
 
 -- ---- the buffer after an output
 
@@ -232,12 +232,12 @@ answered-all s size total place next z h end e =
     ap (λ (n : ℕ). record { answer = Done; stream = at next n }) f ∙ sym (simp (le-ltb _ _ l, le-leb _ _ r))
 
 -- its output o is the call's, there is room for all of it, and the state is moved
-pub goes-straight : (k : Call) (s : OStream) (b o : List ℕ) (place : ℕ) (c′ : Cursor) (b′ : List ℕ) → judged (k .tests) ≡ accepted → o ≡ k .output → s ≡ k .done → place ≡ 0
+pub goes-straight : (k : Call) (s : OStream) (b o : List ℕ) (place : ℕ) (c′ : Cursor) (b′ : List ℕ) (next : OStream) → judged (k .tests) ≡ accepted → o ≡ k .output → next ≡ k .done → place ≡ 0
     → s .offset + length o ≤ length b → Emitted (start s place) b o c′ b′
-    → (record { answer = Done; stream = at s (c′ .pos) } ≡ called k s b place) × (b′ ≡ leaves k s b place)
-goes-straight k s b o place c′ b′ j eo en z h e =
+    → (record { answer = Done; stream = at next (c′ .pos) } ≡ called k s b place) × (b′ ≡ leaves k s b place)
+goes-straight k s b o place c′ b′ next j eo en z h e =
     let l : place ≤ length o = omega arith in
-    accepts-as k s b place _ o s b′ eo en j (answered-all s (length b) (length o) place s z h (c′ .pos) (emitted-end s b o place c′ b′ z h e), left-emitted s b o place c′ b′ l e)
+    accepts-as k s b place _ o next b′ eo en j (answered-all s (length b) (length o) place next z h (c′ .pos) (emitted-end s b o place c′ b′ z h e), left-emitted s b o place c′ b′ l e)
 
 -- it passes the tests of a field
 module _ (s : OStream) (size id n place : ℕ) (y : Ready s size id n place) where

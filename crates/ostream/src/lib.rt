@@ -916,6 +916,28 @@ impl OStream {
     pub fn write_sequence_end(mut self, buf: &mut [u8], place: usize) -> Written
         ensures { λ r. ⌜ (r ≡ called (endCall self (length (now (buf .entry)))) self (now (buf .entry)) place) × (now (buf .exit) ≡ leaves (endCall self (length (now (buf .entry)))) self (now (buf .entry)) place) ⌝ }
     {
+        if 0 < self.depth {
+            if self.ready(buf.len(), 0, 0, place) {
+                let first = Cursor {
+                    pos: self.offset,
+                    skip: place,
+                };
+                let end = first.put_varint(buf, tagged(0, T_SEQUENCE_END));
+                self.offset = end.pos;
+                self.depth = self.depth - 1;
+                return Written {
+                    answer: Answer::Done,
+                    stream: self,
+                };
+            }
+        }
+        self.end_slowly(buf, place)
+    }
+
+    // The same from any state and place.
+    fn end_slowly(self, buf: &mut [u8], place: usize) -> Written
+        ensures { λ r. ⌜ (r ≡ called (endCall self (length (now (buf .entry)))) self (now (buf .entry)) place) × (now (buf .exit) ≡ leaves (endCall self (length (now (buf .entry)))) self (now (buf .entry)) place) ⌝ }
+    {
         let size = buf.len();
         let depth = self.depth;
         if !self.sound(size) {

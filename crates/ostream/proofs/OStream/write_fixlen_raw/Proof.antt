@@ -76,9 +76,9 @@ returns c =
     let d = length-append (shortest h) (shortest w ++ a .bytes .now) in
     let e = length-append (shortest w) (a .bytes .now) in
     let r = y .room in
-    goes-straight (rawCall (a .self) (length (a .buf .now)) (a .id) (a .bytes .now) (a .subtype)) (a .self) (a .buf .now) (shortest h ++ (shortest w ++ a .bytes .now)) (a .place) _ _ (ready-field (a .self) (length (a .buf .now)) (a .id) (length (a .bytes .now)) (a .place) y)
+    goes-straight (rawCall (a .self) (length (a .buf .now)) (a .id) (a .bytes .now) (a .subtype)) (a .self) (a .buf .now) (shortest h ++ (shortest w ++ a .bytes .now)) (a .place) _ _ (a .self) (ready-field (a .self) (length (a .buf .now)) (a .id) (length (a .bytes .now)) (a .place) y)
     (spelled (a .self) (y .none) h (a .id * 8 + 2) w (length (a .bytes .now) * 8 + fixlenRaw (a .subtype)) (a .bytes .now) (p .before .tagged .ensures) (v .before .tagged2 .ensures ∙ ap (λ (n : ℕ). length (a .bytes .now) * 8 + n) (v .before .before .raw .ensures)))
-    (committed-none (a .self) (y .none))
+    (committed-none (a .self) (a .self .depth) (y .none))
     (y .first)
     (omega arith)
     (joined-three _ _ _ _ _ _ _ _ _ _ _ (omega arith) (p .put-varint .ensures) (v .put-varint2 .ensures) (c .before .before .put-bytes .ensures))

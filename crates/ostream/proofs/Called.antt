@@ -222,7 +222,7 @@ emitted-end s b o place c′ b′ z h e =
     let p : c′ .pos ≡ reached b (s .offset) (drop place o) = ap (λ (x : Cursor). x .pos) (e .0) in
     omega arith
 
-answered-all : (s : OStream) (size total place : ℕ) (next : OStream) → place ≡ 0 → s .offset + total ≤ size
+pub answered-all : (s : OStream) (size total place : ℕ) (next : OStream) → place ≡ 0 → s .offset + total ≤ size
     → (end : ℕ) → end ≡ s .offset + total → record { answer = Done; stream = at next end } ≡ answered s size total place next
 unfolding answered
 answered-all s size total place next z h end e =

@@ -895,6 +895,24 @@ impl OStream {
     pub fn write_sequence_begin_lazy(mut self, buf: &mut [u8], id: u32, place: usize) -> Written
         ensures { λ r. ⌜ (r ≡ called (beginCall self (length (now (buf .entry))) id) self (now (buf .entry)) place) × (now (buf .exit) ≡ leaves (beginCall self (length (now (buf .entry))) id) self (now (buf .entry)) place) ⌝ }
     {
+        if self.depth < 255 {
+            if self.ready(buf.len(), id, 0, place) {
+                self.pending[0] = id;
+                self.npending = 1;
+                self.depth = self.depth + 1;
+                return Written {
+                    answer: Answer::Done,
+                    stream: self,
+                };
+            }
+        }
+        self.begin_slowly(buf, id, place)
+    }
+
+    // The same from any state and place.
+    fn begin_slowly(self, buf: &mut [u8], id: u32, place: usize) -> Written
+        ensures { λ r. ⌜ (r ≡ called (beginCall self (length (now (buf .entry))) id) self (now (buf .entry)) place) × (now (buf .exit) ≡ leaves (beginCall self (length (now (buf .entry))) id) self (now (buf .entry)) place) ⌝ }
+    {
         let size = buf.len();
         let depth = self.depth;
         if !self.sound(size) {

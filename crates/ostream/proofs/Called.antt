@@ -48,8 +48,9 @@ is-sound s size e =
     record { inside = leb-true _ _ (a .0); few = leb-true _ _ (b .0); nested = leb-true _ _ (c .0); shallow = leb-true _ _ (d .0); legal = f .0; zeros = f .1 }
 
 -- a state that two varints can be written from straight away
-pub record Ready (s : OStream) (size id place : ℕ) : Type 0 where
-  pub room : s .offset + 20 ≤ size
+pub record Ready (s : OStream) (size id n place : ℕ) : Type 0 where
+  pub room : s .offset + 20 + n ≤ size
+  pub short : n ≤ base .size
   pub first : place ≡ 0
   pub legal : id ≤ base .id
   pub none : s .npending ≡ 0
@@ -61,29 +62,32 @@ quiet s size h e d z =
     ap (λ (n : ℕ). leb (s .offset) size && (leb n lazyDepth && (leb n (s .depth) && (leb (s .depth) (base .depth) && (every (λ x. leb x (base .id)) (take n (s .pending)) && every (λ x. eqb x 0) (drop n (s .pending))))))) e
     ∙ simp (le-leb (s .offset) size h, le-leb 0 (s .depth) (omega arith), le-leb (s .depth) (base .depth) d, z)
 
-pub is-ready : (s : OStream) (size id place : ℕ) → readyStream s size id place ≡ true → Ready s size id place
+pub is-ready : (s : OStream) (size id n place : ℕ) → readyStream s size id n place ≡ true → Ready s size id n place
 unfolding readyStream
-is-ready s size id place e =
+is-ready s size id n place e =
     let a = both _ _ e in
     let b = both _ _ (a .1) in
-    let c = both _ _ (b .1) in
+    let b1 = both _ _ (b .1) in
+    let b2 = both _ _ (b1 .1) in
+    let c = both _ _ (b2 .1) in
     let d = both _ _ (c .1) in
     let f = both _ _ (d .1) in
     let g = both _ _ (f .1) in
     let ha : 20 ≤ size = leb-true _ _ (a .0) in
     let hb : s .offset ≤ size - 20 = leb-true _ _ (b .0) in
+    let hn : n ≤ size - 20 - s .offset = leb-true _ _ (b1 .0) in
     let hc : place ≤ 0 = leb-true _ _ (c .0) in
     let hf : s .npending ≤ 0 = leb-true _ _ (f .0) in
-    let n : s .npending ≡ 0 = omega arith in
-    record { room = omega arith; first = omega arith; legal = leb-true _ _ (d .0); none = n; sound = quiet s size (omega arith) n (leb-true _ _ (g .0)) (g .1) }
+    let z : s .npending ≡ 0 = omega arith in
+    record { room = omega arith; short = leb-true _ _ (b2 .0); first = omega arith; legal = leb-true _ _ (d .0); none = z; sound = quiet s size (omega arith) z (leb-true _ _ (g .0)) (g .1) }
 
 -- where nothing is held, nothing is to be cleared
-pub committed-none : (s : OStream) → s .npending ≡ 0 → s ≡ committed s (s .depth)
+pub committed-none : (s : OStream) (depth : ℕ) → s .npending ≡ 0 → record { offset = s .offset; depth = depth; pending = s .pending; npending = s .npending } ≡ committed s depth
 unfolding committed
-committed-none s e =
+committed-none s depth e =
     let z : s .pending ≡ zeroed (s .npending) (s .pending) = sym (ap (λ (n : ℕ). zeroed n (s .pending)) e) in
-    ap (λ (n : ℕ). record { offset = s .offset; depth = s .depth; pending = s .pending; npending = n }) e
-    ∙ ap (λ (l : List ℕ). record { offset = s .offset; depth = s .depth; pending = l; npending = 0 }) z
+    ap (λ (n : ℕ). record { offset = s .offset; depth = depth; pending = s .pending; npending = n }) e
+    ∙ ap (λ (l : List ℕ). record { offset = s .offset; depth = depth; pending = l; npending = 0 }) z
 
 -- ---- the buffer after an output
 
@@ -207,7 +211,7 @@ emitted-end s b o place c′ b′ z h e =
     let p : c′ .pos ≡ reached b (s .offset) (drop place o) = ap (λ (x : Cursor). x .pos) (e .0) in
     omega arith
 
-answered-all : (s : OStream) (size total place : ℕ) (next : OStream) → place ≡ 0 → s .offset + total ≤ size
+pub answered-all : (s : OStream) (size total place : ℕ) (next : OStream) → place ≡ 0 → s .offset + total ≤ size
     → (end : ℕ) → end ≡ s .offset + total → record { answer = Done; stream = at next end } ≡ answered s size total place next
 unfolding answered
 answered-all s size total place next z h end e =
@@ -217,13 +221,17 @@ answered-all s size total place next z h end e =
     ap (λ (n : ℕ). record { answer = Done; stream = at next n }) f ∙ sym (simp (le-ltb _ _ l, le-leb _ _ r))
 
 -- its output o is the call's, there is room for all of it, and the state is moved
-pub goes-straight : (k : Call) (s : OStream) (b o : List ℕ) (place : ℕ) (c′ : Cursor) (b′ : List ℕ) → judged (k .tests) ≡ accepted → o ≡ k .output → s ≡ k .done → place ≡ 0
+pub goes-straight : (k : Call) (s : OStream) (b o : List ℕ) (place : ℕ) (c′ : Cursor) (b′ : List ℕ) (next : OStream) → judged (k .tests) ≡ accepted → o ≡ k .output → next ≡ k .done → place ≡ 0
     → s .offset + length o ≤ length b → Emitted (start s place) b o c′ b′
-    → (record { answer = Done; stream = at s (c′ .pos) } ≡ called k s b place) × (b′ ≡ leaves k s b place)
-goes-straight k s b o place c′ b′ j eo en z h e =
+    → (record { answer = Done; stream = at next (c′ .pos) } ≡ called k s b place) × (b′ ≡ leaves k s b place)
+goes-straight k s b o place c′ b′ next j eo en z h e =
     let l : place ≤ length o = omega arith in
-    accepts-as k s b place _ o s b′ eo en j (answered-all s (length b) (length o) place s z h (c′ .pos) (emitted-end s b o place c′ b′ z h e), left-emitted s b o place c′ b′ l e)
+    accepts-as k s b place _ o next b′ eo en j (answered-all s (length b) (length o) place next z h (c′ .pos) (emitted-end s b o place c′ b′ z h e), left-emitted s b o place c′ b′ l e)
 
--- it passes the tests of a field of one varint
-pub ready-scalar : (s : OStream) (size id place : ℕ) → Ready s size id place → judged (unsound s size ∷ idTooLarge id ∷ []) ≡ accepted
-ready-scalar s size id place y = simp (y .sound, le-ltb _ _ (y .legal))
+-- it passes the tests of a field
+module _ (s : OStream) (size id n place : ℕ) (y : Ready s size id n place) where
+  pub ready-scalar : judged (unsound s size ∷ idTooLarge id ∷ []) ≡ accepted
+  ready-scalar = simp (y .sound, le-ltb _ _ (y .legal))
+
+  pub ready-field : judged (fieldTests s size id n) ≡ accepted
+  ready-field = simp (y .sound, le-ltb _ _ (y .legal), le-ltb _ _ (y .short))

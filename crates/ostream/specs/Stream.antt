@@ -24,10 +24,11 @@ unfoldable pub soundStream : OStream → ℕ → Bool
 soundStream s size =
     leb (s .offset) size && (leb (s .npending) lazyDepth && (leb (s .npending) (s .depth) && (leb (s .depth) (base .depth) && (every (λ x. leb x (base .id)) (take (s .npending) (s .pending)) && every (λ x. eqb x 0) (drop (s .npending) (s .pending))))))
 
--- Whether a call at its first byte can write two varints straight away: a sound state that holds nothing, and room for the longest.
-unfoldable pub readyStream : OStream → ℕ → ℕ → ℕ → Bool
-readyStream s size id place =
-    leb 20 size && (leb (s .offset) (size - 20) && (leb place 0 && (leb id (base .id) && (leb (s .npending) 0 && (leb (s .depth) (base .depth) && every (λ x. eqb x 0) (drop 0 (s .pending)))))))
+-- Whether a call at its first byte can write two varints and n more bytes straight away: a sound state that holds nothing, and room for
+-- the longest.
+unfoldable pub readyStream : OStream → ℕ → ℕ → ℕ → ℕ → Bool
+readyStream s size id n place =
+    leb 20 size && (leb (s .offset) (size - 20) && (leb n (size - 20 - s .offset) && (leb n (base .size) && (leb place 0 && (leb id (base .id) && (leb (s .npending) 0 && (leb (s .depth) (base .depth) && every (λ x. eqb x 0) (drop 0 (s .pending)))))))))
 
 -- the headers of the sequences that are held back, "outermost first"
 unfoldable pub heldBytes : OStream → List ℕ

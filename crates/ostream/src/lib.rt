@@ -456,9 +456,10 @@ impl OStream {
         head.put_varint(buf, second)
     }
 
-    // Whether a call can write two varints straight away: it is at its first byte, no id is held, and there is room for the longest.
-    fn ready(self, size: usize, id: u32, place: usize) -> bool
-        ensures { λ r. ⌜ r ≡ readyStream self size id place ⌝ }
+    // Whether a call can write two varints and `len` more bytes straight away: it is at its first byte, no id is held, and there is room
+    // for the longest.
+    fn ready(self, size: usize, id: u32, len: usize, place: usize) -> bool
+        ensures { λ r. ⌜ r ≡ readyStream self size id len place ⌝ }
     {
         let offset = self.offset;
         let depth = self.depth;
@@ -468,6 +469,12 @@ impl OStream {
             return false;
         }
         if size - 20 < offset {
+            return false;
+        }
+        if size - 20 - offset < len {
+            return false;
+        }
+        if (ARRAY_MAX as usize) < len {
             return false;
         }
         if 0 < place {
@@ -496,7 +503,7 @@ impl OStream {
     ) -> Written
         ensures { λ r. ⌜ (r ≡ called (varintCall self (length (now (buf .entry))) id wire value) self (now (buf .entry)) place) × (now (buf .exit) ≡ leaves (varintCall self (length (now (buf .entry))) id wire value) self (now (buf .entry)) place) ⌝ }
     {
-        if self.ready(buf.len(), id, place) {
+        if self.ready(buf.len(), id, 0, place) {
             let first = Cursor {
                 pos: self.offset,
                 skip: place,
@@ -561,6 +568,34 @@ impl OStream {
 
     // A fixed-length field: the header, the word, and the bytes as they are.
     fn write_fixlen_raw(
+        mut self,
+        buf: &mut [u8],
+        id: u32,
+        bytes: &[u8],
+        subtype: FixlenType,
+        place: usize,
+    ) -> Written
+        ensures { λ r. ⌜ (r ≡ called (rawCall self (length (now (buf .entry))) id (now (bytes .entry)) subtype) self (now (buf .entry)) place) × (now (buf .exit) ≡ leaves (rawCall self (length (now (buf .entry))) id (now (bytes .entry)) subtype) self (now (buf .entry)) place) ⌝ }
+    {
+        if self.ready(buf.len(), id, bytes.len(), place) {
+            let first = Cursor {
+                pos: self.offset,
+                skip: place,
+            };
+            let head = first.put_varint(buf, tagged(id, T_FIXLEN));
+            let word = head.put_varint(buf, tagged(bytes.len() as u32, subtype.raw()));
+            let end = word.put_bytes(buf, bytes);
+            self.offset = end.pos;
+            return Written {
+                answer: Answer::Done,
+                stream: self,
+            };
+        }
+        self.write_fixlen_slowly(buf, id, bytes, subtype, place)
+    }
+
+    // The same from any state and place.
+    fn write_fixlen_slowly(
         self,
         buf: &mut [u8],
         id: u32,
@@ -860,6 +895,24 @@ impl OStream {
     pub fn write_sequence_begin_lazy(mut self, buf: &mut [u8], id: u32, place: usize) -> Written
         ensures { λ r. ⌜ (r ≡ called (beginCall self (length (now (buf .entry))) id) self (now (buf .entry)) place) × (now (buf .exit) ≡ leaves (beginCall self (length (now (buf .entry))) id) self (now (buf .entry)) place) ⌝ }
     {
+        if self.depth < 255 {
+            if self.ready(buf.len(), id, 0, place) {
+                self.pending[0] = id;
+                self.npending = 1;
+                self.depth = self.depth + 1;
+                return Written {
+                    answer: Answer::Done,
+                    stream: self,
+                };
+            }
+        }
+        self.begin_slowly(buf, id, place)
+    }
+
+    // The same from any state and place.
+    fn begin_slowly(self, buf: &mut [u8], id: u32, place: usize) -> Written
+        ensures { λ r. ⌜ (r ≡ called (beginCall self (length (now (buf .entry))) id) self (now (buf .entry)) place) × (now (buf .exit) ≡ leaves (beginCall self (length (now (buf .entry))) id) self (now (buf .entry)) place) ⌝ }
+    {
         let size = buf.len();
         let depth = self.depth;
         if !self.sound(size) {
@@ -879,6 +932,28 @@ impl OStream {
 
     // The last opened sequence is closed; one that is held back vanishes.
     pub fn write_sequence_end(mut self, buf: &mut [u8], place: usize) -> Written
+        ensures { λ r. ⌜ (r ≡ called (endCall self (length (now (buf .entry)))) self (now (buf .entry)) place) × (now (buf .exit) ≡ leaves (endCall self (length (now (buf .entry)))) self (now (buf .entry)) place) ⌝ }
+    {
+        if 0 < self.depth {
+            if self.ready(buf.len(), 0, 0, place) {
+                let first = Cursor {
+                    pos: self.offset,
+                    skip: place,
+                };
+                let end = first.put_varint(buf, tagged(0, T_SEQUENCE_END));
+                self.offset = end.pos;
+                self.depth = self.depth - 1;
+                return Written {
+                    answer: Answer::Done,
+                    stream: self,
+                };
+            }
+        }
+        self.end_slowly(buf, place)
+    }
+
+    // The same from any state and place.
+    fn end_slowly(self, buf: &mut [u8], place: usize) -> Written
         ensures { λ r. ⌜ (r ≡ called (endCall self (length (now (buf .entry)))) self (now (buf .entry)) place) × (now (buf .exit) ≡ leaves (endCall self (length (now (buf .entry)))) self (now (buf .entry)) place) ⌝ }
     {
         let size = buf.len();

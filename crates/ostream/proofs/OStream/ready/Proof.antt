@@ -17,9 +17,15 @@ returns-2 : tie.Need-returns-2
 unfolding readyStream
 returns-2 c = simp (le-leb _ _ (c .before .if1 .left), lt-leb _ _ (c .if2 .taken))
 
+sub-if3 : tie.Need-sub-if3
+sub-if3 c = search needs
+
 returns-3 : tie.Need-returns-3
 unfolding readyStream
 returns-3 c = simp (le-leb _ _ (c .before .before .if1 .left), le-leb _ _ (c .before .if2 .left), lt-leb _ _ (c .if3 .taken))
+
+cast-if4 : tie.Need-cast-if4
+cast-if4 c = search needs
 
 returns-4 : tie.Need-returns-4
 unfolding readyStream
@@ -33,12 +39,20 @@ returns-6 : tie.Need-returns-6
 unfolding readyStream
 returns-6 c = simp (le-leb _ _ (c .before .before .before .before .before .if1 .left), le-leb _ _ (c .before .before .before .before .if2 .left), le-leb _ _ (c .before .before .before .if3 .left), le-leb _ _ (c .before .before .if4 .left), le-leb _ _ (c .before .if5 .left), lt-leb _ _ (c .if6 .taken))
 
+returns-7 : tie.Need-returns-7
+unfolding readyStream
+returns-7 c = simp (le-leb _ _ (c .before .before .before .before .before .before .if1 .left), le-leb _ _ (c .before .before .before .before .before .if2 .left), le-leb _ _ (c .before .before .before .before .if3 .left), le-leb _ _ (c .before .before .before .if4 .left), le-leb _ _ (c .before .before .if5 .left), le-leb _ _ (c .before .if6 .left), lt-leb _ _ (c .if7 .taken))
+
+returns-8 : tie.Need-returns-8
+unfolding readyStream
+returns-8 c = simp (le-leb _ _ (c .before .before .before .before .before .before .before .if1 .left), le-leb _ _ (c .before .before .before .before .before .before .if2 .left), le-leb _ _ (c .before .before .before .before .before .if3 .left), le-leb _ _ (c .before .before .before .before .if4 .left), le-leb _ _ (c .before .before .before .if5 .left), le-leb _ _ (c .before .before .if6 .left), le-leb _ _ (c .before .if7 .left), lt-leb _ _ (c .if8 .taken))
+
 unused-zero-requires : tie.Need-unused-zero-requires
 unused-zero-requires c κs = search needs
 
-returns-7 : tie.Need-returns-7
+returns-9 : tie.Need-returns-9
 unfolding readyStream
-returns-7 c = simp (le-leb _ _ (c .before .before .before .before .before .before .if1 .left), le-leb _ _ (c .before .before .before .before .before .if2 .left), le-leb _ _ (c .before .before .before .before .if3 .left), le-leb _ _ (c .before .before .before .if4 .left), le-leb _ _ (c .before .before .if5 .left), le-leb _ _ (c .before .if6 .left)) (c .unused-zero .ensures)
+returns-9 c = simp (le-leb _ _ (c .before .before .before .before .before .before .before .before .if1 .left), le-leb _ _ (c .before .before .before .before .before .before .before .if2 .left), le-leb _ _ (c .before .before .before .before .before .before .if3 .left), le-leb _ _ (c .before .before .before .before .before .if4 .left), le-leb _ _ (c .before .before .before .before .if5 .left), le-leb _ _ (c .before .before .before .if6 .left), le-leb _ _ (c .before .before .if7 .left), le-leb _ _ (c .before .if8 .left)) (c .unused-zero .ensures)
 
 pub ready-spec : {M : Type 1} → statement M
 ready-spec =
@@ -46,9 +60,13 @@ ready-spec =
     (tie.spec
     returns
     returns-2
+    sub-if3
     returns-3
+    cast-if4
     returns-4
     returns-5
     returns-6
+    returns-7
+    returns-8
     unused-zero-requires
-    returns-7)
+    returns-9)

@@ -1,112 +1,67 @@
--- `ostream::OStream::write_sequence_begin_lazy`: held back where there is a place, else written with all that are held.
-use Prim.Native.Nat.{ℕ, _+_, _-_, _*_, _≤_, _<_}
+-- `ostream::OStream::write_sequence_begin_lazy`: from a ready state the id takes the first place, and nothing is written.
+use Prim.Native.Nat.{ℕ, _+_, _≤_, _<_}
 use mathlib.Core.Path.{_≡_, refl, sym, ap, _∙_}
-use mathlib.Core.Bool.{Bool, true, false, not}
-use mathlib.Core.List.{List, [], _++_}
+use mathlib.Core.List.{List, []}
 use native.Mathlib.Omega.{arith}
-use borrow.Author.Needs.{needs}
-use borrow.Author.Tests.{lt-ltb, le-ltb, le-leb, lt-leb, eq-eqb, ne-eqb}
-use lib.ListN.{length}
-use Rattle.layout.specs.Limits.{base, pick}
-use Rattle.layout.specs.Varint.{shortest}
-use Rattle.layout.specs.Field.{begin, end}
-use Rattle.layout.specs.Copy.{fieldBytes}
+use borrow.Author.Tests.{lt-ltb, le-ltb, lt-leb}
+use lib.ListN.{length, set}
 use Rattle.ostream.specs.declared.OStream.{OStream}
-use Rattle.ostream.specs.Stream.{soundStream, heldBytes, committed, holding, dropped}
-use Rattle.ostream.specs.Emission.{answered}
-use Rattle.ostream.proofs.Called.{Sound, is-sound, refuses, accepts-as, left-nothing, none-held, tested-unsound, tested-sound}
+use Rattle.ostream.specs.Stream.{holding}
+use Rattle.ostream.specs.Calls.{beginCall}
+use Rattle.ostream.proofs.Called.{Ready, is-ready, accepts-as, answered-all, left-nothing}
+use borrow.Author.Needs.{needs}
 use Rattle.ostream.proofs.OStream.write_sequence_begin_lazy.Statement.{statement}
 use Rattle.ostream.proofs.OStream.write_sequence_begin_lazy.Tie as tie
 use Rattle.ostream.proofs.OStream.write_sequence_begin_lazy.Reads as reads
 use Rattle.ostream.proofs.OStream.write_sequence_begin_lazy.Lts as lts
-use Rattle.ostream.proofs.OStream.finish.Reads as finish-reads
-use Rattle.ostream.proofs.OStream.hold.Reads as hold-reads
-use Rattle.ostream.proofs.OStream.refuse.Reads as refuse-reads
-use Rattle.ostream.proofs.OStream.sound.Reads as sound-reads
-use Rattle.ostream.proofs.OStream.write_marker.Reads as write-marker-reads
-use Rattle.ostream.proofs.tagged.Reads as tagged-reads
+use Rattle.ostream.proofs.OStream.begin_slowly.Reads as begin-slowly-reads
+use Rattle.ostream.proofs.OStream.ready.Reads as ready-reads
 
-sound : (c : tie.Else1) → soundStream (c .before .before .before .args .self) (length (c .before .before .before .args .buf .now)) ≡ true
-sound c = tested-sound _ _ _ (c .before .sound .ensures) (c .if1 .left)
+-- the state with its first id held
+first-held : (s : OStream) (id : ℕ) → s .npending ≡ 0 → record { offset = s .offset; depth = s .depth + 1; pending = set (s .pending) 0 id; npending = 1 } ≡ holding s id
+unfolding holding
+first-held s id e = ap (λ (n : ℕ). record { offset = s .offset; depth = s .depth + 1; pending = set (s .pending) n id; npending = n + 1 }) (sym e)
 
-sound-requires : tie.Need-sound-requires
-sound-requires c κs = search needs
+ready-requires : tie.Need-ready-requires
+ready-requires c κs = search needs
 
-refuse-requires : tie.Need-refuse-requires
-refuse-requires c κs = search needs
+element-write-self : tie.Need-element-write-self
+element-write-self c = search needs
+
+add-self : tie.Need-add-self
+add-self c = search needs
 
 returns : tie.Need-returns
-returns c = refuses _ _ _ _ _ _ (simp (tested-unsound _ _ _ (c .before .before .sound .ensures) (c .before .if1 .taken))) (c .refuse .ensures)
+returns c =
+    let a = c .before .before .before .before .args in
+    let y = is-ready _ _ _ 0 _ (sym (c .before .ready .ensures) ∙ c .if2 .taken) in
+    let n = c .before .before .if1 .taken in
+    let z = y .none in
+    let r = y .room in
+    let h : record { offset = a .t1 .offset; depth = a .t1 .depth + 1; pending = set (a .t1 .pending) 0 (a .id); npending = 1 } ≡ holding (a .t1) (a .id) = first-held (a .t1) (a .id) z in
+    accepts-as (beginCall (a .t1) (length (a .buf .now)) (a .id)) (a .t1) (a .buf .now) (a .place) _ [] (record { offset = a .t1 .offset; depth = a .t1 .depth + 1; pending = set (a .t1 .pending) 0 (a .id); npending = 1 }) _
+    (simp (lt-ltb (a .t1 .npending) 8 (omega arith)))
+    (simp (lt-ltb (a .t1 .npending) 8 (omega arith)) h)
+    (simp (y .sound, lt-leb _ _ n, le-ltb _ _ (y .legal)))
+    (answered-all (a .t1) (length (a .buf .now)) 0 (a .place) _ (y .first) (omega arith) (a .t1 .offset) (omega arith), left-nothing (a .t1) (a .buf .now) [] (a .place) refl)
 
-cast-if2 : tie.Need-cast-if2
-cast-if2 c = search needs
-
-refuse-requires-2 : tie.Need-refuse-requires-2
-refuse-requires-2 c κs = search needs
-
-returns-2 : tie.Need-returns-2
-returns-2 c = refuses _ _ _ _ _ _ (simp (sound (c .before .before), le-leb _ _ (c .before .if2 .taken))) (c .refuse2 .ensures)
-
-refuse-requires-3 : tie.Need-refuse-requires-3
-refuse-requires-3 c κs = search needs
-
-returns-3 : tie.Need-returns-3
-returns-3 c = refuses _ _ _ _ _ _ (simp (sound (c .before .before .before), lt-leb _ _ (c .before .before .if2 .left), lt-ltb _ _ (c .before .if3 .taken))) (c .refuse3 .ensures)
-
-hold-requires : tie.Need-hold-requires
-hold-requires c κs = search needs
-
-finish-requires : tie.Need-finish-requires
-finish-requires c κs = is-sound _ _ (sound (c .before .before .before .before .before)) .inside
-
-returns-4 : tie.Need-returns-4
-unfolding fieldBytes
-returns-4 c =
-    let t = c .before .before .before .before in
-    let a = t .before .before .before .before .before .args in
-    accepts-as _ _ _ _ _ [] (holding (a .self) (a .id)) _ (simp (lt-ltb _ _ (c .before .before .if4 .taken))) (simp (lt-ltb _ _ (c .before .before .if4 .taken)))
-    (simp (sound (t .before .before), lt-leb _ _ (t .before .if2 .left), le-ltb _ _ (t .if3 .left)))
-    (c .finish .ensures ∙ ap (λ (n : OStream). answered (a .self) (length (a .buf .now)) 0 (a .place) n) (c .before .hold .ensures), left-nothing _ _ _ _ refl)
-
-tagged-requires : tie.Need-tagged-requires
-tagged-requires c κs = search needs
-
-add-write-marker : tie.Need-add-write-marker
-add-write-marker c = search needs
-
-write-marker-requires : tie.Need-write-marker-requires
-write-marker-requires c κs = let h = is-sound _ _ (sound (c .before .before .before .before .before .before)) in (h .few, h .inside)
+begin-slowly-requires : tie.Need-begin-slowly-requires
+begin-slowly-requires c κs = search needs
 
 same-length : tie.Need-same-length
 same-length c = search needs
 
-returns-5 : tie.Need-returns-5
-unfolding fieldBytes
-returns-5 c =
-    let t = c .before .before .before .before .before .before .before in
-    let a = t .before .before .before .before .before .args in
-    let o = c .before .before .before .before .before .if4 .left in
-    let w = c .before .before .write-marker .ensures in
-    accepts-as _ _ _ _ _ _ _ _ (simp (le-ltb _ _ o) (ap (λ (h : ℕ). heldBytes (a .self) ++ shortest h) (c .before .before .before .tagged .ensures))) (simp (le-ltb _ _ o))
-    (simp (sound (t .before .before), lt-leb _ _ (t .before .if2 .left), le-ltb _ _ (t .if3 .left))) w
+returns-2 : tie.Need-returns-2
+returns-2 c = search needs
 
 pub write-sequence-begin-lazy-spec : {M : Type 1} → statement M
 write-sequence-begin-lazy-spec =
     tie.close
     (tie.spec
-    sound-requires
-    refuse-requires
+    ready-requires
+    element-write-self
+    add-self
     returns
-    cast-if2
-    refuse-requires-2
-    returns-2
-    refuse-requires-3
-    returns-3
-    hold-requires
-    finish-requires
-    returns-4
-    tagged-requires
-    add-write-marker
-    write-marker-requires
+    begin-slowly-requires
     same-length
-    returns-5)
+    returns-2)

@@ -45,15 +45,15 @@ returns c =
     let t = c .before .before .before .before .before .before in
     let a = t .before .before .before .before .before .before .args in
     let f = t .before .before .before .before .before .before .fits in
-    let y = is-ready _ _ _ _ (sym (t .before .before .before .before .ready .ensures) ∙ t .before .before .before .if1 .taken) in
+    let y = is-ready _ _ _ 0 _ (sym (t .before .before .before .before .ready .ensures) ∙ t .before .before .before .if1 .taken) in
     let h = t .before .tagged .result in
     let lh = length-64 h (omega arith) in
     let lv = length-64 (a .value) (f .value .fits) in
     let o = length-append (shortest h) (shortest (a .value)) in
     let r = y .room in
-    goes-straight (varintCall (a .self) (length (a .buf .now)) (a .id) (a .wire) (a .value)) (a .self) (a .buf .now) (shortest h ++ shortest (a .value)) (a .place) _ _ (ready-scalar (a .self) (length (a .buf .now)) (a .id) (a .place) y)
+    goes-straight (varintCall (a .self) (length (a .buf .now)) (a .id) (a .wire) (a .value)) (a .self) (a .buf .now) (shortest h ++ shortest (a .value)) (a .place) _ _ (a .self) (ready-scalar (a .self) (length (a .buf .now)) (a .id) 0 (a .place) y)
     (spelled (a .self) (y .none) h (a .id * 8 + a .wire) (a .value) (t .before .tagged .ensures))
-    (committed-none (a .self) (y .none))
+    (committed-none (a .self) (a .self .depth) (y .none))
     (y .first)
     (omega arith)
     (joined _ _ _ _ _ _ _ _ (omega arith) (t .put-varint .ensures) (c .before .before .put-varint2 .ensures))

@@ -39,6 +39,49 @@ fn put_whole(buf: &mut [u8], pos: usize, v: u64) -> usize
     at
 }
 
+// The same where there is room for the longest, with no test for the buffer's end at each byte.
+pub fn put_fitting(buf: &mut [u8], pos: usize, v: u64) -> usize
+    requires { ⌜ pos + 10 ≤ length (now buf) ⌝ }
+    ensures { λ r. ⌜ (r ≡ reached (now (buf .entry)) pos (shortest v)) × (now (buf .exit) ≡ put (now (buf .entry)) pos (shortest v)) ⌝ }
+{
+    if v < 128 {
+        buf[pos] = v as u8;
+        return pos + 1;
+    }
+    buf[pos] = (v % 128 + 128) as u8;
+    let second = v / 128;
+    if second < 128 {
+        buf[pos + 1] = second as u8;
+        return pos + 2;
+    }
+    buf[pos + 1] = (second % 128 + 128) as u8;
+    put_third(buf, pos + 2, second / 128)
+}
+
+// Such a varint from its third byte on.
+fn put_third(buf: &mut [u8], pos: usize, v: u64) -> usize
+    requires { ⌜ pos + 8 ≤ length (now buf) ⌝ }
+    ensures { λ r. ⌜ (r ≡ reached (now (buf .entry)) pos (shortest v)) × (now (buf .exit) ≡ put (now (buf .entry)) pos (shortest v)) ⌝ }
+{
+    if v < 128 {
+        buf[pos] = v as u8;
+        return pos + 1;
+    }
+    buf[pos] = (v % 128 + 128) as u8;
+    let second = v / 128;
+    if second < 128 {
+        buf[pos + 1] = second as u8;
+        return pos + 2;
+    }
+    buf[pos + 1] = (second % 128 + 128) as u8;
+    let third = second / 128;
+    if third < 128 {
+        buf[pos + 2] = third as u8;
+        return pos + 3;
+    }
+    put_whole(buf, pos + 2, third)
+}
+
 fn least(a: usize, b: usize) -> usize
     ensures { λ r. ⌜ r ≡ min a b ⌝ }
 {
@@ -46,7 +89,7 @@ fn least(a: usize, b: usize) -> usize
 }
 
 // The given bytes from their place `from` on, from pos on; where they end.
-fn put_rest(buf: &mut [u8], pos: usize, bytes: &[u8], from: usize) -> usize
+pub fn put_rest(buf: &mut [u8], pos: usize, bytes: &[u8], from: usize) -> usize
     ensures { λ r. ⌜ (r ≡ reached (now (buf .entry)) pos (drop from (now (bytes .entry)))) × (now (buf .exit) ≡ put (now (buf .entry)) pos (drop from (now (bytes .entry)))) ⌝ }
 {
     if buf.len() <= pos {

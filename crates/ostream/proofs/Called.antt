@@ -20,7 +20,7 @@ use Rattle.ostream.specs.declared.Answer.the-variants.{Done}
 use Rattle.ostream.specs.declared.Written.{Written}
 use Rattle.ostream.specs.declared.Check.{Check}
 use Rattle.ostream.specs.Calls.{unsound, idTooLarge, payloadTooLong, fieldTests, checkOf}
-use Rattle.ostream.specs.Stream.{every, soundStream, lazyDepth, heldBytes, readyStream, zeroed, committed, at}
+use Rattle.ostream.specs.Stream.{every, soundStream, lazyDepth, heldBytes, zeroed, committed, at}
 use Rattle.ostream.specs.Emission.{Test, Call, Verdict, accepted, refusedWith, judged, refused, answered, left, start, calledBy, leavesBy, called, leaves}
 
 -- ---- a sound state
@@ -46,40 +46,6 @@ is-sound s size e =
     let d = both _ _ (c .1) in
     let f = both _ _ (d .1) in
     record { inside = leb-true _ _ (a .0); few = leb-true _ _ (b .0); nested = leb-true _ _ (c .0); shallow = leb-true _ _ (d .0); legal = f .0; zeros = f .1 }
-
--- a state that two varints can be written from straight away
-pub record Ready (s : OStream) (size id n place : ℕ) : Type 0 where
-  pub room : s .offset + 20 + n ≤ size
-  pub short : n ≤ base .size
-  pub first : place ≡ 0
-  pub legal : id ≤ base .id
-  pub none : s .npending ≡ 0
-  pub sound : soundStream s size ≡ true
-
-quiet : (s : OStream) (size : ℕ) → s .offset ≤ size → s .npending ≡ 0 → s .depth ≤ base .depth → every (λ x. eqb x 0) (drop 0 (s .pending)) ≡ true → soundStream s size ≡ true
-unfolding soundStream every
-quiet s size h e d z =
-    ap (λ (n : ℕ). leb (s .offset) size && (leb n lazyDepth && (leb n (s .depth) && (leb (s .depth) (base .depth) && (every (λ x. leb x (base .id)) (take n (s .pending)) && every (λ x. eqb x 0) (drop n (s .pending))))))) e
-    ∙ simp (le-leb (s .offset) size h, le-leb 0 (s .depth) (omega arith), le-leb (s .depth) (base .depth) d, z)
-
-pub is-ready : (s : OStream) (size id n place : ℕ) → readyStream s size id n place ≡ true → Ready s size id n place
-unfolding readyStream
-is-ready s size id n place e =
-    let a = both _ _ e in
-    let b = both _ _ (a .1) in
-    let b1 = both _ _ (b .1) in
-    let b2 = both _ _ (b1 .1) in
-    let c = both _ _ (b2 .1) in
-    let d = both _ _ (c .1) in
-    let f = both _ _ (d .1) in
-    let g = both _ _ (f .1) in
-    let ha : 20 ≤ size = leb-true _ _ (a .0) in
-    let hb : s .offset ≤ size - 20 = leb-true _ _ (b .0) in
-    let hn : n ≤ size - 20 - s .offset = leb-true _ _ (b1 .0) in
-    let hc : place ≤ 0 = leb-true _ _ (c .0) in
-    let hf : s .npending ≤ 0 = leb-true _ _ (f .0) in
-    let z : s .npending ≡ 0 = omega arith in
-    record { room = omega arith; short = leb-true _ _ (b2 .0); first = omega arith; legal = leb-true _ _ (d .0); none = z; sound = quiet s size (omega arith) z (leb-true _ _ (g .0)) (g .1) }
 
 -- where nothing is held, nothing is to be cleared
 pub committed-none : (s : OStream) (depth : ℕ) → s .npending ≡ 0 → record { offset = s .offset; depth = depth; pending = s .pending; npending = s .npending } ≡ committed s depth
@@ -227,11 +193,3 @@ pub goes-straight : (k : Call) (s : OStream) (b o : List ℕ) (place : ℕ) (c�
 goes-straight k s b o place c′ b′ next j eo en z h e =
     let l : place ≤ length o = omega arith in
     accepts-as k s b place _ o next b′ eo en j (answered-all s (length b) (length o) place next z h (c′ .pos) (emitted-end s b o place c′ b′ z h e), left-emitted s b o place c′ b′ l e)
-
--- it passes the tests of a field
-module _ (s : OStream) (size id n place : ℕ) (y : Ready s size id n place) where
-  pub ready-scalar : judged (unsound s size ∷ idTooLarge id ∷ []) ≡ accepted
-  ready-scalar = simp (y .sound, le-ltb _ _ (y .legal))
-
-  pub ready-field : judged (fieldTests s size id n) ≡ accepted
-  ready-field = simp (y .sound, le-ltb _ _ (y .legal), le-ltb _ _ (y .short))

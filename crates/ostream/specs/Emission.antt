@@ -14,7 +14,7 @@ use Rattle.ostream.specs.declared.OStream.{OStream}
 use Rattle.ostream.specs.declared.Answer.{Answer}
 use Rattle.ostream.specs.declared.Answer.the-variants.{Done, Full, Refused}
 use Rattle.ostream.specs.declared.Written.{Written}
-use Rattle.ostream.specs.Stream.{at}
+use Rattle.ostream.specs.Stream.{at, committed}
 
 -- a test, and the refusal where it holds
 pub record Test : Type 0 where
@@ -51,6 +51,10 @@ answered s size total place next =
 -- the buffer then: as many of the bytes still to go as there is room for, from the position on
 unfoldable pub left : OStream → List ℕ → List ℕ → ℕ → List ℕ
 left s b o place = pick (ltb (length o) place) b (put b (s .offset) (drop place o))
+
+-- the answer of a call whose bytes are all out, up to `end`
+abbrev pub finished : OStream → ℕ → Written
+finished s end = record { answer = Done; stream = at (committed s (s .depth)) end }
 
 -- where the emission of a call's output starts
 abbrev pub start : OStream → ℕ → Cursor

@@ -2,6 +2,8 @@
 // one back. A call that meets the buffer's end answers "full" with how many of its bytes are out, and goes on from that place when it
 // is made again.
 use emit::Cursor;
+use emit::put_fitting;
+use emit::put_rest;
 use emit::varints_len;
 use emit::zigzags_len;
 use event::fp32_bits;
@@ -22,29 +24,30 @@ use types::T_VARINTARRAY_UNSIGNED;
 use varint::varint_len;
 use varint::zigzag_encode;
 ghost use mathlib.Core.Path.{_≡_};
-ghost use mathlib.Core.List.{_++_, map};
+ghost use mathlib.Core.List.{[], _∷_, _++_, map};
 ghost use Prim.Native.Nat.{_+_, _-_, _*_, _≤_, _<_};
-ghost use mathlib.Core.Bool.{true, false};
-ghost use lib.Dec.{leb, eqb};
+ghost use mathlib.Core.Bool.{true, false, _&&_};
+ghost use lib.Dec.{leb, ltb, eqb};
 ghost use lib.ListN.{length, take, drop};
 ghost use Rattle.layout.specs.Varint.{shortest};
 ghost use lib.Ieee.{binary32, binary64, toBits};
 ghost use Rattle.types.specs.Types.{subtype};
 ghost use Rattle.layout.specs.Field.{fp32, fp64, string, blob, lowBytes};
 ghost use Rattle.layout.specs.Limits.{base, pick};
-ghost use Rattle.ostream.specs.Stream.{every, soundStream, heldBytes, headBytes, zeroed, committed, holding, dropped, opened, readyStream};
+ghost use Rattle.ostream.specs.Stream.{every, soundStream, heldBytes, headBytes, zeroed, committed, holding, dropped, opened, clean, roomFor, easy, holds, reachedIf, putIf};
 ghost use Rattle.emit.specs.Cursor.{placed, moved};
-ghost use Rattle.ostream.specs.Emission.{start, answered, left, refused, refusedWith, judged, called, leaves};
+ghost use Rattle.ostream.specs.Emission.{start, answered, finished, left, refused, refusedWith, judged, called, leaves};
 ghost use Rattle.ostream.specs.Buffer.{badBuffer, opening, draining, changing};
 ghost use Rattle.ostream.specs.Calls.{fieldTests, checkOf, isString, rawCall, fixlenCall, floatCall, payloadCall, unsignedArrayCall, signedArrayCall, floatArrayCall};
 ghost use Rattle.ostream.specs.Calls.{varintCall, unsignedCall, signedCall, booleanCall, beginCall, endCall, endKeepCall};
 
 // A writer's state. `offset` is where the next byte goes; `depth` counts the open sequences; `pending` has the ids of the innermost
-// `npending` of them, whose headers are held back, and zero elsewhere.
+// `npending` of them, whose headers are held back, and zero elsewhere. (The order of the fields leaves no gap between them: a copy of a
+// gap goes through memory.)
 pub struct OStream {
     pub offset: usize,
-    pub depth: u16,
     pub pending: [u32; 8],
+    pub depth: u16,
     pub npending: u16,
 }
 
@@ -201,7 +204,99 @@ fn unfit(size: usize, offset: usize, drained: bool) -> bool
     }
 }
 
+// Whether there is room from pos on for two varints, however long, and `more` bytes.
+fn has_room(size: usize, pos: usize, more: usize) -> bool
+    ensures { λ r. ⌜ r ≡ roomFor size pos more ⌝ }
+{
+    if size < 20 {
+        return false;
+    }
+    if size - 20 < pos {
+        return false;
+    }
+    more <= size - 20 - pos
+}
+
+// Two varints straight away, where no place is in use and there is room for the longest; where they end. Else nothing, and pos.
+// The calls below test little themselves and leave the rest to this and the next two, so that they are small enough to be inlined:
+// then a writer's state stays in registers from call to call.
+fn put_pair(buf: &mut [u8], pos: usize, places: [u32; 8], header: u64, second: u64) -> usize
+    ensures { λ r. ⌜ (r ≡ reachedIf (roomFor (length (now (buf .entry))) pos 0 && clean places) (now (buf .entry)) pos (shortest header ++ shortest second)) × (now (buf .exit) ≡ putIf (roomFor (length (now (buf .entry))) pos 0 && clean places) (now (buf .entry)) pos (shortest header ++ shortest second)) ⌝ }
+{
+    if !has_room(buf.len(), pos, 0) {
+        return pos;
+    }
+    if !unused_zero(places, 0) {
+        return pos;
+    }
+    let mid = put_fitting(buf, pos, header);
+    put_fitting(buf, mid, second)
+}
+
+// The same with bytes after them.
+fn put_field(
+    buf: &mut [u8],
+    pos: usize,
+    places: [u32; 8],
+    header: u64,
+    second: u64,
+    bytes: &[u8],
+) -> usize
+    ensures { λ r. ⌜ (r ≡ reachedIf (roomFor (length (now (buf .entry))) pos (length (now (bytes .entry))) && clean places) (now (buf .entry)) pos (shortest header ++ (shortest second ++ now (bytes .entry)))) × (now (buf .exit) ≡ putIf (roomFor (length (now (buf .entry))) pos (length (now (bytes .entry))) && clean places) (now (buf .entry)) pos (shortest header ++ (shortest second ++ now (bytes .entry)))) ⌝ }
+{
+    if !has_room(buf.len(), pos, bytes.len()) {
+        return pos;
+    }
+    if !unused_zero(places, 0) {
+        return pos;
+    }
+    let mid = put_fitting(buf, pos, header);
+    let end = put_fitting(buf, mid, second);
+    put_rest(buf, end, bytes, 0)
+}
+
+// The one byte of a close.
+fn put_end(buf: &mut [u8], pos: usize, places: [u32; 8]) -> usize
+    ensures { λ r. ⌜ (r ≡ reachedIf (ltb pos (length (now (buf .entry))) && clean places) (now (buf .entry)) pos (7 ∷ [])) × (now (buf .exit) ≡ putIf (ltb pos (length (now (buf .entry))) && clean places) (now (buf .entry)) pos (7 ∷ [])) ⌝ }
+{
+    if buf.len() <= pos {
+        return pos;
+    }
+    if !unused_zero(places, 0) {
+        return pos;
+    }
+    buf[pos] = T_SEQUENCE_END;
+    pos + 1
+}
+
+impl Written {
+    // The same, made anew from its fields: what a call that is not inlined leaves stands in memory, and should not keep the state there.
+    fn anew(self) -> Written
+        ensures { λ r. ⌜ r ≡ self ⌝ }
+    {
+        let answer = self.answer;
+        let stream = self.stream;
+        Written {
+            answer,
+            stream: stream.anew(),
+        }
+    }
+}
+
 impl OStream {
+    // The same state, made anew from its fields, for a call that is not inlined: so that this one's own stays in registers.
+    fn anew(self) -> OStream
+        ensures { λ r. ⌜ r ≡ self ⌝ }
+    {
+        let pending = self.pending;
+        OStream {
+            offset: self.offset,
+            pending,
+            depth: self.depth,
+            npending: self.npending,
+        }
+    }
+
     // A writer at the offset, with no sequence open.
     fn install(offset: usize) -> OStream
         ensures { λ r. ⌜ r ≡ opened offset ⌝ }
@@ -430,6 +525,32 @@ impl OStream {
         self
     }
 
+    // Whether there is room for the held headers, two varints, however long, and `more` bytes.
+    fn has_room_behind(self, size: usize, more: usize) -> bool
+        requires { ⌜ (self .npending ≤ 8) × (self .offset ≤ size) ⌝ }
+        ensures { λ r. ⌜ r ≡ leb (length (heldBytes self) + 20 + more) (size - self .offset) ⌝ }
+    {
+        let room = size - self.offset;
+        let head = self.held_len() + 20;
+        if room < head {
+            return false;
+        }
+        more <= room - head
+    }
+
+    // The answer of a call whose bytes are all out, up to `end`.
+    fn all_out(self, end: usize) -> Written
+        requires { ⌜ self .npending ≤ 8 ⌝ }
+        ensures { λ r. ⌜ r ≡ finished self end ⌝ }
+    {
+        let mut next = self.commit(self.depth);
+        next.offset = end;
+        Written {
+            answer: Answer::Done,
+            stream: next,
+        }
+    }
+
     // The answer of a call that writes: once all is out, no id is held any more.
     fn complete(self, size: usize, total: usize, place: usize, depth: u16) -> Written
         requires { ⌜ (self .npending ≤ 8) × (self .offset ≤ size) ⌝ }
@@ -456,40 +577,19 @@ impl OStream {
         head.put_varint(buf, second)
     }
 
-    // Whether a call can write two varints and `len` more bytes straight away: it is at its first byte, no id is held, and there is room
-    // for the longest.
-    fn ready(self, size: usize, id: u32, len: usize, place: usize) -> bool
-        ensures { λ r. ⌜ r ≡ readyStream self size id len place ⌝ }
+    // Whether no id is held, and nothing but the places and the room stands against a field.
+    fn at_ease(self, id: u32) -> bool
+        ensures { λ r. ⌜ r ≡ easy self id ⌝ }
     {
-        let offset = self.offset;
         let depth = self.depth;
         let held = self.npending;
-        let pending = self.pending;
-        if size < 20 {
-            return false;
-        }
-        if size - 20 < offset {
-            return false;
-        }
-        if size - 20 - offset < len {
-            return false;
-        }
-        if (ARRAY_MAX as usize) < len {
-            return false;
-        }
-        if 0 < place {
-            return false;
-        }
         if ID_MAX < id {
             return false;
         }
         if 0 < held {
             return false;
         }
-        if 255 < depth {
-            return false;
-        }
-        unused_zero(pending, 0)
+        depth <= 255
     }
 
     // A field of a header and one varint.
@@ -503,20 +603,25 @@ impl OStream {
     ) -> Written
         ensures { λ r. ⌜ (r ≡ called (varintCall self (length (now (buf .entry))) id wire value) self (now (buf .entry)) place) × (now (buf .exit) ≡ leaves (varintCall self (length (now (buf .entry))) id wire value) self (now (buf .entry)) place) ⌝ }
     {
-        if self.ready(buf.len(), id, 0, place) {
-            let first = Cursor {
-                pos: self.offset,
-                skip: place,
-            };
-            let head = first.put_varint(buf, tagged(id, wire));
-            let end = head.put_varint(buf, value);
-            self.offset = end.pos;
-            return Written {
-                answer: Answer::Done,
-                stream: self,
-            };
+        if 0 < place {
+            return self.anew()
+                .write_varint_slowly(buf, id, wire, value, place)
+                .anew();
         }
-        self.write_varint_slowly(buf, id, wire, value, place)
+        if self.at_ease(id) {
+            let places = self.pending;
+            let end = put_pair(buf, self.offset, places, tagged(id, wire), value);
+            if self.offset < end {
+                self.offset = end;
+                return Written {
+                    answer: Answer::Done,
+                    stream: self,
+                };
+            }
+        }
+        self.anew()
+            .write_varint_slowly(buf, id, wire, value, place)
+            .anew()
     }
 
     // The same from any state and place.
@@ -537,6 +642,11 @@ impl OStream {
             return self.refuse(error);
         }
         let header = tagged(id, wire);
+        if place == 0 && self.has_room_behind(size, 0) {
+            let held = self.put_held(buf, 0);
+            let end = put_pair(buf, held.pos, [0; 8], header, value);
+            return self.all_out(end);
+        }
         let total = self.head_len(header, value);
         if total < place {
             return self.complete(size, total, place, self.depth);
@@ -577,21 +687,26 @@ impl OStream {
     ) -> Written
         ensures { λ r. ⌜ (r ≡ called (rawCall self (length (now (buf .entry))) id (now (bytes .entry)) subtype) self (now (buf .entry)) place) × (now (buf .exit) ≡ leaves (rawCall self (length (now (buf .entry))) id (now (bytes .entry)) subtype) self (now (buf .entry)) place) ⌝ }
     {
-        if self.ready(buf.len(), id, bytes.len(), place) {
-            let first = Cursor {
-                pos: self.offset,
-                skip: place,
-            };
-            let head = first.put_varint(buf, tagged(id, T_FIXLEN));
-            let word = head.put_varint(buf, tagged(bytes.len() as u32, subtype.raw()));
-            let end = word.put_bytes(buf, bytes);
-            self.offset = end.pos;
-            return Written {
-                answer: Answer::Done,
-                stream: self,
-            };
+        if 0 < place {
+            return self.anew()
+                .write_fixlen_slowly(buf, id, bytes, subtype, place)
+                .anew();
         }
-        self.write_fixlen_slowly(buf, id, bytes, subtype, place)
+        if self.at_ease(id) && bytes.len() <= ARRAY_MAX as usize {
+            let places = self.pending;
+            let word = tagged(bytes.len() as u32, subtype.raw());
+            let end = put_field(buf, self.offset, places, tagged(id, T_FIXLEN), word, bytes);
+            if self.offset < end {
+                self.offset = end;
+                return Written {
+                    answer: Answer::Done,
+                    stream: self,
+                };
+            }
+        }
+        self.anew()
+            .write_fixlen_slowly(buf, id, bytes, subtype, place)
+            .anew()
     }
 
     // The same from any state and place.
@@ -613,6 +728,11 @@ impl OStream {
         }
         let header = tagged(id, T_FIXLEN);
         let word = tagged(bytes.len() as u32, subtype.raw());
+        if place == 0 && self.has_room_behind(size, bytes.len()) {
+            let held = self.put_held(buf, 0);
+            let end = put_field(buf, held.pos, [0; 8], header, word, bytes);
+            return self.all_out(end);
+        }
         let total = self.head_len(header, word) + bytes.len();
         if total < place {
             return self.complete(size, total, place, self.depth);
@@ -867,6 +987,22 @@ impl OStream {
         self.complete(size, total, place, depth)
     }
 
+    // Whether a sequence can be opened and held back.
+    fn can_hold(self, size: usize, id: u32) -> bool
+        ensures { λ r. ⌜ r ≡ holds self size id ⌝ }
+    {
+        if 8 <= self.npending {
+            return false;
+        }
+        if 255 <= self.depth {
+            return false;
+        }
+        if ID_MAX < id {
+            return false;
+        }
+        self.sound(size)
+    }
+
     // The state with one more sequence held back.
     fn hold(mut self, id: u32) -> OStream
         requires { ⌜ (self .npending < 8) × (self .depth < 255) ⌝ }
@@ -895,16 +1031,11 @@ impl OStream {
     pub fn write_sequence_begin_lazy(mut self, buf: &mut [u8], id: u32, place: usize) -> Written
         ensures { λ r. ⌜ (r ≡ called (beginCall self (length (now (buf .entry))) id) self (now (buf .entry)) place) × (now (buf .exit) ≡ leaves (beginCall self (length (now (buf .entry))) id) self (now (buf .entry)) place) ⌝ }
     {
-        if self.depth < 255 {
-            if self.ready(buf.len(), id, 0, place) {
-                self.pending[0] = id;
-                self.npending = 1;
-                self.depth = self.depth + 1;
-                return Written {
-                    answer: Answer::Done,
-                    stream: self,
-                };
-            }
+        if place == 0 && self.can_hold(buf.len(), id) {
+            return Written {
+                answer: Answer::Done,
+                stream: self.hold(id),
+            };
         }
         self.begin_slowly(buf, id, place)
     }
@@ -934,14 +1065,14 @@ impl OStream {
     pub fn write_sequence_end(mut self, buf: &mut [u8], place: usize) -> Written
         ensures { λ r. ⌜ (r ≡ called (endCall self (length (now (buf .entry)))) self (now (buf .entry)) place) × (now (buf .exit) ≡ leaves (endCall self (length (now (buf .entry)))) self (now (buf .entry)) place) ⌝ }
     {
-        if 0 < self.depth {
-            if self.ready(buf.len(), 0, 0, place) {
-                let first = Cursor {
-                    pos: self.offset,
-                    skip: place,
-                };
-                let end = first.put_varint(buf, tagged(0, T_SEQUENCE_END));
-                self.offset = end.pos;
+        if 0 < place {
+            return self.anew().end_slowly(buf, place).anew();
+        }
+        if 0 < self.depth && self.at_ease(0) {
+            let places = self.pending;
+            let end = put_end(buf, self.offset, places);
+            if self.offset < end {
+                self.offset = end;
                 self.depth = self.depth - 1;
                 return Written {
                     answer: Answer::Done,
@@ -949,7 +1080,7 @@ impl OStream {
                 };
             }
         }
-        self.end_slowly(buf, place)
+        self.anew().end_slowly(buf, place).anew()
     }
 
     // The same from any state and place.

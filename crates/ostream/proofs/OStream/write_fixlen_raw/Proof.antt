@@ -1,31 +1,31 @@
--- `ostream::OStream::write_fixlen_raw`: straight away from a ready state, where the output is the field alone.
+-- `ostream::OStream::write_fixlen_raw`: straight away from a state that holds nothing, and otherwise left to the slow form.
 use Prim.Native.Nat.{ℕ, _+_, _*_, _≤_, _<_}
 use mathlib.Core.Path.{_≡_, refl, sym, ap, _∙_}
 use mathlib.Core.List.{List, [], _++_}
+use mathlib.Core.Logic.{⊎-elim}
 use native.Mathlib.Omega.{arith}
+use borrow.Author.Tests.{leb-true}
 use lib.ListN.{length, length-append}
 use Rattle.layout.specs.Varint.{shortest}
-use Rattle.varint.proofs.Shortest.{length-64}
+use Rattle.varint.proofs.Shortest.{length-64, length-some}
 use Rattle.types.specs.Types.{fixlenRaw}
-use Rattle.emit.proofs.Segments.{joined-three}
 use Rattle.ostream.specs.declared.OStream.{OStream}
 use Rattle.ostream.specs.Stream.{heldBytes}
 use Rattle.ostream.specs.Calls.{rawCall, fixlenBytes}
-use Rattle.ostream.proofs.Called.{Ready, is-ready, ready-field, none-held, committed-none, goes-straight}
+use Rattle.ostream.proofs.Called.{none-held, committed-none}
+use Rattle.ostream.proofs.Straight.{Ready, is-ready, is-easy, ready-field, went, unmoved, straight, left-to}
 use borrow.Author.Needs.{needs}
 use Rattle.ostream.proofs.OStream.write_fixlen_raw.Statement.{statement}
 use Rattle.ostream.proofs.OStream.write_fixlen_raw.Tie as tie
 use Rattle.ostream.proofs.OStream.write_fixlen_raw.Reads as reads
 use Rattle.ostream.proofs.OStream.write_fixlen_raw.Lts as lts
-use Rattle.emit.proofs.Cursor.put_bytes.Reads as put-bytes-reads
-use Rattle.emit.proofs.Cursor.put_varint.Reads as put-varint-reads
-use Rattle.ostream.proofs.OStream.ready.Reads as ready-reads
+use Rattle.ostream.proofs.OStream.anew.Reads as OStream-anew-reads
+use Rattle.ostream.proofs.OStream.at_ease.Reads as at-ease-reads
 use Rattle.ostream.proofs.OStream.write_fixlen_slowly.Reads as write-fixlen-slowly-reads
+use Rattle.ostream.proofs.Written.anew.Reads as Written-anew-reads
+use Rattle.ostream.proofs.put_field.Reads as put-field-reads
 use Rattle.ostream.proofs.tagged.Reads as tagged-reads
 use Rattle.types.proofs.FixlenType.raw.Reads as raw-reads
-
-ready : (c : tie.Then1) → Ready (c .before .before .before .before .args .self) (length (c .before .before .before .before .args .buf .now)) (c .before .before .before .before .args .id) (length (c .before .before .before .before .args .bytes .now)) (c .before .before .before .before .args .place)
-ready c = is-ready _ _ _ _ _ (sym (c .before .ready .ensures) ∙ c .if1 .taken)
 
 -- the output of a state that holds nothing, with the header and the word as they were made
 spelled : (s : OStream) → s .npending ≡ 0 → (h n w m : ℕ) (l : List ℕ) → h ≡ n → w ≡ m → shortest h ++ (shortest w ++ l) ≡ heldBytes s ++ (shortest n ++ (shortest m ++ l))
@@ -34,78 +34,120 @@ spelled s e h n w m l q r =
     ∙ ap (λ (x : ℕ). shortest n ++ (shortest x ++ l)) r
     ∙ ap (λ (x : List ℕ). x ++ (shortest n ++ (shortest m ++ l))) (sym (none-held s e))
 
-ready-requires : tie.Need-ready-requires
-ready-requires c κs = search needs
+-- where the straight form has written nothing, the buffer is as it was
+unaltered : (c : tie.Joined2-2) → c .if2 .buf ≡ c .before .before .before .before .before .args .buf .now
+unaltered c =
+    let a = c .before .before .before .before .before .args in
+    ⊎-elim
+    (λ x.
+    let h = x .6 .result in
+    let w = x .4 .result in
+    let o = length-append (shortest h) (shortest w ++ a .bytes .now) in
+    let l = length-some h in
+    x .12 ∙ unmoved _ _ _ _ (length (a .bytes .now)) (shortest h ++ (shortest w ++ a .bytes .now)) _ _ refl (x .7 .ensures) (omega arith) (x .11 .left))
+    (λ x. x .1)
+    (c .if2 .came)
 
-tagged-requires : tie.Need-tagged-requires
-tagged-requires c κs = search needs
+anew-requires : tie.Need-anew-requires
+anew-requires c κs = search needs
 
-put-varint-requires : tie.Need-put-varint-requires
-put-varint-requires c κs = search needs
+write-fixlen-slowly-requires : tie.Need-write-fixlen-slowly-requires
+write-fixlen-slowly-requires c κs = search needs
 
-cast-tagged : tie.Need-cast-tagged
-cast-tagged c = let n = ready (c .before .before .before .before .before .before) .short in record { fits = omega arith }
-
-raw-requires : tie.Need-raw-requires
-raw-requires c κs = search needs
-
-tagged-requires-2 : tie.Need-tagged-requires-2
-tagged-requires-2 c κs = search needs
-
-put-varint-requires-2 : tie.Need-put-varint-requires-2
-put-varint-requires-2 c κs = search needs
-
-put-bytes-requires : tie.Need-put-bytes-requires
-put-bytes-requires c κs = search needs
+anew-requires-2 : tie.Need-anew-requires-2
+anew-requires-2 c κs = search needs
 
 same-length : tie.Need-same-length
 same-length c = search needs
 
 returns : tie.Need-returns
-unfolding fixlenBytes
 returns c =
-    let v = c .before .before .before .before .before .before in
-    let p = v .before .before .before .before .before .before in
-    let t = p .before .before .before in
-    let a = t .before .before .before .before .args in
-    let y = ready t in
-    let h = p .before .tagged .result in
-    let w = v .before .tagged2 .result in
-    let lh = length-64 h (omega arith) in
-    let lw = length-64 w (omega arith) in
-    let d = length-append (shortest h) (shortest w ++ a .bytes .now) in
-    let e = length-append (shortest w) (a .bytes .now) in
-    let r = y .room in
-    goes-straight (rawCall (a .self) (length (a .buf .now)) (a .id) (a .bytes .now) (a .subtype)) (a .self) (a .buf .now) (shortest h ++ (shortest w ++ a .bytes .now)) (a .place) _ _ (a .self) (ready-field (a .self) (length (a .buf .now)) (a .id) (length (a .bytes .now)) (a .place) y)
-    (spelled (a .self) (y .none) h (a .id * 8 + 2) w (length (a .bytes .now) * 8 + fixlenRaw (a .subtype)) (a .bytes .now) (p .before .tagged .ensures) (v .before .tagged2 .ensures ∙ ap (λ (n : ℕ). length (a .bytes .now) * 8 + n) (v .before .before .raw .ensures)))
-    (committed-none (a .self) (a .self .depth) (y .none))
-    (y .first)
-    (omega arith)
-    (joined-three _ _ _ _ _ _ _ _ _ _ _ (omega arith) (p .put-varint .ensures) (v .put-varint2 .ensures) (c .before .before .put-bytes .ensures))
+    let a = c .before .before .before .before .before .before .before .before .before .args in
+    left-to (λ s n. rawCall s n (a .id) (a .bytes .now) (a .subtype)) (a .self) _ (a .buf .now) (a .buf .now) (a .place) _ _ _ (c .before .before .before .before .before .anew .ensures) refl (c .anew2 .ensures) (c .before .before .before .write-fixlen-slowly .ensures)
 
-write-fixlen-slowly-requires : tie.Need-write-fixlen-slowly-requires
-write-fixlen-slowly-requires c κs = search needs
+at-ease-requires : tie.Need-at-ease-requires
+at-ease-requires c κs = search needs
+
+cast-if3 : tie.Need-cast-if3
+cast-if3 c = search needs
+
+cast-tagged : tie.Need-cast-tagged
+cast-tagged c = let n : length (c .before .before .before .before .before .before .before .args .bytes .now) ≤ 2147483647 = leb-true _ _ (c .before .if3 .taken) in record { fits = omega arith }
+
+raw-requires : tie.Need-raw-requires
+raw-requires c κs = search needs
+
+tagged-requires : tie.Need-tagged-requires
+tagged-requires c κs = search needs
+
+tagged-requires-2 : tie.Need-tagged-requires-2
+tagged-requires-2 c κs = search needs
+
+put-field-requires : tie.Need-put-field-requires
+put-field-requires c κs = search needs
 
 same-length-2 : tie.Need-same-length-2
 same-length-2 c = search needs
 
 returns-2 : tie.Need-returns-2
-returns-2 c = search needs
+unfolding fixlenBytes
+returns-2 c =
+    let a = c .before .before .before .before .before .before .before .before .before .before .before .before .before .before .before .before .args in
+    let e = went _ _ _ _ _ _ (c .before .before .before .before .put-field .ensures) (c .if4 .taken) in
+    let y = is-ready (a .self) (length (a .buf .now)) (a .id) (length (a .bytes .now)) (is-easy _ _ (sym (c .before .before .before .before .before .before .before .before .before .before .before .before .at-ease .ensures) ∙ c .before .before .before .before .before .before .before .before .before .before .before .if2 .taken)) (e .0) in
+    let h = c .before .before .before .before .before .tagged2 .result in
+    let w = c .before .before .before .before .before .before .before .tagged .result in
+    let lh = length-64 h (c .before .before .before .before .before .tagged2 .ok) in
+    let lw = length-64 w (c .before .before .before .before .before .before .before .tagged .ok) in
+    let d = length-append (shortest h) (shortest w ++ a .bytes .now) in
+    let g = length-append (shortest w) (a .bytes .now) in
+    let r = y .room in
+    let p = c .before .before .before .before .before .before .before .before .before .before .before .before .before .if1 .left in
+    straight (rawCall (a .self) (length (a .buf .now)) (a .id) (a .bytes .now) (a .subtype)) (a .self) (a .buf .now) (shortest h ++ (shortest w ++ a .bytes .now)) (a .place) _ _ (a .self)
+    (ready-field (a .self) (length (a .buf .now)) (a .id) (length (a .bytes .now)) y (leb-true _ _ (c .before .before .before .before .before .before .before .before .before .before .if3 .taken)))
+    (spelled (a .self) (y .none) h (a .id * 8 + 2) w (length (a .bytes .now) * 8 + fixlenRaw (a .subtype)) (a .bytes .now) (c .before .before .before .before .before .tagged2 .ensures) (c .before .before .before .before .before .before .before .tagged .ensures ∙ ap (λ (n : ℕ). length (a .bytes .now) * 8 + n) (c .before .before .before .before .before .before .before .before .raw .ensures)))
+    (committed-none (a .self) (a .self .depth) (y .none))
+    (omega arith)
+    (omega arith)
+    (e .1)
+
+anew-requires-3 : tie.Need-anew-requires-3
+anew-requires-3 c κs = search needs
+
+write-fixlen-slowly-requires-2 : tie.Need-write-fixlen-slowly-requires-2
+write-fixlen-slowly-requires-2 c κs = search needs
+
+anew-requires-4 : tie.Need-anew-requires-4
+anew-requires-4 c κs = search needs
+
+same-length-3 : tie.Need-same-length-3
+same-length-3 c = search (needs, ap length (unaltered (c .before .before .before .before .before .before)))
+
+returns-3 : tie.Need-returns-3
+returns-3 c =
+    let a = c .before .before .before .before .before .before .before .before .before .before .before .args in
+    left-to (λ s n. rawCall s n (a .id) (a .bytes .now) (a .subtype)) (a .self) _ (a .buf .now) (c .before .before .before .before .before .before .if2 .buf) (a .place) _ _ _ (c .before .before .before .before .before .anew3 .ensures) (unaltered (c .before .before .before .before .before .before)) (c .anew4 .ensures) (c .before .before .before .write-fixlen-slowly2 .ensures)
 
 pub write-fixlen-raw-spec : {M : Type 1} → statement M
 write-fixlen-raw-spec =
     tie.close
     (tie.spec
-    ready-requires
-    tagged-requires
-    put-varint-requires
-    cast-tagged
-    raw-requires
-    tagged-requires-2
-    put-varint-requires-2
-    put-bytes-requires
+    anew-requires
+    write-fixlen-slowly-requires
+    anew-requires-2
     same-length
     returns
-    write-fixlen-slowly-requires
+    at-ease-requires
+    cast-if3
+    cast-tagged
+    raw-requires
+    tagged-requires
+    tagged-requires-2
+    put-field-requires
     same-length-2
-    returns-2)
+    returns-2
+    anew-requires-3
+    write-fixlen-slowly-requires-2
+    anew-requires-4
+    same-length-3
+    returns-3)

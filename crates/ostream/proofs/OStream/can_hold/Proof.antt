@@ -1,0 +1,32 @@
+-- `ostream::OStream::can_hold`: the tests one after another.
+use mathlib.Core.Path.{_≡_, refl, sym, ap, _∙_}
+use borrow.Author.Tests.{le-leb, lt-leb, le-ltb, lt-ltb, leb-true, leb-false, not-true, not-false}
+use Rattle.ostream.specs.Stream.{holds}
+use borrow.Author.Needs.{needs}
+use Rattle.ostream.proofs.OStream.can_hold.Statement.{statement}
+use Rattle.ostream.proofs.OStream.can_hold.Tie as tie
+use Rattle.ostream.proofs.OStream.can_hold.Reads as reads
+use Rattle.ostream.proofs.OStream.can_hold.Lts as lts
+use Rattle.ostream.proofs.OStream.sound.Reads as sound-reads
+
+returns : tie.Need-returns
+unfolding holds
+returns c = simp (le-ltb _ _ (c .if1 .taken))
+
+returns-2 : tie.Need-returns-2
+unfolding holds
+returns-2 c = simp (lt-ltb _ _ (c .before .before .if1 .left), le-ltb _ _ (c .if2 .taken))
+
+returns-3 : tie.Need-returns-3
+unfolding holds
+returns-3 c = simp (lt-ltb _ _ (c .before .before .before .if1 .left), lt-ltb _ _ (c .before .if2 .left), lt-leb _ _ (c .if3 .taken))
+
+sound-requires : tie.Need-sound-requires
+sound-requires c κs = search needs
+
+returns-4 : tie.Need-returns-4
+unfolding holds
+returns-4 c = simp (lt-ltb _ _ (c .before .before .before .before .if1 .left), lt-ltb _ _ (c .before .before .if2 .left), le-leb _ _ (c .before .if3 .left)) (c .sound .ensures)
+
+pub can-hold-spec : {M : Type 1} → statement M
+can-hold-spec = tie.close (tie.spec returns returns-2 returns-3 sound-requires returns-4)

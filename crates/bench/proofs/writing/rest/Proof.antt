@@ -1,21 +1,29 @@
--- `bench::writing::rest` is safe and ends: each turn takes one from `turns`.
-use borrow.Author.Needs.{needs}
+-- `bench::writing::rest` is safe and ends.
 use mathlib.Core.Path.{_≡_}
 use lib.ListN.{length}
+use Prim.Native.Nat.{_-_, _≤_}
+use borrow.Author.Needs.{needs}
 use Rattle.bench.proofs.writing.rest.Statement.{statement}
 use Rattle.bench.proofs.writing.rest.Tie as tie
+use Rattle.bench.proofs.writing.rest.Reads as reads
+use Rattle.bench.proofs.writing.rest.Lts as lts
+use Rattle.bench.proofs.writing.turn.Reads as turn-reads
+use Rattle.bench.proofs.writing.which.Reads as which-reads
 
 abbrev Inv-loop : tie.InvT-loop
-Inv-loop kind i «data» buf₀ out₀ r₀ turns₀ buf out r turns = (length buf ≡ length buf₀) × (length out ≡ length out₀)
+Inv-loop sent full c «data» buf₀ out₀ t₀ turns₀ buf out t turns = (length buf ≡ length buf₀) × (length out ≡ length out₀)
 
 abbrev μ-loop : tie.MeasureT-loop
-μ-loop kind i «data» buf₀ out₀ r₀ turns₀ buf out r turns = turns
+μ-loop sent full c «data» buf₀ out₀ t₀ turns₀ buf out t turns = turns
 
 loop-holds : tie.Need-loop-holds Inv-loop μ-loop
 loop-holds c = search needs
 
-make-requires : tie.Need-make-requires Inv-loop μ-loop
-make-requires c κs = search needs
+which-requires : tie.Need-which-requires Inv-loop μ-loop
+which-requires c κs = search needs
+
+turn-requires : tie.Need-turn-requires Inv-loop μ-loop
+turn-requires c κs = search needs
 
 sub-turns : tie.Need-sub-turns Inv-loop μ-loop
 sub-turns c = search needs
@@ -35,15 +43,6 @@ same-length-2 c = search needs
 returns : tie.Need-returns Inv-loop μ-loop
 returns c = search needs
 
-same-length-3 : tie.Need-same-length-3 Inv-loop μ-loop
-same-length-3 c = search needs
-
-same-length-4 : tie.Need-same-length-4 Inv-loop μ-loop
-same-length-4 c = search needs
-
-returns-2 : tie.Need-returns-2 Inv-loop μ-loop
-returns-2 c = search needs
-
 pub rest-spec : {M : Type 1} → statement M
 rest-spec =
     tie.close
@@ -51,13 +50,11 @@ rest-spec =
     Inv-loop
     μ-loop
     loop-holds
-    make-requires
+    which-requires
+    turn-requires
     sub-turns
     loop-less
     loop-again
     same-length
     same-length-2
-    returns
-    same-length-3
-    same-length-4
-    returns-2)
+    returns)

@@ -104,28 +104,33 @@ fn rust_write(kind: u32, n: usize, data: &[u8], buf: &mut [u8], out: &mut [u8]) 
         })
         .expect("a buffer with room");
         let text = |n: usize| std::str::from_utf8(&data[..n]).expect("text");
-        for i in 0..n {
-            let id = (i % 16) as u32;
-            let _ = match kind {
-                0 => os.write_unsigned(id, (i % 100) as u64),
-                1 => os.write_unsigned(100000, u64::MAX - (i % 1000) as u64),
-                2 => os.write_str(id, text(24)),
-                3 => os.write_blob(id, data),
-                4 => os.write_array_unsigned(id, &[300u64; 64]),
-                5 => match i % 5 {
-                    0 => os.write_sequence_begin_lazy(1),
-                    1 => os.write_sequence_begin_lazy(2),
-                    2 => os.write_unsigned(3, (i % 100) as u64),
-                    _ => os.write_sequence_end(),
-                },
-                _ => match i % 34 {
-                    0 => os.write_sequence_begin_lazy(7),
-                    step @ 1..=30 => os.write_unsigned(step as u32, (i % 1000) as u64),
-                    31 => os.write_str(31, text(40)),
-                    32 => os.write_fp32(32, 0.75),
-                    _ => os.write_sequence_end(),
-                },
-            };
+        let id = |i: usize| (i % 16) as u32;
+        match kind {
+            0 => (0..n).for_each(|i| drop(os.write_unsigned(id(i), (i % 100) as u64))),
+            1 => (0..n).for_each(|i| drop(os.write_unsigned(100000, u64::MAX - (i % 1000) as u64))),
+            2 => (0..n).for_each(|i| drop(os.write_str(id(i), text(24)))),
+            3 => (0..n).for_each(|i| drop(os.write_blob(id(i), data))),
+            4 => (0..n).for_each(|i| drop(os.write_array_unsigned(id(i), &[300u64; 64]))),
+            5 => {
+                for i in (0..n).step_by(5) {
+                    let _ = os.write_sequence_begin_lazy(1);
+                    let _ = os.write_sequence_begin_lazy(2);
+                    let _ = os.write_unsigned(3, ((i + 2) % 100) as u64);
+                    let _ = os.write_sequence_end();
+                    let _ = os.write_sequence_end();
+                }
+            }
+            _ => {
+                for i in (0..n).step_by(34) {
+                    let _ = os.write_sequence_begin_lazy(7);
+                    for step in 1..=30 {
+                        let _ = os.write_unsigned(step as u32, ((i + step) % 1000) as u64);
+                    }
+                    let _ = os.write_str(31, text(40));
+                    let _ = os.write_fp32(32, 0.75);
+                    let _ = os.write_sequence_end();
+                }
+            }
         }
         os.flush();
     }

@@ -4,3 +4,4 @@ pub mod Turns
 pub mod Low
 pub mod Segments
 pub mod Elements
+pub mod Room

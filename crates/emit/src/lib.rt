@@ -82,6 +82,36 @@ fn put_third(buf: &mut [u8], pos: usize, v: u64) -> usize
     put_whole(buf, pos + 2, third)
 }
 
+// The varints of an unsigned array's elements where there is room for the longest of each.
+pub fn put_fittings(buf: &mut [u8], pos: usize, items: &[u64]) -> usize
+    requires { ⌜ pos + 10 * length (now items) ≤ length (now buf) ⌝ }
+    ensures { λ r. ⌜ (r ≡ reached (now (buf .entry)) pos (each shortest (now (items .entry)))) × (now (buf .exit) ≡ put (now (buf .entry)) pos (each shortest (now (items .entry)))) ⌝ }
+{
+    let mut at = pos;
+    let mut i: usize = 0;
+    while i < items.len() {
+        let v = items[i];
+        at = put_fitting(buf, at, v);
+        i += 1;
+    }
+    at
+}
+
+// The same of a signed array's.
+pub fn put_fitting_zigzags(buf: &mut [u8], pos: usize, items: &[i64]) -> usize
+    requires { ⌜ pos + 10 * length (now items) ≤ length (now buf) ⌝ }
+    ensures { λ r. ⌜ (r ≡ reached (now (buf .entry)) pos (each (λ z. shortest (zigzag z)) (now (items .entry)))) × (now (buf .exit) ≡ put (now (buf .entry)) pos (each (λ z. shortest (zigzag z)) (now (items .entry)))) ⌝ }
+{
+    let mut at = pos;
+    let mut i: usize = 0;
+    while i < items.len() {
+        let v = items[i];
+        at = put_fitting(buf, at, zigzag_encode(v));
+        i += 1;
+    }
+    at
+}
+
 fn least(a: usize, b: usize) -> usize
     ensures { λ r. ⌜ r ≡ min a b ⌝ }
 {

@@ -30,6 +30,10 @@ some-left c b s t end n b′ z e p q = (
   q ∙ ap (put b (c .pos)) e,
 )
 
+-- none of it is out
+pub all-left : (c : Cursor) (b s : List ℕ) (end : ℕ) (b′ : List ℕ) → c .skip ≡ 0 → (end ≡ reached b (c .pos) s) × (b′ ≡ put b (c .pos) s) → Emitted c b s (record { pos = end; skip = 0 }) b′
+all-left c b s end b′ h (p, q) = some-left c b s s end 0 b′ (omega arith) (ap (λ (k : ℕ). drop k s) (sym h)) p q
+
 -- all of it was out before
 pub none-left : (c : Cursor) (b s : List ℕ) (n : ℕ) → n ≡ c .skip - length s → length s ≤ c .skip → Emitted c b s (record { pos = c .pos; skip = n }) b
 unfolding placed moved

@@ -153,6 +153,104 @@ fn put_low(buf: &mut [u8], pos: usize, x: u64, n: usize) -> usize
     at
 }
 
+// The four low bytes of x where there is room for them: stores at fixed distances, which the machine does as one.
+fn put_four(buf: &mut [u8], pos: usize, x: u32) -> usize
+    requires { ⌜ pos + 4 ≤ length (now buf) ⌝ }
+    ensures { λ r. ⌜ (r ≡ reached (now (buf .entry)) pos (lowBytes 4 x)) × (now (buf .exit) ≡ put (now (buf .entry)) pos (lowBytes 4 x)) ⌝ }
+{
+    let b = x / 256;
+    let c = b / 256;
+    let d = c / 256;
+    buf[pos] = (x % 256) as u8;
+    buf[pos + 1] = (b % 256) as u8;
+    buf[pos + 2] = (c % 256) as u8;
+    buf[pos + 3] = (d % 256) as u8;
+    pos + 4
+}
+
+// The same of eight.
+fn put_eight(buf: &mut [u8], pos: usize, x: u64) -> usize
+    requires { ⌜ pos + 8 ≤ length (now buf) ⌝ }
+    ensures { λ r. ⌜ (r ≡ reached (now (buf .entry)) pos (lowBytes 8 x)) × (now (buf .exit) ≡ put (now (buf .entry)) pos (lowBytes 8 x)) ⌝ }
+{
+    let b = x / 256;
+    let c = b / 256;
+    let d = c / 256;
+    let e = d / 256;
+    let f = e / 256;
+    let g = f / 256;
+    let h = g / 256;
+    buf[pos] = (x % 256) as u8;
+    buf[pos + 1] = (b % 256) as u8;
+    buf[pos + 2] = (c % 256) as u8;
+    buf[pos + 3] = (d % 256) as u8;
+    buf[pos + 4] = (e % 256) as u8;
+    buf[pos + 5] = (f % 256) as u8;
+    buf[pos + 6] = (g % 256) as u8;
+    buf[pos + 7] = (h % 256) as u8;
+    pos + 8
+}
+
+// The elements of a float array of 32 bits, by their bits, where there is room for all: no test at each byte.
+fn put_fours(buf: &mut [u8], pos: usize, items: &[u32]) -> usize
+    requires { ⌜ pos + 4 * length (now items) ≤ length (now buf) ⌝ }
+    ensures { λ r. ⌜ (r ≡ reached (now (buf .entry)) pos (each (lowBytes 4) (now (items .entry)))) × (now (buf .exit) ≡ put (now (buf .entry)) pos (each (lowBytes 4) (now (items .entry)))) ⌝ }
+{
+    let mut at = pos;
+    let mut i: usize = 0;
+    while i < items.len() {
+        let bits = items[i];
+        at = put_four(buf, at, bits);
+        i += 1;
+    }
+    at
+}
+
+// The same of 64 bits.
+fn put_eights(buf: &mut [u8], pos: usize, items: &[u64]) -> usize
+    requires { ⌜ pos + 8 * length (now items) ≤ length (now buf) ⌝ }
+    ensures { λ r. ⌜ (r ≡ reached (now (buf .entry)) pos (each (lowBytes 8) (now (items .entry)))) × (now (buf .exit) ≡ put (now (buf .entry)) pos (each (lowBytes 8) (now (items .entry)))) ⌝ }
+{
+    let mut at = pos;
+    let mut i: usize = 0;
+    while i < items.len() {
+        let bits = items[i];
+        at = put_eight(buf, at, bits);
+        i += 1;
+    }
+    at
+}
+
+// The same of 32 bits by value.
+fn put_four_floats(buf: &mut [u8], pos: usize, items: &[f32]) -> usize
+    requires { ⌜ pos + 4 * length (now items) ≤ length (now buf) ⌝ }
+    ensures { λ r. ⌜ (r ≡ reached (now (buf .entry)) pos (each (λ x. lowBytes 4 (toBits binary32 x)) (now (items .entry)))) × (now (buf .exit) ≡ put (now (buf .entry)) pos (each (λ x. lowBytes 4 (toBits binary32 x)) (now (items .entry)))) ⌝ }
+{
+    let mut at = pos;
+    let mut i: usize = 0;
+    while i < items.len() {
+        let value = items[i];
+        at = put_four(buf, at, fp32_bits(value));
+        i += 1;
+    }
+    at
+}
+
+// The same of 64 bits by value.
+fn put_eight_floats(buf: &mut [u8], pos: usize, items: &[f64]) -> usize
+    requires { ⌜ pos + 8 * length (now items) ≤ length (now buf) ⌝ }
+    ensures { λ r. ⌜ (r ≡ reached (now (buf .entry)) pos (each (λ x. lowBytes 8 (toBits binary64 x)) (now (items .entry)))) × (now (buf .exit) ≡ put (now (buf .entry)) pos (each (λ x. lowBytes 8 (toBits binary64 x)) (now (items .entry)))) ⌝ }
+{
+    let mut at = pos;
+    let mut i: usize = 0;
+    while i < items.len() {
+        let value = items[i];
+        at = put_eight(buf, at, fp64_bits(value));
+        i += 1;
+    }
+    at
+}
+
 impl Cursor {
     // The varint of v.
     pub fn put_varint(self, buf: &mut [u8], v: u64) -> Cursor
@@ -252,8 +350,22 @@ impl Cursor {
         cursor
     }
 
-    // The elements of a float array of 32 bits, by their bits; those that are out already are not looked at.
+    // The elements of a float array of 32 bits, by their bits.
     pub fn put_fp32s(self, buf: &mut [u8], items: &[u32]) -> Cursor
+        requires { ⌜ self .pos ≤ length (now buf) ⌝ }
+        ensures { λ r. ⌜ (r ≡ moved self (now (buf .entry)) (each (lowBytes 4) (now (items .entry)))) × (now (buf .exit) ≡ placed self (now (buf .entry)) (each (lowBytes 4) (now (items .entry)))) ⌝ }
+    {
+        let pos = self.pos;
+        let skip = self.skip;
+        if skip == 0 && items.len() <= (buf.len() - pos) / 4 {
+            let end = put_fours(buf, pos, items);
+            return Cursor { pos: end, skip: 0 };
+        }
+        self.put_fp32s_slowly(buf, items)
+    }
+
+    // The same element by element, where some are out or there is no room for all; those that are out already are not looked at.
+    fn put_fp32s_slowly(self, buf: &mut [u8], items: &[u32]) -> Cursor
         requires { ⌜ self .pos ≤ length (now buf) ⌝ }
         ensures { λ r. ⌜ (r ≡ moved self (now (buf .entry)) (each (lowBytes 4) (now (items .entry)))) × (now (buf .exit) ≡ placed self (now (buf .entry)) (each (lowBytes 4) (now (items .entry)))) ⌝ }
     {
@@ -279,6 +391,20 @@ impl Cursor {
     {
         let pos = self.pos;
         let skip = self.skip;
+        if skip == 0 && items.len() <= (buf.len() - pos) / 8 {
+            let end = put_eights(buf, pos, items);
+            return Cursor { pos: end, skip: 0 };
+        }
+        self.put_fp64s_slowly(buf, items)
+    }
+
+    // The same element by element.
+    fn put_fp64s_slowly(self, buf: &mut [u8], items: &[u64]) -> Cursor
+        requires { ⌜ self .pos ≤ length (now buf) ⌝ }
+        ensures { λ r. ⌜ (r ≡ moved self (now (buf .entry)) (each (lowBytes 8) (now (items .entry)))) × (now (buf .exit) ≡ placed self (now (buf .entry)) (each (lowBytes 8) (now (items .entry)))) ⌝ }
+    {
+        let pos = self.pos;
+        let skip = self.skip;
         let mut i = least(skip / 8, items.len());
         let mut cursor = Cursor {
             pos,
@@ -299,6 +425,20 @@ impl Cursor {
     {
         let pos = self.pos;
         let skip = self.skip;
+        if skip == 0 && items.len() <= (buf.len() - pos) / 4 {
+            let end = put_four_floats(buf, pos, items);
+            return Cursor { pos: end, skip: 0 };
+        }
+        self.put_f32s_slowly(buf, items)
+    }
+
+    // The same element by element.
+    fn put_f32s_slowly(self, buf: &mut [u8], items: &[f32]) -> Cursor
+        requires { ⌜ self .pos ≤ length (now buf) ⌝ }
+        ensures { λ r. ⌜ (r ≡ moved self (now (buf .entry)) (each (λ x. lowBytes 4 (toBits binary32 x)) (now (items .entry)))) × (now (buf .exit) ≡ placed self (now (buf .entry)) (each (λ x. lowBytes 4 (toBits binary32 x)) (now (items .entry)))) ⌝ }
+    {
+        let pos = self.pos;
+        let skip = self.skip;
         let mut i = least(skip / 4, items.len());
         let mut cursor = Cursor {
             pos,
@@ -314,6 +454,20 @@ impl Cursor {
 
     // The same by value; a NaN's bits are the one pattern that the logic knows.
     pub fn put_f64s(self, buf: &mut [u8], items: &[f64]) -> Cursor
+        requires { ⌜ self .pos ≤ length (now buf) ⌝ }
+        ensures { λ r. ⌜ (r ≡ moved self (now (buf .entry)) (each (λ x. lowBytes 8 (toBits binary64 x)) (now (items .entry)))) × (now (buf .exit) ≡ placed self (now (buf .entry)) (each (λ x. lowBytes 8 (toBits binary64 x)) (now (items .entry)))) ⌝ }
+    {
+        let pos = self.pos;
+        let skip = self.skip;
+        if skip == 0 && items.len() <= (buf.len() - pos) / 8 {
+            let end = put_eight_floats(buf, pos, items);
+            return Cursor { pos: end, skip: 0 };
+        }
+        self.put_f64s_slowly(buf, items)
+    }
+
+    // The same element by element.
+    fn put_f64s_slowly(self, buf: &mut [u8], items: &[f64]) -> Cursor
         requires { ⌜ self .pos ≤ length (now buf) ⌝ }
         ensures { λ r. ⌜ (r ≡ moved self (now (buf .entry)) (each (λ x. lowBytes 8 (toBits binary64 x)) (now (items .entry)))) × (now (buf .exit) ≡ placed self (now (buf .entry)) (each (λ x. lowBytes 8 (toBits binary64 x)) (now (items .entry)))) ⌝ }
     {

@@ -22,6 +22,12 @@ fours-fit k pos n h g = let t : k ≤ (n - pos) / 4 = leb-true k ((n - pos) / 4)
 pub eights-fit : (k pos n : ℕ) → pos ≤ n → leb k ((n - pos) / 8) ≡ true → pos + 8 * k ≤ n
 eights-fit k pos n h g = let t : k ≤ (n - pos) / 8 = leb-true k ((n - pos) / 8) g in omega arith
 
+pub four-fits : (pos n : ℕ) → leb 4 (n - pos) ≡ true → pos + 4 ≤ n
+four-fits pos n g = let t : 4 ≤ n - pos = leb-true 4 (n - pos) g in omega arith
+
+pub eight-fits : (pos n : ℕ) → leb 8 (n - pos) ≡ true → pos + 8 ≤ n
+eight-fits pos n g = let t : 8 ≤ n - pos = leb-true 8 (n - pos) g in omega arith
+
 -- the elements of l from the i-th on are left to write from `at` on over d
 pub record Roomy {A : Type 0} (f : A → List ℕ) (m : ℕ) (l : List A) (b : List ℕ) (pos : ℕ) (d : List ℕ) (at i : ℕ) : Type 0 where
   pub left : Left b pos (each f l) d at (each f (drop i l))

@@ -306,10 +306,16 @@ impl Cursor {
         Cursor { pos: end, skip: 0 }
     }
 
-    // A float of 32 bits.
+    // A float of 32 bits; byte by byte only where it is out in part or the buffer ends in it.
     pub fn put_fp32(self, buf: &mut [u8], bits: u32) -> Cursor
         ensures { λ r. ⌜ (r ≡ moved self (now (buf .entry)) (lowBytes 4 bits)) × (now (buf .exit) ≡ placed self (now (buf .entry)) (lowBytes 4 bits)) ⌝ }
     {
+        let pos = self.pos;
+        let skip = self.skip;
+        if skip == 0 && pos < buf.len() && 4 <= buf.len() - pos {
+            let end = put_four(buf, pos, bits);
+            return Cursor { pos: end, skip: 0 };
+        }
         self.put_bits(buf, bits as u64, 4)
     }
 
@@ -317,6 +323,12 @@ impl Cursor {
     pub fn put_fp64(self, buf: &mut [u8], bits: u64) -> Cursor
         ensures { λ r. ⌜ (r ≡ moved self (now (buf .entry)) (lowBytes 8 bits)) × (now (buf .exit) ≡ placed self (now (buf .entry)) (lowBytes 8 bits)) ⌝ }
     {
+        let pos = self.pos;
+        let skip = self.skip;
+        if skip == 0 && pos < buf.len() && 8 <= buf.len() - pos {
+            let end = put_eight(buf, pos, bits);
+            return Cursor { pos: end, skip: 0 };
+        }
         self.put_bits(buf, bits, 8)
     }
 
@@ -364,7 +376,8 @@ impl Cursor {
         self.put_fp32s_slowly(buf, items)
     }
 
-    // The same element by element, where some are out or there is no room for all; those that are out already are not looked at.
+    // The same element by element, where some are out or there is no room for all; those that are out already are not looked at, nor those
+    // after the one in which the buffer ends.
     fn put_fp32s_slowly(self, buf: &mut [u8], items: &[u32]) -> Cursor
         requires { ⌜ self .pos ≤ length (now buf) ⌝ }
         ensures { λ r. ⌜ (r ≡ moved self (now (buf .entry)) (each (lowBytes 4) (now (items .entry)))) × (now (buf .exit) ≡ placed self (now (buf .entry)) (each (lowBytes 4) (now (items .entry)))) ⌝ }
@@ -377,6 +390,11 @@ impl Cursor {
             skip: skip - i * 4,
         };
         while i < items.len() {
+            let at = cursor.pos;
+            let out = cursor.skip;
+            if out == 0 && buf.len() <= at {
+                return cursor;
+            }
             let bits = items[i];
             cursor = cursor.put_fp32(buf, bits);
             i += 1;
@@ -411,6 +429,11 @@ impl Cursor {
             skip: skip - i * 8,
         };
         while i < items.len() {
+            let at = cursor.pos;
+            let out = cursor.skip;
+            if out == 0 && buf.len() <= at {
+                return cursor;
+            }
             let bits = items[i];
             cursor = cursor.put_fp64(buf, bits);
             i += 1;
@@ -445,6 +468,11 @@ impl Cursor {
             skip: skip - i * 4,
         };
         while i < items.len() {
+            let at = cursor.pos;
+            let out = cursor.skip;
+            if out == 0 && buf.len() <= at {
+                return cursor;
+            }
             let value = items[i];
             cursor = cursor.put_fp32(buf, fp32_bits(value));
             i += 1;
@@ -479,6 +507,11 @@ impl Cursor {
             skip: skip - i * 8,
         };
         while i < items.len() {
+            let at = cursor.pos;
+            let out = cursor.skip;
+            if out == 0 && buf.len() <= at {
+                return cursor;
+            }
             let value = items[i];
             cursor = cursor.put_fp64(buf, fp64_bits(value));
             i += 1;

@@ -6,3 +6,4 @@ pub mod Segments
 pub mod Elements
 pub mod Room
 pub mod Stores
+pub mod Onward

@@ -13,12 +13,18 @@ ghost use Rattle.layout.specs.Varint.{shortest};
 ghost use Rattle.layout.specs.Field.{lowBytes, each};
 ghost use Rattle.layout.specs.Zigzag.{zigzag};
 ghost use Rattle.emit.specs.Put.{put, reached};
-ghost use Rattle.emit.specs.Cursor.{placed, moved};
+ghost use Rattle.emit.specs.Cursor.{placed, moved, Standing};
 
 // Where the output's next byte stands in the buffer, and how many bytes still to come are out already.
 pub struct Cursor {
     pub pos: usize,
     pub skip: usize,
+}
+
+// How much of an array's elements is out: whole ones, and bytes of the next.
+struct Out {
+    pub whole: usize,
+    pub part: usize,
 }
 
 // The varint of v from pos on; where it ends.
@@ -110,6 +116,95 @@ pub fn put_fitting_zigzags(buf: &mut [u8], pos: usize, items: &[i64]) -> usize
         i += 1;
     }
     at
+}
+
+// The varint of v from pos on, with a test for the buffer's end at each byte only where it is near.
+fn put_next(buf: &mut [u8], pos: usize, v: u64) -> usize
+    requires { ⌜ pos ≤ length (now buf) ⌝ }
+    ensures { λ r. ⌜ (r ≡ reached (now (buf .entry)) pos (shortest v)) × (now (buf .exit) ≡ put (now (buf .entry)) pos (shortest v)) ⌝ }
+{
+    if 10 <= buf.len() - pos {
+        return put_fitting(buf, pos, v);
+    }
+    put_whole(buf, pos, v)
+}
+
+// The varints of an unsigned array's elements from the place `from` on, until the buffer is full.
+fn varints_from(buf: &mut [u8], pos: usize, items: &[u64], from: usize) -> usize
+    requires { ⌜ pos ≤ length (now buf) ⌝ }
+    ensures { λ r. ⌜ (r ≡ reached (now (buf .entry)) pos (each shortest (drop from (now (items .entry))))) × (now (buf .exit) ≡ put (now (buf .entry)) pos (each shortest (drop from (now (items .entry))))) ⌝ }
+{
+    let mut at = pos;
+    let mut i = from;
+    while i < items.len() && at < buf.len() {
+        let v = items[i];
+        at = put_next(buf, at, v);
+        i += 1;
+    }
+    at
+}
+
+// The same of a signed array's.
+fn zigzags_from(buf: &mut [u8], pos: usize, items: &[i64], from: usize) -> usize
+    requires { ⌜ pos ≤ length (now buf) ⌝ }
+    ensures { λ r. ⌜ (r ≡ reached (now (buf .entry)) pos (each (λ z. shortest (zigzag z)) (drop from (now (items .entry))))) × (now (buf .exit) ≡ put (now (buf .entry)) pos (each (λ z. shortest (zigzag z)) (drop from (now (items .entry))))) ⌝ }
+{
+    let mut at = pos;
+    let mut i = from;
+    while i < items.len() && at < buf.len() {
+        let v = items[i];
+        at = put_next(buf, at, zigzag_encode(v));
+        i += 1;
+    }
+    at
+}
+
+// Where the varints of an unsigned array's elements go on after the first `skip` bytes of them.
+fn varints_out(items: &[u64], skip: usize) -> Out
+    ensures { λ r. ⌜ Standing shortest (now (items .entry)) skip (r .whole) (r .part) ⌝ }
+{
+    let mut left = skip;
+    let mut i: usize = 0;
+    while i < items.len() {
+        let v = items[i];
+        let len = varint_len(v);
+        if left < len {
+            return Out {
+                whole: i,
+                part: left,
+            };
+        }
+        left -= len;
+        i += 1;
+    }
+    Out {
+        whole: i,
+        part: left,
+    }
+}
+
+// The same of a signed array's.
+fn zigzags_out(items: &[i64], skip: usize) -> Out
+    ensures { λ r. ⌜ Standing (λ z. shortest (zigzag z)) (now (items .entry)) skip (r .whole) (r .part) ⌝ }
+{
+    let mut left = skip;
+    let mut i: usize = 0;
+    while i < items.len() {
+        let v = items[i];
+        let len = varint_len(zigzag_encode(v));
+        if left < len {
+            return Out {
+                whole: i,
+                part: left,
+            };
+        }
+        left -= len;
+        i += 1;
+    }
+    Out {
+        whole: i,
+        part: left,
+    }
 }
 
 fn least(a: usize, b: usize) -> usize
@@ -337,14 +432,25 @@ impl Cursor {
         requires { ⌜ self .pos ≤ length (now buf) ⌝ }
         ensures { λ r. ⌜ (r ≡ moved self (now (buf .entry)) (each shortest (now (items .entry)))) × (now (buf .exit) ≡ placed self (now (buf .entry)) (each shortest (now (items .entry)))) ⌝ }
     {
-        let mut cursor = self;
-        let mut i: usize = 0;
-        while i < items.len() {
-            let v = items[i];
-            cursor = cursor.put_varint(buf, v);
-            i += 1;
+        let pos = self.pos;
+        let skip = self.skip;
+        if skip == 0 {
+            let end = varints_from(buf, pos, items, 0);
+            return Cursor { pos: end, skip: 0 };
         }
-        cursor
+        let out = varints_out(items, skip);
+        let i = out.whole;
+        let cursor = Cursor {
+            pos,
+            skip: out.part,
+        };
+        if items.len() <= i {
+            return cursor;
+        }
+        let v = items[i];
+        let next = cursor.put_varint(buf, v);
+        let end = varints_from(buf, next.pos, items, i + 1);
+        Cursor { pos: end, skip: 0 }
     }
 
     // The varints of a signed array's elements.
@@ -352,14 +458,25 @@ impl Cursor {
         requires { ⌜ self .pos ≤ length (now buf) ⌝ }
         ensures { λ r. ⌜ (r ≡ moved self (now (buf .entry)) (each (λ z. shortest (zigzag z)) (now (items .entry)))) × (now (buf .exit) ≡ placed self (now (buf .entry)) (each (λ z. shortest (zigzag z)) (now (items .entry)))) ⌝ }
     {
-        let mut cursor = self;
-        let mut i: usize = 0;
-        while i < items.len() {
-            let v = items[i];
-            cursor = cursor.put_varint(buf, zigzag_encode(v));
-            i += 1;
+        let pos = self.pos;
+        let skip = self.skip;
+        if skip == 0 {
+            let end = zigzags_from(buf, pos, items, 0);
+            return Cursor { pos: end, skip: 0 };
         }
-        cursor
+        let out = zigzags_out(items, skip);
+        let i = out.whole;
+        let cursor = Cursor {
+            pos,
+            skip: out.part,
+        };
+        if items.len() <= i {
+            return cursor;
+        }
+        let v = items[i];
+        let next = cursor.put_varint(buf, zigzag_encode(v));
+        let end = zigzags_from(buf, next.pos, items, i + 1);
+        Cursor { pos: end, skip: 0 }
     }
 
     // The elements of a float array of 32 bits, by their bits.

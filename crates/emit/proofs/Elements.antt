@@ -1,17 +1,20 @@
 -- Segments that a loop emits one element after another: the bytes of a list's elements, and what is still owed at each turn.
 use mathlib.Core.Path.{_≡_, refl, sym, ap, _∙_, subst}
+use mathlib.Core.Bool.{true}
 use mathlib.Core.List.{List, [], _∷_, _++_, map, append-assoc}
 use Prim.Native.Nat.{ℕ, zero, suc, _+_, _-_, _*_, _≤_, _<_, min}
 use native.Mathlib.Numerals.{add-one}
 use native.Mathlib.Nat.{mul-suc, suc-mul, zero-mul}
 use native.Mathlib.Omega.{arith}
+use lib.Dec.{leb}
 use lib.ListN.{length, take, drop, getD, length-append, length-drop, drop-of-length-le, take-append-drop}
 use lib.Seq.{drop-cons, length-take-le}
+use borrow.Author.Tests.{leb-true}
 use Rattle.layout.specs.Field.{each}
 use Rattle.emit.specs.declared.Cursor.{Cursor}
 use Rattle.emit.specs.Put.{put, reached}
 use Rattle.emit.specs.Cursor.{placed, moved}
-use Rattle.emit.proofs.Segments.{Emitted, none-left, joined, stays-in}
+use Rattle.emit.proofs.Segments.{Emitted, none-left, no-room, joined, stays-in}
 
 -- ---- the bytes of a list's elements
 
@@ -81,6 +84,10 @@ module _ (c₀ : Cursor) (b₀ o : List ℕ) (c : Cursor) (b s : List ℕ) (w : 
     where
       nothing : (c : Cursor) (b : List ℕ) → Emitted c b [] c b
       nothing c b = none-left c b [] (c .skip) (omega arith) (omega arith)
+
+  -- no room is left, so that what is owed doesn't matter
+  pub owing-full : c .skip ≡ 0 → leb (length b) (c .pos) ≡ true → Emitted c₀ b₀ o c b
+  owing-full h g = w .whole c b (no-room c b s h (leb-true (length b) (c .pos) g))
 
 -- ---- elements that are out already, all of n bytes: a cursor that starts at the i-th
 

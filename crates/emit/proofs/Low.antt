@@ -18,6 +18,9 @@ unfolding lowBytes
 length-low zero x = refl
 length-low (suc n) x = ap suc (length-low n (x / 256))
 
+pub low-fits : (n x : ℕ) → length (lowBytes n x) ≤ n
+low-fits n x = omega (arith, length-low n x)
+
 -- the bytes from place k on are those of the number shifted down by k of them
 shifted : (x k : ℕ) → x / 256 / 2 ^ (k * 8) ≡ x / 2 ^ (suc k * 8)
 shifted x k =

@@ -1,6 +1,6 @@
 -- A loop that writes a list byte by byte: what is still to write, from where it stands, comes to the same as the whole from the start.
 use mathlib.Core.Path.{_≡_, refl, sym, ap, _∙_, subst}
-use mathlib.Core.List.{List, [], _∷_}
+use mathlib.Core.List.{List, [], _∷_, _++_}
 use Prim.Native.Nat.{ℕ, zero, suc, _+_, _-_, _/_, _%_, _≤_, _<_, min}
 use native.Mathlib.Omega.{arith}
 use mathlib.Core.Bool.{Bool, true, false}
@@ -11,7 +11,7 @@ use borrow.Author.Tests.{leb-true, leb-false}
 use Rattle.layout.specs.Varint.{shortest}
 use Rattle.varint.proofs.Shortest.{shortest-one, shortest-more}
 use Rattle.emit.specs.Put.{put, reached}
-use Rattle.emit.proofs.Writes.{put-none, put-full, put-cons, reached-is, reached-cons}
+use Rattle.emit.proofs.Writes.{put-none, put-full, put-cons, put-put, reached-is, reached-cons, reached-reached, length-put}
 
 -- o from pos on over b, where s is left to write from `at` on over d
 pub record Left (b : List ℕ) (pos : ℕ) (o d : List ℕ) (at : ℕ) (s : List ℕ) : Type 0 where
@@ -59,6 +59,15 @@ module _ (b : List ℕ) (pos : ℕ) (o d : List ℕ) (at v : ℕ) (l : Left b po
 -- what is left is written in one go
 pub followed : (b : List ℕ) (pos : ℕ) (o d : List ℕ) (at : ℕ) (s d′ : List ℕ) (end : ℕ) → Left b pos o d at s → Whole d at s d′ end → Whole b pos o d′ end
 followed b pos o d at s d′ end l (e, f) = (e ∙ l .ends, f ∙ l .same)
+
+-- the first part of what is left is written in one go
+pub followed-by : (b : List ℕ) (pos : ℕ) (o d : List ℕ) (at : ℕ) (s t d′ : List ℕ) (end : ℕ) → Left b pos o d at (s ++ t) → at ≤ length d → Whole d at s d′ end → Left b pos o d′ end t
+followed-by b pos o d at s t d′ end l h (e, f) =
+    record {
+      size = ap length f ∙ length-put d at s h ∙ l .size;
+      same = ap (λ (k : ℕ). put d′ k t) e ∙ ap (λ (x : List ℕ). put x (reached d at s) t) f ∙ put-put d at s t h ∙ l .same;
+      ends = ap (λ (k : ℕ). reached d′ k t) e ∙ ap (λ (x : List ℕ). reached x (reached d at s) t) f ∙ reached-reached d at s t h ∙ l .ends;
+    }
 
 -- a turn of a copy: from the place `from` of l to the place pos
 pub copied : (b : List ℕ) (pos : ℕ) (o d l : List ℕ) (from k : ℕ) → Left b pos o d (pos + k) (drop (from + k) l) → pos + k < length d → from + k < length l

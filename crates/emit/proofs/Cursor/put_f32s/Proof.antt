@@ -1,90 +1,44 @@
--- `emit::Cursor::put_f32s`: the elements' bytes from the first on that is not out.
-use Prim.Native.Nat.{ℕ, _+_, _-_, _*_, _/_, _≤_, _<_, min}
-use mathlib.Core.Path.{_≡_, refl, sym, ap, _∙_}
-use native.Mathlib.Omega.{arith}
+-- `emit::Cursor::put_f32s`: all elements at once where there is room and none is out, or one by one.
+use lib.ListN.{length}
+use Rattle.emit.proofs.Room.{fours-fit}
+use Rattle.emit.proofs.Segments.{all-left}
 use borrow.Author.Needs.{needs}
-use lib.ListN.{length, drop}
-use lib.Ieee.{Float, binary32, binary64, toBits}
-use Rattle.layout.specs.Field.{each, lowBytes}
-use Rattle.emit.proofs.Low.{length-low}
-use Rattle.emit.proofs.Segments.{respelled}
-use Rattle.emit.proofs.Elements.{Owing, owing-next, owing-end, owing-jump, each-at, each-end}
 use Rattle.emit.proofs.Cursor.put_f32s.Statement.{statement}
 use Rattle.emit.proofs.Cursor.put_f32s.Tie as tie
 use Rattle.emit.proofs.Cursor.put_f32s.Reads as reads
 use Rattle.emit.proofs.Cursor.put_f32s.Lts as lts
-use Rattle.emit.proofs.Cursor.put_fp32.Reads as put-fp32-reads
-use Rattle.emit.proofs.least.Reads as least-reads
-use Rattle.event.proofs.fp32_bits.Reads as fp32-bits-reads
+use Rattle.emit.proofs.Cursor.put_f32s_slowly.Reads as put-f32s-slowly-reads
+use Rattle.emit.proofs.put_four_floats.Reads as put-four-floats-reads
 
-abbrev Inv-loop : tie.InvT-loop
-Inv-loop buf₀ items pos skip i₀ cursor₀ buf i cursor = (i ≤ length items) × Owing (record { pos = pos; skip = skip }) buf₀ (each (λ x. lowBytes 4 (toBits binary32 x)) items) cursor buf (each (λ x. lowBytes 4 (toBits binary32 x)) (drop i items))
+sub-if2 : tie.Need-sub-if2
+sub-if2 c = search needs
 
-abbrev μ-loop : tie.MeasureT-loop
-μ-loop buf₀ items pos skip i₀ cursor₀ buf i cursor = length items - i
+put-four-floats-requires : tie.Need-put-four-floats-requires
+put-four-floats-requires c κs = let a = c .before .before .before .before .before .args in fours-fit (length (a .items .now)) _ _ (c .before .before .before .before .before .pre) (c .before .if2 .taken)
 
-least-requires : tie.Need-least-requires Inv-loop μ-loop
-least-requires c κs = search needs
+same-length : tie.Need-same-length
+same-length c = search needs
 
-mul-t9 : tie.Need-mul-t9 Inv-loop μ-loop
-mul-t9 c = let e = c .least .ensures in record { fits = omega arith }
+returns : tie.Need-returns
+returns c = all-left (c .before .before .before .before .before .before .before .before .args .self) _ _ _ _ (c .before .before .before .before .before .if1 .taken) (c .before .before .put-four-floats .ensures)
 
-sub-t10 : tie.Need-sub-t10 Inv-loop μ-loop
-sub-t10 c = let e = c .least .ensures in omega arith
+put-f32s-slowly-requires : tie.Need-put-f32s-slowly-requires
+put-f32s-slowly-requires c κs = search needs
 
-loop-holds : tie.Need-loop-holds Inv-loop μ-loop
-loop-holds c =
-    let a = c .before .before .before .args in
-    let e : c .least .result ≡ min (a .self .skip / 4) (length (a .items .now)) = c .least .ensures in
-    (omega arith, owing-jump (λ x. lowBytes 4 (toBits binary32 x)) 4 (λ x. length-low 4 (toBits binary32 x)) (a .items .now) (a .self) (a .buf .now) (c .least .result) (c .before .before .before .pre) (omega arith) (omega arith))
+same-length-2 : tie.Need-same-length-2
+same-length-2 c = search needs
 
-mul-value : tie.Need-mul-value Inv-loop μ-loop
-mul-value c = search needs
-
-shared-slice-read-value : tie.Need-shared-slice-read-value Inv-loop μ-loop
-shared-slice-read-value c = search needs
-
-fp32-bits-requires : tie.Need-fp32-bits-requires Inv-loop μ-loop
-fp32-bits-requires c κs = search needs
-
-put-fp32-requires : tie.Need-put-fp32-requires Inv-loop μ-loop
-put-fp32-requires c κs = search needs
-
-add-i : tie.Need-add-i Inv-loop μ-loop
-add-i c = search needs
-
-loop-less : tie.Need-loop-less Inv-loop μ-loop
-loop-less c = search needs
-
-loop-again : tie.Need-loop-again Inv-loop μ-loop
-loop-again c =
-    let l = c .before .before .before .before .before .before .before .loop in (
-      omega arith,
-      owing-next _ _ _ _ _ _ (l .inv .1) _ _ _ _ (each-at (λ x. lowBytes 4 (toBits binary32 x)) (c .before .before .before .before .before .before .before .before .before .before .before .args .items .now) (l .i) _ (c .before .before .before .before .before .before .loop-test .taken)) (respelled _ _ _ _ _ _ (ap (lowBytes 4) (c .before .before .before .fp32-bits .ensures)) (c .before .before .put-fp32 .ensures)),
-    )
-
-same-length : tie.Need-same-length Inv-loop μ-loop
-same-length c = c .before .loop .inv .1 .size
-
-returns : tie.Need-returns Inv-loop μ-loop
-returns c = owing-end _ _ _ _ _ _ (c .before .loop .inv .1) (each-end (λ x. lowBytes 4 (toBits binary32 x)) _ _ (c .loop-test .left))
+returns-2 : tie.Need-returns-2
+returns-2 c = search needs
 
 pub put-f32s-spec : {M : Type 1} → statement M
 put-f32s-spec =
     tie.close
     (tie.spec
-    Inv-loop
-    μ-loop
-    least-requires
-    mul-t9
-    sub-t10
-    loop-holds
-    mul-value
-    shared-slice-read-value
-    fp32-bits-requires
-    put-fp32-requires
-    add-i
-    loop-less
-    loop-again
+    sub-if2
+    put-four-floats-requires
     same-length
-    returns)
+    returns
+    put-f32s-slowly-requires
+    same-length-2
+    returns-2)

@@ -1,90 +1,44 @@
--- `emit::Cursor::put_f64s`: the elements' bytes from the first on that is not out.
-use Prim.Native.Nat.{ℕ, _+_, _-_, _*_, _/_, _≤_, _<_, min}
-use mathlib.Core.Path.{_≡_, refl, sym, ap, _∙_}
-use native.Mathlib.Omega.{arith}
+-- `emit::Cursor::put_f64s`: all elements at once where there is room and none is out, or one by one.
+use lib.ListN.{length}
+use Rattle.emit.proofs.Room.{eights-fit}
+use Rattle.emit.proofs.Segments.{all-left}
 use borrow.Author.Needs.{needs}
-use lib.ListN.{length, drop}
-use lib.Ieee.{Float, binary32, binary64, toBits}
-use Rattle.layout.specs.Field.{each, lowBytes}
-use Rattle.emit.proofs.Low.{length-low}
-use Rattle.emit.proofs.Segments.{respelled}
-use Rattle.emit.proofs.Elements.{Owing, owing-next, owing-end, owing-jump, each-at, each-end}
 use Rattle.emit.proofs.Cursor.put_f64s.Statement.{statement}
 use Rattle.emit.proofs.Cursor.put_f64s.Tie as tie
 use Rattle.emit.proofs.Cursor.put_f64s.Reads as reads
 use Rattle.emit.proofs.Cursor.put_f64s.Lts as lts
-use Rattle.emit.proofs.Cursor.put_fp64.Reads as put-fp64-reads
-use Rattle.emit.proofs.least.Reads as least-reads
-use Rattle.event.proofs.fp64_bits.Reads as fp64-bits-reads
+use Rattle.emit.proofs.Cursor.put_f64s_slowly.Reads as put-f64s-slowly-reads
+use Rattle.emit.proofs.put_eight_floats.Reads as put-eight-floats-reads
 
-abbrev Inv-loop : tie.InvT-loop
-Inv-loop buf₀ items pos skip i₀ cursor₀ buf i cursor = (i ≤ length items) × Owing (record { pos = pos; skip = skip }) buf₀ (each (λ x. lowBytes 8 (toBits binary64 x)) items) cursor buf (each (λ x. lowBytes 8 (toBits binary64 x)) (drop i items))
+sub-if2 : tie.Need-sub-if2
+sub-if2 c = search needs
 
-abbrev μ-loop : tie.MeasureT-loop
-μ-loop buf₀ items pos skip i₀ cursor₀ buf i cursor = length items - i
+put-eight-floats-requires : tie.Need-put-eight-floats-requires
+put-eight-floats-requires c κs = let a = c .before .before .before .before .before .args in eights-fit (length (a .items .now)) _ _ (c .before .before .before .before .before .pre) (c .before .if2 .taken)
 
-least-requires : tie.Need-least-requires Inv-loop μ-loop
-least-requires c κs = search needs
+same-length : tie.Need-same-length
+same-length c = search needs
 
-mul-t9 : tie.Need-mul-t9 Inv-loop μ-loop
-mul-t9 c = let e = c .least .ensures in record { fits = omega arith }
+returns : tie.Need-returns
+returns c = all-left (c .before .before .before .before .before .before .before .before .args .self) _ _ _ _ (c .before .before .before .before .before .if1 .taken) (c .before .before .put-eight-floats .ensures)
 
-sub-t10 : tie.Need-sub-t10 Inv-loop μ-loop
-sub-t10 c = let e = c .least .ensures in omega arith
+put-f64s-slowly-requires : tie.Need-put-f64s-slowly-requires
+put-f64s-slowly-requires c κs = search needs
 
-loop-holds : tie.Need-loop-holds Inv-loop μ-loop
-loop-holds c =
-    let a = c .before .before .before .args in
-    let e : c .least .result ≡ min (a .self .skip / 8) (length (a .items .now)) = c .least .ensures in
-    (omega arith, owing-jump (λ x. lowBytes 8 (toBits binary64 x)) 8 (λ x. length-low 8 (toBits binary64 x)) (a .items .now) (a .self) (a .buf .now) (c .least .result) (c .before .before .before .pre) (omega arith) (omega arith))
+same-length-2 : tie.Need-same-length-2
+same-length-2 c = search needs
 
-mul-value : tie.Need-mul-value Inv-loop μ-loop
-mul-value c = search needs
-
-shared-slice-read-value : tie.Need-shared-slice-read-value Inv-loop μ-loop
-shared-slice-read-value c = search needs
-
-fp64-bits-requires : tie.Need-fp64-bits-requires Inv-loop μ-loop
-fp64-bits-requires c κs = search needs
-
-put-fp64-requires : tie.Need-put-fp64-requires Inv-loop μ-loop
-put-fp64-requires c κs = search needs
-
-add-i : tie.Need-add-i Inv-loop μ-loop
-add-i c = search needs
-
-loop-less : tie.Need-loop-less Inv-loop μ-loop
-loop-less c = search needs
-
-loop-again : tie.Need-loop-again Inv-loop μ-loop
-loop-again c =
-    let l = c .before .before .before .before .before .before .before .loop in (
-      omega arith,
-      owing-next _ _ _ _ _ _ (l .inv .1) _ _ _ _ (each-at (λ x. lowBytes 8 (toBits binary64 x)) (c .before .before .before .before .before .before .before .before .before .before .before .args .items .now) (l .i) _ (c .before .before .before .before .before .before .loop-test .taken)) (respelled _ _ _ _ _ _ (ap (lowBytes 8) (c .before .before .before .fp64-bits .ensures)) (c .before .before .put-fp64 .ensures)),
-    )
-
-same-length : tie.Need-same-length Inv-loop μ-loop
-same-length c = c .before .loop .inv .1 .size
-
-returns : tie.Need-returns Inv-loop μ-loop
-returns c = owing-end _ _ _ _ _ _ (c .before .loop .inv .1) (each-end (λ x. lowBytes 8 (toBits binary64 x)) _ _ (c .loop-test .left))
+returns-2 : tie.Need-returns-2
+returns-2 c = search needs
 
 pub put-f64s-spec : {M : Type 1} → statement M
 put-f64s-spec =
     tie.close
     (tie.spec
-    Inv-loop
-    μ-loop
-    least-requires
-    mul-t9
-    sub-t10
-    loop-holds
-    mul-value
-    shared-slice-read-value
-    fp64-bits-requires
-    put-fp64-requires
-    add-i
-    loop-less
-    loop-again
+    sub-if2
+    put-eight-floats-requires
     same-length
-    returns)
+    returns
+    put-f64s-slowly-requires
+    same-length-2
+    returns-2)

@@ -1,85 +1,44 @@
--- `emit::Cursor::put_fp32s`: the elements' bytes from the first on that is not out.
-use Prim.Native.Nat.{ℕ, _+_, _-_, _*_, _/_, _≤_, _<_, min}
-use mathlib.Core.Path.{_≡_, refl, sym, ap, _∙_}
-use native.Mathlib.Omega.{arith}
+-- `emit::Cursor::put_fp32s`: all elements at once where there is room and none is out, or one by one.
+use lib.ListN.{length}
+use Rattle.emit.proofs.Room.{fours-fit}
+use Rattle.emit.proofs.Segments.{all-left}
 use borrow.Author.Needs.{needs}
-use lib.ListN.{length, drop, getD}
-use Rattle.layout.specs.Varint.{shortest}
-use Rattle.layout.specs.Zigzag.{zigzag}
-use Rattle.layout.specs.Field.{each, lowBytes}
-use Rattle.varint.proofs.Shortest.{length-64}
-use Rattle.emit.proofs.Low.{length-low}
-use Rattle.emit.proofs.Segments.{respelled}
-use Rattle.emit.proofs.Elements.{Counted, count-start, count-next, count-end, Owing, owing-start, owing-next, owing-end, owing-jump, each-at, each-end}
 use Rattle.emit.proofs.Cursor.put_fp32s.Statement.{statement}
 use Rattle.emit.proofs.Cursor.put_fp32s.Tie as tie
 use Rattle.emit.proofs.Cursor.put_fp32s.Reads as reads
 use Rattle.emit.proofs.Cursor.put_fp32s.Lts as lts
-use Rattle.emit.proofs.Cursor.put_fp32.Reads as put-fp32-reads
-use Rattle.emit.proofs.least.Reads as least-reads
+use Rattle.emit.proofs.Cursor.put_fp32s_slowly.Reads as put-fp32s-slowly-reads
+use Rattle.emit.proofs.put_fours.Reads as put-fours-reads
 
-abbrev Inv-loop : tie.InvT-loop
-Inv-loop buf₀ items pos skip i₀ cursor₀ buf i cursor = (i ≤ length items) × Owing (record { pos = pos; skip = skip }) buf₀ (each (lowBytes 4) items) cursor buf (each (lowBytes 4) (drop i items))
+sub-if2 : tie.Need-sub-if2
+sub-if2 c = search needs
 
-abbrev μ-loop : tie.MeasureT-loop
-μ-loop buf₀ items pos skip i₀ cursor₀ buf i cursor = length items - i
+put-fours-requires : tie.Need-put-fours-requires
+put-fours-requires c κs = let a = c .before .before .before .before .before .args in fours-fit (length (a .items .now)) _ _ (c .before .before .before .before .before .pre) (c .before .if2 .taken)
 
-least-requires : tie.Need-least-requires Inv-loop μ-loop
-least-requires c κs = search needs
+same-length : tie.Need-same-length
+same-length c = search needs
 
-mul-t9 : tie.Need-mul-t9 Inv-loop μ-loop
-mul-t9 c = let e = c .least .ensures in record { fits = omega arith }
+returns : tie.Need-returns
+returns c = all-left (c .before .before .before .before .before .before .before .before .args .self) _ _ _ _ (c .before .before .before .before .before .if1 .taken) (c .before .before .put-fours .ensures)
 
-sub-t10 : tie.Need-sub-t10 Inv-loop μ-loop
-sub-t10 c = let e = c .least .ensures in omega arith
+put-fp32s-slowly-requires : tie.Need-put-fp32s-slowly-requires
+put-fp32s-slowly-requires c κs = search needs
 
-loop-holds : tie.Need-loop-holds Inv-loop μ-loop
-loop-holds c =
-    let a = c .before .before .before .args in
-    let e : c .least .result ≡ min (a .self .skip / 4) (length (a .items .now)) = c .least .ensures in
-    (omega arith, owing-jump (lowBytes 4) 4 (length-low 4) (a .items .now) (a .self) (a .buf .now) (c .least .result) (c .before .before .before .pre) (omega arith) (omega arith))
+same-length-2 : tie.Need-same-length-2
+same-length-2 c = search needs
 
-mul-bits : tie.Need-mul-bits Inv-loop μ-loop
-mul-bits c = search needs
-
-shared-slice-read-bits : tie.Need-shared-slice-read-bits Inv-loop μ-loop
-shared-slice-read-bits c = search needs
-
-put-fp32-requires : tie.Need-put-fp32-requires Inv-loop μ-loop
-put-fp32-requires c κs = search needs
-
-add-i : tie.Need-add-i Inv-loop μ-loop
-add-i c = search needs
-
-loop-less : tie.Need-loop-less Inv-loop μ-loop
-loop-less c = search needs
-
-loop-again : tie.Need-loop-again Inv-loop μ-loop
-loop-again c =
-    let l = c .before .before .before .before .before .before .loop in
-    (omega arith, owing-next _ _ _ _ _ _ (l .inv .1) _ _ _ _ (each-at (lowBytes 4) (c .before .before .before .before .before .before .before .before .before .before .args .items .now) (l .i) 0 (c .before .before .before .before .before .loop-test .taken)) (c .before .before .put-fp32 .ensures))
-
-same-length : tie.Need-same-length Inv-loop μ-loop
-same-length c = c .before .loop .inv .1 .size
-
-returns : tie.Need-returns Inv-loop μ-loop
-returns c = owing-end _ _ _ _ _ _ (c .before .loop .inv .1) (each-end (lowBytes 4) _ _ (c .loop-test .left))
+returns-2 : tie.Need-returns-2
+returns-2 c = search needs
 
 pub put-fp32s-spec : {M : Type 1} → statement M
 put-fp32s-spec =
     tie.close
     (tie.spec
-    Inv-loop
-    μ-loop
-    least-requires
-    mul-t9
-    sub-t10
-    loop-holds
-    mul-bits
-    shared-slice-read-bits
-    put-fp32-requires
-    add-i
-    loop-less
-    loop-again
+    sub-if2
+    put-fours-requires
     same-length
-    returns)
+    returns
+    put-fp32s-slowly-requires
+    same-length-2
+    returns-2)

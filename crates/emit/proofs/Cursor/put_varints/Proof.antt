@@ -1,69 +1,69 @@
--- `emit::Cursor::put_varints`: the elements' varints, one after another.
-use Prim.Native.Nat.{ℕ, _+_, _-_, _*_, _/_, _≤_, _<_, min}
-use mathlib.Core.Path.{_≡_, refl, sym, ap, _∙_}
-use native.Mathlib.Omega.{arith}
-use borrow.Author.Needs.{needs}
-use lib.ListN.{length, drop, getD}
+-- `emit::Cursor::put_varints`: the elements' varints from the first byte on that is not out.
+use mathlib.Core.Path.{_≡_, refl, ap, _∙_}
+use lib.ListN.{getD}
 use Rattle.layout.specs.Varint.{shortest}
-use Rattle.layout.specs.Zigzag.{zigzag}
-use Rattle.layout.specs.Field.{each, lowBytes}
-use Rattle.varint.proofs.Shortest.{length-64}
-use Rattle.emit.proofs.Low.{length-low}
-use Rattle.emit.proofs.Segments.{respelled}
-use Rattle.emit.proofs.Elements.{Counted, count-start, count-next, count-end, Owing, owing-start, owing-next, owing-end, owing-jump, each-at, each-end}
+use Rattle.emit.proofs.Segments.{all-left, stays-in}
+use Rattle.emit.proofs.Onward.{onward-none, onward-some}
+use borrow.Author.Needs.{needs}
 use Rattle.emit.proofs.Cursor.put_varints.Statement.{statement}
 use Rattle.emit.proofs.Cursor.put_varints.Tie as tie
 use Rattle.emit.proofs.Cursor.put_varints.Reads as reads
 use Rattle.emit.proofs.Cursor.put_varints.Lts as lts
 use Rattle.emit.proofs.Cursor.put_varint.Reads as put-varint-reads
+use Rattle.emit.proofs.varints_from.Reads as varints-from-reads
+use Rattle.emit.proofs.varints_out.Reads as varints-out-reads
 
-abbrev Inv-loop : tie.InvT-loop
-Inv-loop buf₀ items cursor₀ i₀ buf cursor i = Owing cursor₀ buf₀ (each shortest items) cursor buf (each shortest (drop i items))
+varints-from-requires : tie.Need-varints-from-requires
+varints-from-requires c κs = search needs
 
-abbrev μ-loop : tie.MeasureT-loop
-μ-loop buf₀ items cursor₀ i₀ buf cursor i = length items - i
+same-length : tie.Need-same-length
+same-length c = search needs
 
-loop-holds : tie.Need-loop-holds Inv-loop μ-loop
-loop-holds c = owing-start _ _ _ (c .before .before .pre)
+returns : tie.Need-returns
+returns c = all-left (c .before .before .before .before .before .before .before .args .self) _ _ _ _ (c .before .before .before .before .if1 .taken) (c .before .before .varints-from .ensures)
 
-mul-v : tie.Need-mul-v Inv-loop μ-loop
+varints-out-requires : tie.Need-varints-out-requires
+varints-out-requires c κs = search needs
+
+returns-2 : tie.Need-returns-2
+returns-2 c = onward-none shortest _ (c .before .before .before .before .before .args .self) _ _ _ (c .before .varints-out .ensures) (c .if2 .taken)
+
+mul-v : tie.Need-mul-v
 mul-v c = search needs
 
-shared-slice-read-v : tie.Need-shared-slice-read-v Inv-loop μ-loop
+shared-slice-read-v : tie.Need-shared-slice-read-v
 shared-slice-read-v c = search needs
 
-put-varint-requires : tie.Need-put-varint-requires Inv-loop μ-loop
+put-varint-requires : tie.Need-put-varint-requires
 put-varint-requires c κs = search needs
 
-add-i : tie.Need-add-i Inv-loop μ-loop
-add-i c = search needs
+add-varints-from : tie.Need-add-varints-from
+add-varints-from c = search needs
 
-loop-less : tie.Need-loop-less Inv-loop μ-loop
-loop-less c = search needs
+varints-from-requires-2 : tie.Need-varints-from-requires-2
+varints-from-requires-2 c κs = let a = c .before .before .before .before .before .before .before .before .before .before .before .args in stays-in (record { pos = a .self .pos; skip = c .before .before .before .before .before .before .before .varints-out .result .part }) (a .buf .now) _ _ _ (c .before .before .before .before .before .before .before .before .before .before .before .pre) (c .before .before .before .put-varint .ensures) .0
 
-loop-again : tie.Need-loop-again Inv-loop μ-loop
-loop-again c =
-    let l = c .before .before .before .before .before .before .loop in
-    owing-next _ _ _ _ _ _ (l .inv) _ _ _ _ (each-at shortest (c .before .before .before .before .before .before .before .before .before .args .items .now) (l .i) 0 (c .before .before .before .before .before .loop-test .taken)) (c .before .before .put-varint .ensures)
+same-length-2 : tie.Need-same-length-2
+same-length-2 c = search needs
 
-same-length : tie.Need-same-length Inv-loop μ-loop
-same-length c = c .before .loop .inv .size
-
-returns : tie.Need-returns Inv-loop μ-loop
-returns c = owing-end _ _ _ _ _ _ (c .before .loop .inv) (each-end shortest _ _ (c .loop-test .left))
+returns-3 : tie.Need-returns-3
+returns-3 c =
+    let a = c .before .before .before .before .before .before .before .before .before .before .before .before .before .before .args in
+    onward-some shortest (a .items .now) (a .self) (a .buf .now) _ _ (c .before .before .before .before .before .before .before .before .before .before .varints-out .ensures) 0 _ _ _ _ _ (c .before .before .before .before .before .before .before .before .before .before .before .before .before .before .pre) (c .before .before .before .before .before .before .before .before .before .if2 .left) refl (c .before .before .before .before .before .before .put-varint .ensures) (c .before .before .varints-from2 .ensures)
 
 pub put-varints-spec : {M : Type 1} → statement M
 put-varints-spec =
     tie.close
     (tie.spec
-    Inv-loop
-    μ-loop
-    loop-holds
+    varints-from-requires
+    same-length
+    returns
+    varints-out-requires
+    returns-2
     mul-v
     shared-slice-read-v
     put-varint-requires
-    add-i
-    loop-less
-    loop-again
-    same-length
-    returns)
+    add-varints-from
+    varints-from-requires-2
+    same-length-2
+    returns-3)

@@ -1,78 +1,81 @@
--- `emit::Cursor::put_zigzags`: the elements' varints, one after another.
-use Prim.Native.Nat.{ℕ, _+_, _-_, _*_, _/_, _≤_, _<_, min}
-use mathlib.Core.Path.{_≡_, refl, sym, ap, _∙_}
-use native.Mathlib.Omega.{arith}
+-- `emit::Cursor::put_zigzags`: the elements' varints from the first byte on that is not out.
+use mathlib.Core.Path.{_≡_, refl, ap, _∙_}
 use borrow.Author.Needs.{needs, sfits-of}
-use lib.ListN.{length, drop, getD}
+use lib.ListN.{getD}
 use lib.IntN.{ℤ, pos}
 use mir.Syntax.{w64}
 use mir.ValLaws.{toZ-ofZ}
 use Rattle.layout.specs.Varint.{shortest}
 use Rattle.layout.specs.Zigzag.{zigzag}
-use Rattle.layout.specs.Field.{each}
-use Rattle.varint.proofs.Shortest.{length-64}
-use Rattle.emit.proofs.Segments.{respelled}
-use Rattle.emit.proofs.Elements.{Counted, count-start, count-next, count-end, Owing, owing-start, owing-next, owing-end, each-at, each-end}
+use Rattle.emit.proofs.Segments.{all-left, stays-in}
+use Rattle.emit.proofs.Onward.{onward-none, onward-some}
 use Rattle.emit.proofs.Cursor.put_zigzags.Statement.{statement}
 use Rattle.emit.proofs.Cursor.put_zigzags.Tie as tie
 use Rattle.emit.proofs.Cursor.put_zigzags.Reads as reads
 use Rattle.emit.proofs.Cursor.put_zigzags.Lts as lts
 use Rattle.emit.proofs.Cursor.put_varint.Reads as put-varint-reads
+use Rattle.emit.proofs.zigzags_from.Reads as zigzags-from-reads
+use Rattle.emit.proofs.zigzags_out.Reads as zigzags-out-reads
 use Rattle.varint.proofs.zigzag_encode.Reads as zigzag-encode-reads
 
-abbrev Inv-loop : tie.InvT-loop
-Inv-loop buf₀ items cursor₀ i₀ buf cursor i = Owing cursor₀ buf₀ (each (λ z. shortest (zigzag z)) items) cursor buf (each (λ z. shortest (zigzag z)) (drop i items))
+zigzags-from-requires : tie.Need-zigzags-from-requires
+zigzags-from-requires c κs = search needs
 
-abbrev μ-loop : tie.MeasureT-loop
-μ-loop buf₀ items cursor₀ i₀ buf cursor i = length items - i
+same-length : tie.Need-same-length
+same-length c = search needs
 
-loop-holds : tie.Need-loop-holds Inv-loop μ-loop
-loop-holds c = owing-start _ _ _ (c .before .pre)
+returns : tie.Need-returns
+returns c = all-left (c .before .before .before .before .before .before .args .self) _ _ _ _ (c .before .before .before .before .if1 .taken) (c .before .before .zigzags-from .ensures)
 
-mul-v : tie.Need-mul-v Inv-loop μ-loop
+zigzags-out-requires : tie.Need-zigzags-out-requires
+zigzags-out-requires c κs = search needs
+
+returns-2 : tie.Need-returns-2
+returns-2 c = onward-none (λ z. shortest (zigzag z)) _ (c .before .before .before .before .args .self) _ _ _ (c .before .zigzags-out .ensures) (c .if2 .taken)
+
+mul-v : tie.Need-mul-v
 mul-v c = search needs
 
-shared-slice-copy-out-v : tie.Need-shared-slice-copy-out-v Inv-loop μ-loop
+shared-slice-copy-out-v : tie.Need-shared-slice-copy-out-v
 shared-slice-copy-out-v c = search needs
 
-zigzag-encode-requires : tie.Need-zigzag-encode-requires Inv-loop μ-loop
+zigzag-encode-requires : tie.Need-zigzag-encode-requires
 zigzag-encode-requires c κs = search needs
 
-put-varint-requires : tie.Need-put-varint-requires Inv-loop μ-loop
+put-varint-requires : tie.Need-put-varint-requires
 put-varint-requires c κs = search needs
 
-add-i : tie.Need-add-i Inv-loop μ-loop
-add-i c = search needs
+add-zigzags-from : tie.Need-add-zigzags-from
+add-zigzags-from c = search needs
 
-loop-less : tie.Need-loop-less Inv-loop μ-loop
-loop-less c = search needs
+zigzags-from-requires-2 : tie.Need-zigzags-from-requires-2
+zigzags-from-requires-2 c κs = let a = c .before .before .before .before .before .before .before .before .before .before .before .args in stays-in (record { pos = a .self .pos; skip = c .before .before .before .before .before .before .before .before .zigzags-out .result .part }) (a .buf .now) _ _ _ (c .before .before .before .before .before .before .before .before .before .before .before .pre) (c .before .before .before .put-varint .ensures) .0
 
-loop-again : tie.Need-loop-again Inv-loop μ-loop
-loop-again c =
-    let l = c .before .before .before .before .before .before .before .loop in
-    let z : ℤ = getD (c .before .before .before .before .before .before .before .before .before .args .items .now) (l .i) (pos 0) in
-    let e = c .before .before .before .zigzag-encode .ensures ∙ ap zigzag (toZ-ofZ w64 z (sfits-of (c .before .before .before .before .before .v .given))) in
-    owing-next _ _ _ _ _ _ (l .inv) _ _ _ _ (each-at (λ z. shortest (zigzag z)) (c .before .before .before .before .before .before .before .before .before .args .items .now) (l .i) (pos 0) (c .before .before .before .before .before .before .loop-test .taken)) (respelled _ _ _ _ _ _ (ap shortest e) (c .before .before .put-varint .ensures))
+same-length-2 : tie.Need-same-length-2
+same-length-2 c = search needs
 
-same-length : tie.Need-same-length Inv-loop μ-loop
-same-length c = c .before .loop .inv .size
-
-returns : tie.Need-returns Inv-loop μ-loop
-returns c = owing-end _ _ _ _ _ _ (c .before .loop .inv) (each-end _ _ _ (c .loop-test .left))
+returns-3 : tie.Need-returns-3
+returns-3 c =
+    let a = c .before .before .before .before .before .before .before .before .before .before .before .before .before .before .args in
+    let o = c .before .before .before .before .before .before .before .before .before .before .before .zigzags-out in
+    let z : ℤ = getD (a .items .now) (o .result .whole) (pos 0) in
+    let e = c .before .before .before .before .before .before .before .zigzag-encode .ensures ∙ ap zigzag (toZ-ofZ w64 z (sfits-of (c .before .before .before .before .before .before .before .before .before .v .given))) in
+    onward-some (λ z. shortest (zigzag z)) (a .items .now) (a .self) (a .buf .now) _ _ (o .ensures) (pos 0) _ _ _ _ _ (c .before .before .before .before .before .before .before .before .before .before .before .before .before .before .pre) (c .before .before .before .before .before .before .before .before .before .before .if2 .left) (ap shortest e) (c .before .before .before .before .before .before .put-varint .ensures) (c .before .before .zigzags-from2 .ensures)
 
 pub put-zigzags-spec : {M : Type 1} → statement M
 put-zigzags-spec =
     tie.close
     (tie.spec
-    Inv-loop
-    μ-loop
-    loop-holds
+    zigzags-from-requires
+    same-length
+    returns
+    zigzags-out-requires
+    returns-2
     mul-v
     shared-slice-copy-out-v
     zigzag-encode-requires
     put-varint-requires
-    add-i
-    loop-less
-    loop-again
-    same-length
-    returns)
+    add-zigzags-from
+    zigzags-from-requires-2
+    same-length-2
+    returns-3)

@@ -1,0 +1,62 @@
+-- `emit::varints_out`: at each turn, i elements are out, and what is left of the bytes belongs to those after them.
+use Prim.Native.Nat.{ℕ, _+_, _-_, _≤_, _<_}
+use mathlib.Core.Path.{_≡_, refl, sym, ap, _∙_}
+use native.Mathlib.Omega.{arith}
+use borrow.Author.Needs.{needs}
+use lib.ListN.{length, getD}
+use Rattle.layout.specs.Varint.{shortest}
+use Rattle.emit.proofs.Onward.{Counting, out-start, out-next, out-stop, out-end}
+use Rattle.emit.proofs.varints_out.Statement.{statement}
+use Rattle.emit.proofs.varints_out.Tie as tie
+use Rattle.emit.proofs.varints_out.Reads as reads
+use Rattle.emit.proofs.varints_out.Lts as lts
+use Rattle.varint.proofs.varint_len.Reads as varint-len-reads
+
+abbrev Inv-loop : tie.InvT-loop
+Inv-loop items skip left₀ i₀ left i = Counting shortest items skip left i
+
+abbrev μ-loop : tie.MeasureT-loop
+μ-loop items skip left₀ i₀ left i = length items - i
+
+loop-holds : tie.Need-loop-holds Inv-loop μ-loop
+loop-holds c = out-start _ _ _
+
+mul-v : tie.Need-mul-v Inv-loop μ-loop
+mul-v c = search needs
+
+shared-slice-read-v : tie.Need-shared-slice-read-v Inv-loop μ-loop
+shared-slice-read-v c = search needs
+
+varint-len-requires : tie.Need-varint-len-requires Inv-loop μ-loop
+varint-len-requires c κs = search needs
+
+returns : tie.Need-returns Inv-loop μ-loop
+returns c = out-stop _ _ _ _ _ (c .before .before .before .before .loop .inv) 0 _ (c .before .before .before .loop-test .taken) (c .before .varint-len .ensures) (c .if1 .taken)
+
+add-i : tie.Need-add-i Inv-loop μ-loop
+add-i c = search needs
+
+loop-less : tie.Need-loop-less Inv-loop μ-loop
+loop-less c = search needs
+
+loop-again : tie.Need-loop-again Inv-loop μ-loop
+loop-again c = out-next _ _ _ _ _ (c .before .before .before .before .loop .inv) 0 _ (c .before .before .before .loop-test .taken) (c .before .varint-len .ensures) (c .if1 .left)
+
+returns-2 : tie.Need-returns-2 Inv-loop μ-loop
+returns-2 c = out-end _ _ _ _ _ (c .before .loop .inv) (c .loop-test .left)
+
+pub varints-out-spec : {M : Type 1} → statement M
+varints-out-spec =
+    tie.close
+    (tie.spec
+    Inv-loop
+    μ-loop
+    loop-holds
+    mul-v
+    shared-slice-read-v
+    varint-len-requires
+    returns
+    add-i
+    loop-less
+    loop-again
+    returns-2)

@@ -1,0 +1,77 @@
+-- `emit::zigzags_out`: at each turn, i elements are out, and what is left of the bytes belongs to those after them.
+use Prim.Native.Nat.{ℕ, _+_, _-_, _≤_, _<_}
+use mathlib.Core.Path.{_≡_, refl, sym, ap, _∙_}
+use native.Mathlib.Omega.{arith}
+use borrow.Author.Needs.{needs, sfits-of}
+use lib.ListN.{length, getD}
+use lib.IntN.{ℤ, pos}
+use mir.Syntax.{w64}
+use mir.ValLaws.{toZ-ofZ}
+use Rattle.layout.specs.Varint.{shortest}
+use Rattle.layout.specs.Zigzag.{zigzag}
+use Rattle.emit.proofs.Onward.{Counting, out-start, out-next, out-stop, out-end}
+use Rattle.emit.proofs.zigzags_out.Statement.{statement}
+use Rattle.emit.proofs.zigzags_out.Tie as tie
+use Rattle.emit.proofs.zigzags_out.Reads as reads
+use Rattle.emit.proofs.zigzags_out.Lts as lts
+use Rattle.varint.proofs.varint_len.Reads as varint-len-reads
+use Rattle.varint.proofs.zigzag_encode.Reads as zigzag-encode-reads
+
+abbrev Inv-loop : tie.InvT-loop
+Inv-loop items skip left₀ i₀ left i = Counting (λ z. shortest (zigzag z)) items skip left i
+
+abbrev μ-loop : tie.MeasureT-loop
+μ-loop items skip left₀ i₀ left i = length items - i
+
+loop-holds : tie.Need-loop-holds Inv-loop μ-loop
+loop-holds c = out-start _ _ _
+
+mul-v : tie.Need-mul-v Inv-loop μ-loop
+mul-v c = search needs
+
+shared-slice-copy-out-v : tie.Need-shared-slice-copy-out-v Inv-loop μ-loop
+shared-slice-copy-out-v c = search needs
+
+zigzag-encode-requires : tie.Need-zigzag-encode-requires Inv-loop μ-loop
+zigzag-encode-requires c κs = search needs
+
+varint-len-requires : tie.Need-varint-len-requires Inv-loop μ-loop
+varint-len-requires c κs = search needs
+
+-- the length that the code takes is that of the element's varint
+long : (c : tie.After-varint-len Inv-loop μ-loop) → c .varint-len .result ≡ length (shortest (zigzag (getD (c .before .before .before .before .before .args .items .now) (c .before .before .before .before .loop .i) (pos 0))))
+long c =
+    let z : ℤ = getD (c .before .before .before .before .before .args .items .now) (c .before .before .before .before .loop .i) (pos 0) in
+    c .varint-len .ensures ∙ ap (λ (v : ℕ). length (shortest v)) (c .before .zigzag-encode .ensures ∙ ap zigzag (toZ-ofZ w64 z (sfits-of (c .before .before .v .given))))
+
+returns : tie.Need-returns Inv-loop μ-loop
+returns c = out-stop _ _ _ _ _ (c .before .before .before .before .before .loop .inv) (pos 0) _ (c .before .before .before .before .loop-test .taken) (long (c .before)) (c .if1 .taken)
+
+add-i : tie.Need-add-i Inv-loop μ-loop
+add-i c = search needs
+
+loop-less : tie.Need-loop-less Inv-loop μ-loop
+loop-less c = search needs
+
+loop-again : tie.Need-loop-again Inv-loop μ-loop
+loop-again c = out-next _ _ _ _ _ (c .before .before .before .before .before .loop .inv) (pos 0) _ (c .before .before .before .before .loop-test .taken) (long (c .before)) (c .if1 .left)
+
+returns-2 : tie.Need-returns-2 Inv-loop μ-loop
+returns-2 c = out-end _ _ _ _ _ (c .before .loop .inv) (c .loop-test .left)
+
+pub zigzags-out-spec : {M : Type 1} → statement M
+zigzags-out-spec =
+    tie.close
+    (tie.spec
+    Inv-loop
+    μ-loop
+    loop-holds
+    mul-v
+    shared-slice-copy-out-v
+    zigzag-encode-requires
+    varint-len-requires
+    returns
+    add-i
+    loop-less
+    loop-again
+    returns-2)

@@ -1,18 +1,18 @@
 -- An array's output that goes on from a place: how many of its elements are out, and a loop that writes the others until the buffer is
 -- full.
-use mathlib.Core.Path.{_≡_, refl, sym, ap, _∙_, subst}
+use mathlib.Core.Path.{_≡_, sym, ap, _∙_, subst}
 use mathlib.Core.List.{List, _++_}
-use Prim.Native.Nat.{ℕ, _+_, _-_, _≤_, _<_, min}
+use Prim.Native.Nat.{ℕ, _+_, _-_, _≤_, _<_}
 use native.Mathlib.Omega.{arith}
 use lib.ListN.{length, take, drop, getD, length-append, take-append-drop}
 use lib.Seq.{take-all}
 use Rattle.layout.specs.Field.{each}
 use Rattle.emit.specs.declared.Cursor.{Cursor}
-use Rattle.emit.specs.Put.{put, reached}
-use Rattle.emit.specs.Cursor.{placed, moved, Standing}
+use Rattle.emit.specs.Put.{reached}
+use Rattle.emit.specs.Cursor.{moved, Standing}
 use Rattle.emit.proofs.Writes.{reached-le}
 use Rattle.emit.proofs.Turns.{Left, Whole, start, none-left, no-room, followed-by}
-use Rattle.emit.proofs.Segments.{Emitted, all-left, joined-three, stays-in}
+use Rattle.emit.proofs.Segments.{Emitted, all-left, joined-three}
 use Rattle.emit.proofs.Segments as segments
 use Rattle.emit.proofs.Elements.{each-at, each-end, each-append}
 

@@ -1,16 +1,15 @@
 -- A loop that writes a list's elements where there is room for all: m bytes for each that is still to write, so that no turn meets the
 -- buffer's end.
-use mathlib.Core.Path.{_≡_, refl, sym, ap, _∙_, subst}
+use mathlib.Core.Path.{_≡_, sym, ap, _∙_, subst}
 use mathlib.Core.Bool.{true}
-use mathlib.Core.List.{List, [], _∷_, _++_}
-use Prim.Native.Nat.{ℕ, zero, suc, _+_, _-_, _*_, _/_, _≤_, _<_, min}
+use mathlib.Core.List.{List, _++_}
+use Prim.Native.Nat.{ℕ, suc, _+_, _-_, _*_, _/_, _≤_, _<_, min}
 use native.Mathlib.Nat.{mul-suc}
 use native.Mathlib.Omega.{arith}
 use lib.Dec.{leb}
 use lib.ListN.{length, drop, getD}
 use borrow.Author.Tests.{leb-true}
 use Rattle.layout.specs.Field.{each}
-use Rattle.emit.specs.Put.{put, reached}
 use Rattle.emit.proofs.Writes.{reached-is}
 use Rattle.emit.proofs.Turns.{Left, Whole, start, none-left, followed-by}
 use Rattle.emit.proofs.Elements.{each-at, each-end}

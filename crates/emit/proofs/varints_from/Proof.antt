@@ -1,10 +1,10 @@
 -- `emit::varints_from`: at each turn, the elements from the i-th on are left to write.
-use Prim.Native.Nat.{ℕ, _+_, _-_, _≤_, _<_}
-use mathlib.Core.Path.{_≡_, refl, sym, ap, _∙_}
+use Prim.Native.Nat.{_-_}
+use mathlib.Core.Path.{refl}
 use native.Mathlib.Omega.{arith}
 use borrow.Author.Needs.{needs}
 use borrow.Author.Tests.{ltb-true, ltb-false}
-use lib.ListN.{length, drop, getD}
+use lib.ListN.{length, drop}
 use Rattle.layout.specs.Varint.{shortest}
 use Rattle.layout.specs.Field.{each}
 use Rattle.emit.proofs.Onward.{Going, going-start, going-in, going-next, going-end, going-full}

@@ -1,9 +1,7 @@
 -- `emit::varints_out`: at each turn, i elements are out, and what is left of the bytes belongs to those after them.
-use Prim.Native.Nat.{ℕ, _+_, _-_, _≤_, _<_}
-use mathlib.Core.Path.{_≡_, refl, sym, ap, _∙_}
-use native.Mathlib.Omega.{arith}
+use Prim.Native.Nat.{_-_}
 use borrow.Author.Needs.{needs}
-use lib.ListN.{length, getD}
+use lib.ListN.{length}
 use Rattle.layout.specs.Varint.{shortest}
 use Rattle.emit.proofs.Onward.{Counting, out-start, out-next, out-stop, out-end}
 use Rattle.emit.proofs.varints_out.Statement.{statement}

@@ -1,6 +1,6 @@
 -- `emit::zigzags_from`: at each turn, the elements from the i-th on are left to write.
-use Prim.Native.Nat.{ℕ, _+_, _-_, _≤_, _<_}
-use mathlib.Core.Path.{_≡_, refl, sym, ap, _∙_}
+use Prim.Native.Nat.{_-_}
+use mathlib.Core.Path.{ap, _∙_}
 use native.Mathlib.Omega.{arith}
 use borrow.Author.Needs.{needs, sfits-of}
 use borrow.Author.Tests.{ltb-true, ltb-false}

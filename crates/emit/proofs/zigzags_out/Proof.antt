@@ -1,7 +1,6 @@
 -- `emit::zigzags_out`: at each turn, i elements are out, and what is left of the bytes belongs to those after them.
-use Prim.Native.Nat.{ℕ, _+_, _-_, _≤_, _<_}
-use mathlib.Core.Path.{_≡_, refl, sym, ap, _∙_}
-use native.Mathlib.Omega.{arith}
+use Prim.Native.Nat.{ℕ, _-_}
+use mathlib.Core.Path.{_≡_, ap, _∙_}
 use borrow.Author.Needs.{needs, sfits-of}
 use lib.ListN.{length, getD}
 use lib.IntN.{ℤ, pos}

@@ -1,10 +1,10 @@
 -- `emit::Cursor::put_f64s_slowly`: the elements' bytes from the first on that is not out.
-use Prim.Native.Nat.{ℕ, _+_, _-_, _*_, _/_, _≤_, _<_, min}
-use mathlib.Core.Path.{_≡_, refl, sym, ap, _∙_}
+use Prim.Native.Nat.{_-_, _/_, _≤_, min}
+use mathlib.Core.Path.{_≡_, ap}
 use native.Mathlib.Omega.{arith}
 use borrow.Author.Needs.{needs}
 use lib.ListN.{length, drop}
-use lib.Ieee.{Float, binary32, binary64, toBits}
+use lib.Ieee.{binary64, toBits}
 use Rattle.layout.specs.Field.{each, lowBytes}
 use Rattle.emit.proofs.Low.{length-low}
 use Rattle.emit.proofs.Segments.{respelled}

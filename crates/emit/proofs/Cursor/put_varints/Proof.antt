@@ -1,6 +1,5 @@
 -- `emit::Cursor::put_varints`: the elements' varints from the first byte on that is not out.
-use mathlib.Core.Path.{_≡_, refl, ap, _∙_}
-use lib.ListN.{getD}
+use mathlib.Core.Path.{refl}
 use Rattle.layout.specs.Varint.{shortest}
 use Rattle.emit.proofs.Segments.{all-left, stays-in}
 use Rattle.emit.proofs.Onward.{onward-none, onward-some}

@@ -1,5 +1,5 @@
 -- `emit::Cursor::put_zigzags`: the elements' varints from the first byte on that is not out.
-use mathlib.Core.Path.{_≡_, refl, ap, _∙_}
+use mathlib.Core.Path.{ap, _∙_}
 use borrow.Author.Needs.{needs, sfits-of}
 use lib.ListN.{getD}
 use lib.IntN.{ℤ, pos}

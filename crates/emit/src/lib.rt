@@ -91,7 +91,7 @@ fn put_third(buf: &mut [u8], pos: usize, v: u64) -> usize
 // The varints of an unsigned array's elements where there is room for the longest of each.
 pub fn put_fittings(buf: &mut [u8], pos: usize, items: &[u64]) -> usize
     requires { ⌜ pos + 10 * length (now items) ≤ length (now buf) ⌝ }
-    ensures { λ r. ⌜ (r ≡ reached (now (buf .entry)) pos (each shortest (now (items .entry)))) × (now (buf .exit) ≡ put (now (buf .entry)) pos (each shortest (now (items .entry)))) ⌝ }
+    ensures { λ r. ⌜ (r ≡ reached (now (buf .entry)) pos (each shortest (now (items .entry)))) × (now (buf .exit) ≡ put (now (buf .entry)) pos (each shortest (now (items .entry)))) × (pos + length (each shortest (now (items .entry))) ≤ length (now (buf .entry))) ⌝ }
 {
     let mut at = pos;
     let mut i: usize = 0;
@@ -106,7 +106,7 @@ pub fn put_fittings(buf: &mut [u8], pos: usize, items: &[u64]) -> usize
 // The same of a signed array's.
 pub fn put_fitting_zigzags(buf: &mut [u8], pos: usize, items: &[i64]) -> usize
     requires { ⌜ pos + 10 * length (now items) ≤ length (now buf) ⌝ }
-    ensures { λ r. ⌜ (r ≡ reached (now (buf .entry)) pos (each (λ z. shortest (zigzag z)) (now (items .entry)))) × (now (buf .exit) ≡ put (now (buf .entry)) pos (each (λ z. shortest (zigzag z)) (now (items .entry)))) ⌝ }
+    ensures { λ r. ⌜ (r ≡ reached (now (buf .entry)) pos (each (λ z. shortest (zigzag z)) (now (items .entry)))) × (now (buf .exit) ≡ put (now (buf .entry)) pos (each (λ z. shortest (zigzag z)) (now (items .entry)))) × (pos + length (each (λ z. shortest (zigzag z)) (now (items .entry))) ≤ length (now (buf .entry))) ⌝ }
 {
     let mut at = pos;
     let mut i: usize = 0;

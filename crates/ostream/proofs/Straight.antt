@@ -16,7 +16,7 @@ use Rattle.emit.proofs.Writes.{put-put, reached-reached, reached-is, length-put
 use Rattle.emit.proofs.Turns.{Whole}
 use Rattle.emit.proofs.Segments.{Emitted, some-left}
 use Rattle.ostream.specs.declared.OStream.{OStream}
-use Rattle.ostream.specs.Calls.{unsound, idTooLarge, payloadTooLong, fieldTests}
+use Rattle.ostream.specs.Calls.{unsound, idTooLarge, payloadTooLong, arrayTooLong, fieldTests}
 use Rattle.ostream.specs.declared.Answer.the-variants.{Done}
 use Rattle.ostream.specs.declared.Written.{Written}
 use Rattle.ostream.specs.Stream.{every, soundStream, lazyDepth, heldBytes, committed, clean, roomFor, easy, holds, reachedIf, putIf, at}
@@ -155,6 +155,10 @@ module _ (s : OStream) (size id n : ℕ) (y : Ready s size id n) where
 
   pub ready-field : n ≤ base .size → judged (fieldTests s size id n) ≡ accepted
   ready-field h = simp (y .sound, le-ltb _ _ (y .legal), le-ltb _ _ h)
+
+-- and those of an array of k elements
+pub ready-array : (s : OStream) (size id k n : ℕ) → Ready s size id n → k ≤ base .count → judged (unsound s size ∷ idTooLarge id ∷ arrayTooLong k ∷ []) ≡ accepted
+ready-array s size id k n y h = simp (y .sound, le-ltb _ _ (y .legal), le-ltb _ _ h)
 
 -- a write from a state's position on, as an emission from the output's start
 pub emitted : (s : OStream) (b o : List ℕ) (end : ℕ) (b′ : List ℕ) → end ≡ reached b (s .offset) o → b′ ≡ put b (s .offset) o → Emitted (start s 0) b o (record { pos = end; skip = 0 }) b′

@@ -3,6 +3,8 @@
 // is made again.
 use emit::Cursor;
 use emit::put_fitting;
+use emit::put_fitting_zigzags;
+use emit::put_fittings;
 use emit::put_rest;
 use emit::varints_len;
 use emit::zigzags_len;
@@ -32,7 +34,8 @@ ghost use lib.ListN.{length, take, drop};
 ghost use Rattle.layout.specs.Varint.{shortest};
 ghost use lib.Ieee.{binary32, binary64, toBits};
 ghost use Rattle.types.specs.Types.{subtype};
-ghost use Rattle.layout.specs.Field.{fp32, fp64, string, blob, lowBytes};
+ghost use Rattle.layout.specs.Field.{fp32, fp64, string, blob, lowBytes, each};
+ghost use Rattle.layout.specs.Zigzag.{zigzag};
 ghost use Rattle.layout.specs.Limits.{base, pick};
 ghost use Rattle.ostream.specs.Stream.{every, soundStream, heldBytes, headBytes, zeroed, committed, holding, dropped, opened, clean, roomFor, easy, holds, reachedIf, putIf};
 ghost use Rattle.emit.specs.Cursor.{placed, moved};
@@ -253,6 +256,38 @@ fn put_field(
     let mid = put_fitting(buf, pos, header);
     let end = put_fitting(buf, mid, second);
     put_rest(buf, end, bytes, 0)
+}
+
+// The same of an array of unsigned integers: header, count, elements.
+fn put_unsigneds(buf: &mut [u8], pos: usize, places: [u32; 8], header: u64, items: &[u64]) -> usize
+    requires { ⌜ length (now items) ≤ base .count ⌝ }
+    ensures { λ r. ⌜ (r ≡ reachedIf (roomFor (length (now (buf .entry))) pos (10 * length (now (items .entry))) && clean places) (now (buf .entry)) pos (shortest header ++ (shortest (length (now (items .entry))) ++ each shortest (now (items .entry))))) × (now (buf .exit) ≡ putIf (roomFor (length (now (buf .entry))) pos (10 * length (now (items .entry))) && clean places) (now (buf .entry)) pos (shortest header ++ (shortest (length (now (items .entry))) ++ each shortest (now (items .entry))))) × ((roomFor (length (now (buf .entry))) pos (10 * length (now (items .entry))) && clean places) ≡ true → pos + length (shortest header ++ (shortest (length (now (items .entry))) ++ each shortest (now (items .entry)))) ≤ length (now (buf .entry))) ⌝ }
+{
+    if !has_room(buf.len(), pos, 10 * items.len()) {
+        return pos;
+    }
+    if !unused_zero(places, 0) {
+        return pos;
+    }
+    let mid = put_fitting(buf, pos, header);
+    let at = put_fitting(buf, mid, items.len() as u64);
+    put_fittings(buf, at, items)
+}
+
+// And of signed ones.
+fn put_signeds(buf: &mut [u8], pos: usize, places: [u32; 8], header: u64, items: &[i64]) -> usize
+    requires { ⌜ length (now items) ≤ base .count ⌝ }
+    ensures { λ r. ⌜ (r ≡ reachedIf (roomFor (length (now (buf .entry))) pos (10 * length (now (items .entry))) && clean places) (now (buf .entry)) pos (shortest header ++ (shortest (length (now (items .entry))) ++ each (λ z. shortest (zigzag z)) (now (items .entry))))) × (now (buf .exit) ≡ putIf (roomFor (length (now (buf .entry))) pos (10 * length (now (items .entry))) && clean places) (now (buf .entry)) pos (shortest header ++ (shortest (length (now (items .entry))) ++ each (λ z. shortest (zigzag z)) (now (items .entry))))) × ((roomFor (length (now (buf .entry))) pos (10 * length (now (items .entry))) && clean places) ≡ true → pos + length (shortest header ++ (shortest (length (now (items .entry))) ++ each (λ z. shortest (zigzag z)) (now (items .entry)))) ≤ length (now (buf .entry))) ⌝ }
+{
+    if !has_room(buf.len(), pos, 10 * items.len()) {
+        return pos;
+    }
+    if !unused_zero(places, 0) {
+        return pos;
+    }
+    let mid = put_fitting(buf, pos, header);
+    let at = put_fitting(buf, mid, items.len() as u64);
+    put_fitting_zigzags(buf, at, items)
 }
 
 // The one byte of a close.
@@ -816,6 +851,43 @@ impl OStream {
     ) -> Written
         ensures { λ r. ⌜ (r ≡ called (unsignedArrayCall self (length (now (buf .entry))) id (now (items .entry))) self (now (buf .entry)) place) × (now (buf .exit) ≡ leaves (unsignedArrayCall self (length (now (buf .entry))) id (now (items .entry))) self (now (buf .entry)) place) ⌝ }
     {
+        if 0 < place {
+            return self.anew()
+                .write_array_unsigned_slowly(buf, id, items, place)
+                .anew();
+        }
+        if self.at_ease(id) && items.len() <= ARRAY_MAX as usize {
+            let places = self.pending;
+            let end = put_unsigneds(
+                buf,
+                self.offset,
+                places,
+                tagged(id, T_VARINTARRAY_UNSIGNED),
+                items,
+            );
+            if self.offset < end {
+                self.offset = end;
+                return Written {
+                    answer: Answer::Done,
+                    stream: self,
+                };
+            }
+        }
+        self.anew()
+            .write_array_unsigned_slowly(buf, id, items, place)
+            .anew()
+    }
+
+    // The same from any state and place.
+    fn write_array_unsigned_slowly(
+        self,
+        buf: &mut [u8],
+        id: u32,
+        items: &[u64],
+        place: usize,
+    ) -> Written
+        ensures { λ r. ⌜ (r ≡ called (unsignedArrayCall self (length (now (buf .entry))) id (now (items .entry))) self (now (buf .entry)) place) × (now (buf .exit) ≡ leaves (unsignedArrayCall self (length (now (buf .entry))) id (now (items .entry))) self (now (buf .entry)) place) ⌝ }
+    {
         let size = buf.len();
         let check = self.check(size, id, items.len());
         let error = check.error;
@@ -836,6 +908,43 @@ impl OStream {
     // An array of signed integers.
     pub fn write_array_signed(
         mut self,
+        buf: &mut [u8],
+        id: u32,
+        items: &[i64],
+        place: usize,
+    ) -> Written
+        ensures { λ r. ⌜ (r ≡ called (signedArrayCall self (length (now (buf .entry))) id (now (items .entry))) self (now (buf .entry)) place) × (now (buf .exit) ≡ leaves (signedArrayCall self (length (now (buf .entry))) id (now (items .entry))) self (now (buf .entry)) place) ⌝ }
+    {
+        if 0 < place {
+            return self.anew()
+                .write_array_signed_slowly(buf, id, items, place)
+                .anew();
+        }
+        if self.at_ease(id) && items.len() <= ARRAY_MAX as usize {
+            let places = self.pending;
+            let end = put_signeds(
+                buf,
+                self.offset,
+                places,
+                tagged(id, T_VARINTARRAY_SIGNED),
+                items,
+            );
+            if self.offset < end {
+                self.offset = end;
+                return Written {
+                    answer: Answer::Done,
+                    stream: self,
+                };
+            }
+        }
+        self.anew()
+            .write_array_signed_slowly(buf, id, items, place)
+            .anew()
+    }
+
+    // The same from any state and place.
+    fn write_array_signed_slowly(
+        self,
         buf: &mut [u8],
         id: u32,
         items: &[i64],

@@ -9,7 +9,7 @@ use mir.ValLaws.{toZ-ofZ}
 use Rattle.layout.specs.Varint.{shortest}
 use Rattle.layout.specs.Zigzag.{zigzag}
 use Rattle.varint.proofs.Shortest.{length-64}
-use Rattle.emit.proofs.Room.{Roomy, roomy-start, roomy-here, roomy-next, roomy-end}
+use Rattle.emit.proofs.Room.{Roomy, roomy-start, roomy-here, roomy-next, roomy-end, roomy-fits}
 use Rattle.emit.proofs.put_fitting_zigzags.Statement.{statement}
 use Rattle.emit.proofs.put_fitting_zigzags.Tie as tie
 use Rattle.emit.proofs.put_fitting_zigzags.Reads as reads
@@ -56,7 +56,8 @@ same-length : tie.Need-same-length Inv-loop μ-loop
 same-length c = c .before .loop .inv .left .size
 
 returns : tie.Need-returns Inv-loop μ-loop
-returns c = roomy-end _ _ _ _ _ _ _ _ (c .before .loop .inv) (c .loop-test .left)
+returns c =
+    let w = roomy-end _ _ _ _ _ _ _ _ (c .before .loop .inv) (c .loop-test .left) in (w .0, w .1, roomy-fits _ _ _ _ _ _ _ _ (c .before .loop .inv) (c .loop-test .left))
 
 pub put-fitting-zigzags-spec : {M : Type 1} → statement M
 put-fitting-zigzags-spec =

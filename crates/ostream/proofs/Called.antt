@@ -6,7 +6,7 @@ use Prim.Native.Nat.{ℕ, zero, suc, _+_, _-_, _≤_, _<_, min}
 use native.Mathlib.Omega.{arith}
 use lib.Dec.{leb, eqb, ltb}
 use lib.ListN.{length, take, drop, length-drop}
-use borrow.Author.Tests.{leb-true, le-leb, lt-ltb, le-ltb, ltb-false, not-true, not-false}
+use borrow.Author.Tests.{leb-true, ltb-true, le-leb, lt-ltb, le-ltb, ltb-false, not-true, not-false}
 use Rattle.layout.specs.Limits.{base, pick}
 use Rattle.layout.specs.Field.{header, each, T-begin}
 use Rattle.types.specs.declared.Error.{Error}
@@ -69,6 +69,15 @@ module _ (s : OStream) (b o : List ℕ) (place : ℕ) where
   unfolding left placed
   left-emitted c′ b′ l e = e .1 ∙ sym (simp (le-ltb _ _ l))
 
+  -- the same where the place may lie beyond the output: then nothing was written
+  pub left-any : (c′ : Cursor) (b′ : List ℕ) → Emitted (start s place) b o c′ b′ → b′ ≡ left s b o place
+  unfolding left placed
+  left-any c′ b′ e = go (ltb (length o) place) refl
+    where
+      go : (t : Bool) → ltb (length o) place ≡ t → b′ ≡ pick t b (put b (s .offset) (drop place o))
+      go true q = let l : length o < place = ltb-true _ _ q in e .1 ∙ put-none b (s .offset) (drop place o) (omega (arith, length-drop place o))
+      go false q = e .1
+
   pub left-nothing : length o ≡ 0 → b ≡ left s b o place
   unfolding left
   left-nothing z = go (ltb (length o) place) refl
@@ -101,6 +110,11 @@ module _ (k : Call) (s : OStream) (b : List ℕ) (place : ℕ) (r : Written) whe
   pub sends : (b′ : List ℕ) (c′ : Cursor) → judged (k .tests) ≡ accepted → place ≤ length (k .output) → r ≡ answered s (length b) (length (k .output)) place (k .done)
       → Emitted (start s place) b (k .output) c′ b′ → (r ≡ called k s b place) × (b′ ≡ leaves k s b place)
   sends b′ c′ j l h e = accepts b′ j (h, left-emitted s b (k .output) place c′ b′ l e)
+
+  -- the same where the place may lie beyond it
+  pub sends-any : (b′ : List ℕ) (c′ : Cursor) → judged (k .tests) ≡ accepted → r ≡ answered s (length b) (length (k .output)) place (k .done) → Emitted (start s place) b (k .output) c′ b′
+      → (r ≡ called k s b place) × (b′ ≡ leaves k s b place)
+  sends-any b′ c′ j h e = accepts b′ j (h, left-any s b (k .output) place c′ b′ e)
 
 -- ---- what the code's tests say
 
@@ -193,3 +207,29 @@ pub goes-straight : (k : Call) (s : OStream) (b o : List ℕ) (place : ℕ) (c�
 goes-straight k s b o place c′ b′ next j eo en z h e =
     let l : place ≤ length o = omega arith in
     accepts-as k s b place _ o next b′ eo en j (answered-all s (length b) (length o) place next z h (c′ .pos) (emitted-end s b o place c′ b′ z h e), left-emitted s b o place c′ b′ l e)
+
+-- ---- a call that has not reached the buffer's end
+
+-- where an emission ends, and what of the place is left
+ends-at : (s : OStream) (b o : List ℕ) (place : ℕ) (c′ : Cursor) (b′ : List ℕ) → Emitted (start s place) b o c′ b′ → (c′ .pos ≡ s .offset + min (length o - place) (length b - s .offset)) × (c′ .skip ≡ place - length o)
+unfolding moved
+ends-at s b o place c′ b′ e =
+    let d : length (drop place o) ≡ length o - place = length-drop place o in
+    let r : reached b (s .offset) (drop place o) ≡ s .offset + min (length (drop place o)) (length b - s .offset) = reached-is b (s .offset) (drop place o) in
+    let p : c′ .pos ≡ reached b (s .offset) (drop place o) = ap (λ (x : Cursor). x .pos) (e .0) in
+    (p ∙ r ∙ ap (λ (n : ℕ). s .offset + min n (length b - s .offset)) d, ap (λ (x : Cursor). x .skip) (e .0))
+
+-- all of it is out
+pub stops-short : (k : Call) (s : OStream) (b : List ℕ) (place : ℕ) (c′ : Cursor) (b′ : List ℕ) (r : Written) → judged (k .tests) ≡ accepted → s .offset ≤ length b → Emitted (start s place) b (k .output) c′ b′
+    → c′ .skip ≡ 0 → c′ .pos < length b → r ≡ record { answer = Done; stream = at (k .done) (c′ .pos) }
+    → (r ≡ called k s b place) × (b′ ≡ leaves k s b place)
+unfolding answered
+stops-short k s b place c′ b′ r j i e z h q =
+    let (p, m) = ends-at s b (k .output) place c′ b′ e in
+    let l : place ≤ length (k .output) = omega arith in
+    let w : length (k .output) - place ≤ length b - s .offset = omega arith in
+    let f : c′ .pos ≡ s .offset + (length (k .output) - place) = omega arith in
+    accepts k s b place r b′ j (
+      q ∙ ap (λ (n : ℕ). record { answer = Done; stream = at (k .done) n }) f ∙ sym (simp (le-ltb _ _ l, le-leb _ _ w)),
+      left-emitted s b (k .output) place c′ b′ l e,
+    )

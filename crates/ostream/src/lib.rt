@@ -896,12 +896,12 @@ impl OStream {
         }
         let header = tagged(id, T_VARINTARRAY_UNSIGNED);
         let count = items.len() as u64;
-        let total = self.head_len(header, count) + varints_len(items);
-        if total < place {
-            return self.complete(size, total, place, self.depth);
-        }
         let head = self.put_head(buf, header, count, place);
-        head.put_varints(buf, items);
+        let end = head.put_varints(buf, items);
+        if end.skip == 0 && end.pos < size {
+            return self.all_out(end.pos);
+        }
+        let total = self.head_len(header, count) + varints_len(items);
         self.complete(size, total, place, self.depth)
     }
 
@@ -960,12 +960,12 @@ impl OStream {
         }
         let header = tagged(id, T_VARINTARRAY_SIGNED);
         let count = items.len() as u64;
-        let total = self.head_len(header, count) + zigzags_len(items);
-        if total < place {
-            return self.complete(size, total, place, self.depth);
-        }
         let head = self.put_head(buf, header, count, place);
-        head.put_zigzags(buf, items);
+        let end = head.put_zigzags(buf, items);
+        if end.skip == 0 && end.pos < size {
+            return self.all_out(end.pos);
+        }
+        let total = self.head_len(header, count) + zigzags_len(items);
         self.complete(size, total, place, self.depth)
     }
 

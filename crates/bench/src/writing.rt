@@ -81,9 +81,13 @@ fn string(s: OStream, i: usize, data: &[u8], buf: &mut [u8], place: usize) -> Wr
     s.write_str(buf, number(i), first(data, 24), place)
 }
 
-fn array(s: OStream, i: usize, buf: &mut [u8], place: usize) -> Written {
+fn array(s: OStream, i: usize, elements: &[u64], buf: &mut [u8], place: usize) -> Written {
+    s.write_array_unsigned(buf, number(i), elements, place)
+}
+
+fn made_array(s: OStream, i: usize, buf: &mut [u8], place: usize) -> Written {
     let elements = [300u64; 64];
-    s.write_array_unsigned(buf, number(i), &elements, place)
+    array(s, i, &elements, buf, place)
 }
 
 fn level(i: usize) -> u64 {
@@ -130,7 +134,7 @@ fn one(s: OStream, c: Call, data: &[u8], buf: &mut [u8], place: usize) -> Writte
         1 => long(s, c.i, buf, place),
         2 => string(s, c.i, data, buf, place),
         3 => s.write_blob(buf, number(c.i), data, place),
-        4 => array(s, c.i, buf, place),
+        4 => made_array(s, c.i, buf, place),
         5 => nested(s, c, buf, place),
         _ => page(s, c, data, buf, place),
     }
@@ -271,11 +275,12 @@ fn blobs(n: usize, data: &[u8], buf: &mut [u8], out: &mut [u8]) -> Run {
 }
 
 fn arrays(n: usize, data: &[u8], buf: &mut [u8], out: &mut [u8]) -> Run {
+    let elements = [300u64; 64];
     let mut s = OStream::new(buf);
     let mut sent: usize = 0;
     let mut i: usize = 0;
     while i < n {
-        let w = array(s, i, buf, 0);
+        let w = array(s, i, &elements, buf, 0);
         let answer = w.answer;
         s = w.stream;
         if let Answer::Full(place) = answer {

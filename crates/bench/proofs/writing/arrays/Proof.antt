@@ -15,16 +15,19 @@ use Rattle.bench.proofs.writing.which.Reads as which-reads
 use Rattle.ostream.proofs.OStream.new.Reads as new-reads
 
 abbrev Inv-loop : tie.InvT-loop
-Inv-loop n «data» buf₀ out₀ s₀ sent₀ i₀ buf out s sent i = (length buf ≡ length buf₀) × (length out ≡ length out₀) × (i ≤ n)
+Inv-loop n «data» buf₀ out₀ elements s₀ sent₀ i₀ buf out s sent i = (length buf ≡ length buf₀) × (length out ≡ length out₀) × (i ≤ n)
 
 abbrev μ-loop : tie.MeasureT-loop
-μ-loop n «data» buf₀ out₀ s₀ sent₀ i₀ buf out s sent i = n - i
+μ-loop n «data» buf₀ out₀ elements s₀ sent₀ i₀ buf out s sent i = n - i
 
 new-requires : tie.Need-new-requires Inv-loop μ-loop
 new-requires c κs = search needs
 
 loop-holds : tie.Need-loop-holds Inv-loop μ-loop
 loop-holds c = search needs
+
+slice-aggregate-array : tie.Need-slice-aggregate-array Inv-loop μ-loop
+slice-aggregate-array c = search needs
 
 array-requires : tie.Need-array-requires Inv-loop μ-loop
 array-requires c κs = search needs
@@ -52,8 +55,8 @@ loop-less c = search needs
 
 loop-again : tie.Need-loop-again Inv-loop μ-loop
 loop-again c = (
-  ⊎-elim (λ x. ap length (x .13) ∙ x .7 .kept .1 .1 .1 .1 .1 .0 ∙ c .before .before .before .before .array .kept .1 .1 .0 ∙ c .before .before .before .before .before .before .before .loop .inv .0) (λ x. ap length (x .1) ∙ search needs) (c .match .came),
-  ⊎-elim (λ x. ap length (x .14) ∙ x .7 .kept .1 .1 .1 .1 .1 .1 .0 ∙ c .before .before .before .before .before .before .before .loop .inv .1) (λ x. ap length (x .2) ∙ search needs) (c .match .came),
+  ⊎-elim (λ x. ap length (x .13) ∙ x .7 .kept .1 .1 .1 .1 .1 .0 ∙ c .before .before .before .before .array .kept .1 .1 .1 .0 ∙ c .before .before .before .before .before .before .before .before .loop .inv .0) (λ x. ap length (x .1) ∙ search needs) (c .match .came),
+  ⊎-elim (λ x. ap length (x .14) ∙ x .7 .kept .1 .1 .1 .1 .1 .1 .0 ∙ c .before .before .before .before .before .before .before .before .loop .inv .1) (λ x. ap length (x .2) ∙ search needs) (c .match .came),
   search needs,
 )
 
@@ -74,6 +77,7 @@ arrays-spec =
     μ-loop
     new-requires
     loop-holds
+    slice-aggregate-array
     array-requires
     enum-known-answer
     anew-requires

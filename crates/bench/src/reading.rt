@@ -30,14 +30,6 @@ fn sum(digest: u64, e: Event) -> u64 {
     }
 }
 
-// The place in the bytes, the reader, the digest, and whether the chunk is still to be called on.
-struct Run {
-    at: usize,
-    stream: IStream,
-    digest: u64,
-    open: bool,
-}
-
 fn rest<'a>(bytes: &'a [u8], at: usize) -> &'a [u8] {
     if at <= bytes.len() {
         &bytes[at..]
@@ -57,60 +49,35 @@ fn ahead(at: usize, n: usize, end: usize) -> usize {
     if n < end - at { at + n } else { end }
 }
 
-fn call(chunk: &[u8], r: Run) -> Run {
-    let at = r.at;
-    let stream = r.stream;
-    let f = stream.feed(rest(chunk, at));
-    let w = f.answer;
-    let s = f.stream;
-    let next = ahead(at, f.read, chunk.len());
-    let Answer::Event(e) = w else {
-        return Run {
-            at: next,
-            stream: s,
-            digest: r.digest,
-            open: false,
-        };
-    };
-    Run {
-        at: next,
-        stream: s,
-        digest: sum(r.digest, e),
-        open: true,
-    }
-}
-
-fn chunk(bytes: &[u8], start: Run) -> Run {
-    let mut r = start;
-    let mut turns = u64::MAX;
-    while turns > 0 && r.open {
-        r = call(bytes, r);
-        turns -= 1;
-    }
-    r
-}
-
-fn again(mut r: Run) -> Run {
-    r.at = 0;
-    r.open = true;
-    r
-}
-
+// Each chunk is called on until it is spent and the verdict comes.
 pub fn chunks(bytes: &[u8], size: usize) -> u64 {
-    let mut r = Run {
-        at: 0,
-        stream: IStream::new(),
-        digest: 0,
-        open: true,
-    };
+    let mut stream = IStream::new();
+    let mut digest: u64 = 0;
     let mut at: usize = 0;
     let mut turns = bytes.len();
     while turns > 0 && at < bytes.len() {
-        r = chunk(first(rest(bytes, at), size), again(r));
+        let chunk = first(rest(bytes, at), size);
+        let mut left = chunk;
+        let mut calls = u64::MAX;
+        while calls > 0 {
+            let f = stream.feed(left);
+            stream = f.stream;
+            let read = f.read;
+            let answer = f.answer;
+            let Answer::Event(e) = answer else {
+                break;
+            };
+            if left.len() < read {
+                break;
+            }
+            left = &left[read..];
+            digest = sum(digest, e);
+            calls -= 1;
+        }
         at = ahead(at, size, bytes.len());
         turns -= 1;
     }
-    r.digest
+    digest
 }
 
 pub fn gather(bytes: &[u8], size: usize, buf: &mut [u8]) -> u64 {

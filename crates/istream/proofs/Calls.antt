@@ -25,6 +25,7 @@ use Rattle.event.specs.declared.Event.the-variants.{Str, Blob}
 use Rattle.istream.specs.declared.Phase.{Phase}
 use Rattle.istream.specs.declared.Phase.the-variants.{Header, Unsigned, Signed, Word, UnsignedCount, SignedCount, FloatCount, ArrayWord, Float, Payload, Empty, Broken}
 use Rattle.istream.specs.declared.IStream.{IStream}
+use Rattle.istream.specs.declared.Status.the-variants.{Incomplete}
 use Rattle.istream.specs.declared.Answer.the-variants as Answers
 use Rattle.istream.specs.declared.Stepped.{Stepped}
 use Rattle.istream.specs.declared.Stepped.the-variants.{On, Raised}
@@ -184,8 +185,8 @@ module _ (chunk : List ℕ) (st : State) (at : IStream) (n : ℕ) (a : AtBytes (
 -- ---- payloads
 
 -- "In a payload, an empty chunk gives the verdict incomplete and no empty piece."
-pub no-bytes : (d id : ℕ) (r : RawType) (total o : ℕ) (c : List ℕ) → length c ≡ 0 → stopped 0 (On (record { phase = Payload id r total o; depth = d })) ≡ fedIn (call base (reading d (inPayload id (rawSort r) total o)) c)
-unfolding call scan fedIn statusOf verdictSo
+pub no-bytes : (d id : ℕ) (r : RawType) (total o : ℕ) (c : List ℕ) → length c ≡ 0 → record { read = 0; answer = Answers.Status Incomplete; stream = record { phase = Payload id r total o; depth = d } } ≡ fedIn (call base (reading d (inPayload id (rawSort r) total o)) c)
+unfolding call scan fedIn machine.ending machine.judge
 no-bytes d id Raws.Str total o [] h = refl
 no-bytes d id Raws.Blob total o [] h = refl
 no-bytes d id r total o (b ∷ bs) h = absurd (omega arith)

@@ -44,7 +44,7 @@ next-keeps (suc zero) d P h l f = (l, sound-start)
 next-keeps (suc (suc n)) d P h l f = (l, f (suc n) (omega arith))
 
 -- a header is whole
-wire-keeps : (d id : ℕ) (w : Wire) → d ≤ 255 → id ≤ 2147483647 → Kept (atWire base d id w)
+pub wire-keeps : (d id : ℕ) (w : Wire) → d ≤ 255 → id ≤ 2147483647 → Kept (atWire base d id w)
 wire-keeps d id T-unsigned l h = (l, ((h, (lit≤ tt, sound-start)), refl))
 wire-keeps d id T-signed l h = (l, ((h, (lit≤ tt, sound-start)), refl))
 wire-keeps d id T-fixlen l h = (l, ((h, sound-start), refl))
@@ -67,7 +67,7 @@ bytes-pos : (w : Width) → 0 < bytesOf w
 bytes-pos fp32 = lit< tt
 bytes-pos fp64 = lit< tt
 
-subtype-keeps : (d id n : ℕ) (s : Subtyped) → d ≤ 255 → id ≤ 2147483647 → Kept (atSubtype base d id n s)
+pub subtype-keeps : (d id n : ℕ) (s : Subtyped) → d ≤ 255 → id ≤ 2147483647 → Kept (atSubtype base d id n s)
 subtype-keeps d id n (known (float w)) l h =
     by-test Kept (eqb n (bytesOf w)) (λ q. (λ n. refl, (l, (h, (lit≤ tt, (bytes-pos w, lit< tt)))))) (λ q. tt)
 subtype-keeps d id n (known (raw r)) l h = by-test Kept (leb n 2147483647) (λ q. payload-keeps d id r n l h (leb-true _ _ q)) (λ q. tt)

@@ -34,14 +34,14 @@ use Rattle.istream.proofs.Phase.{the-type}
 
 -- ---- the test of a state, and what it says
 
-both : (x y : Bool) → (x && y) ≡ true → (x ≡ true) × (y ≡ true)
+pub both : (x y : Bool) → (x && y) ≡ true → (x ≡ true) × (y ≡ true)
 both true y e = (refl, e)
 both false y e = let z : _≡_ {A = ℕ} 0 1 = cc in absurd (omega arith)
 
 join : {x y : Bool} → x ≡ true → y ≡ true → (x && y) ≡ true
 join e f = simp (e, f)
 
-phase-is : (d : ℕ) (p : Phase) → d ≤ 255 → soundPhase p ≡ true → SoundState (stateAt d p)
+pub phase-is : (d : ℕ) (p : Phase) → d ≤ 255 → soundPhase p ≡ true → SoundState (stateAt d p)
 phase-is d (Header a) l e = (l, varint.is-sound a e)
 phase-is d (Unsigned id left a) l e = let (i, f) = both _ _ e in let (c, s) = both _ _ f in (l, (leb-true _ _ i, (leb-true _ _ c, varint.is-sound a s)))
 phase-is d (Signed id left a) l e = let (i, f) = both _ _ e in let (c, s) = both _ _ f in (l, (leb-true _ _ i, (leb-true _ _ c, varint.is-sound a s)))

@@ -1,2 +1,3 @@
 pub mod Stream
 pub mod Sound
+pub mod AtOnce

@@ -3,7 +3,7 @@
 // a payload is its bounds in the chunk.
 ghost use mathlib.Core.Path.{_≡_};
 ghost use mathlib.Core.Bool.{_&&_};
-ghost use Prim.Native.Nat.{_+_, _-_, _^_, _<_};
+ghost use Prim.Native.Nat.{_+_, _-_, _^_, _<_, _≤_};
 ghost use Rattle.layout.specs.Limits.{base};
 ghost use Rattle.layout.specs.Field.{bytesOf, wireOf, subtypeOf, T-begin, T-end, known, float, raw};
 ghost use Rattle.layout.specs.Event.{Float};
@@ -12,8 +12,9 @@ ghost use Rattle.machine.specs.Call.{reading, fresh, call};
 ghost use Rattle.event.specs.Event.{declared};
 ghost use Rattle.types.specs.Types.{width, rawSort};
 ghost use Rattle.varint.specs.Varint.{Sound, soundAcc};
-ghost use Rattle.istream.specs.Stream.{stateOf, phaseIn, streamIn, idIn, countIn, soundPhase, soundStream, stepped, stepOn, statusOf, stopped, pieceIn, fedIn, fedOf, takenOf};
+ghost use Rattle.istream.specs.Stream.{stateOf, phaseIn, streamAt, streamIn, idIn, countIn, soundPhase, soundStream, stepped, stepOn, statusOf, stopped, pieceIn, fedIn, fedOf, takenOf};
 ghost use Rattle.istream.specs.Sound.{AtBytes};
+ghost use Rattle.istream.specs.AtOnce.{Stands, Right, raisedOf, onward};
 use event::Bounds;
 use event::Event;
 use event::fp32;
@@ -94,6 +95,15 @@ fn idle() -> Phase
     ensures { λ r. ⌜ r ≡ phaseIn idle ⌝ }
 {
     Phase::Header(Acc { value: 0, taken: 0 })
+}
+
+fn between(depth: u8) -> IStream
+    ensures { λ r. ⌜ r ≡ streamAt depth idle ⌝ }
+{
+    IStream {
+        phase: idle(),
+        depth,
+    }
 }
 
 // The elements left of an array come next; or, where none is left, the next field.
@@ -637,13 +647,14 @@ fn payload(depth: u8, id: u32, r: RawType, total: u32, offset: u32, chunk: &[u8]
     let len = chunk.len();
     let owed = (total - offset) as usize;
     if len == 0 {
-        return stop(
-            0,
-            Stepped::On(IStream {
+        return Fed {
+            read: 0,
+            answer: Answer::Status(Status::Incomplete),
+            stream: IStream {
                 phase: Phase::Payload(id, r, total, offset),
                 depth,
-            }),
-        );
+            },
+        };
     }
     if len < owed {
         return Fed {
@@ -662,6 +673,154 @@ fn payload(depth: u8, id: u32, r: RawType, total: u32, offset: u32, chunk: &[u8]
             phase: idle(),
             depth,
         },
+    }
+}
+
+// ---- what stands whole in the chunk, read at once
+
+// A varint's value and the place after it; or it doesn't stand whole in the chunk, or is broken.
+enum Found {
+    Whole(u64, usize),
+    Other,
+}
+
+// The state after a call, its event and the bytes read; or what the call comes to isn't found at once. The bytes read stand last: with the
+// state's depth there, the compiler leaves both it and the event's mark in memory.
+enum Quick {
+    Done(IStream, Event, usize),
+    Other,
+}
+
+// Any varint.
+fn long_varint(chunk: &[u8], at: usize) -> Found
+    ensures { λ r. ⌜ Stands (now (chunk .entry)) at r ⌝ }
+{
+    let mut acc = Acc::new();
+    let mut i = at;
+    while i < chunk.len() {
+        let p = acc.push(chunk[i]);
+        match p {
+            Push::More(more) => {
+                acc = more;
+                i += 1;
+            }
+            Push::Value(v) => {
+                return Found::Whole(v, i + 1);
+            }
+            Push::Overlong => {
+                return Found::Other;
+            }
+        }
+    }
+    Found::Other
+}
+
+// Most varints are one byte or two. The longer ones are read at two places, so that the compiler keeps their loop out of line.
+fn varint(chunk: &[u8], at: usize) -> Found
+    ensures { λ r. ⌜ Stands (now (chunk .entry)) at r ⌝ }
+{
+    if chunk.len() <= at {
+        return Found::Other;
+    }
+    let p = Acc::new().push(chunk[at]);
+    if let Push::Value(v) = p {
+        return Found::Whole(v, at + 1);
+    }
+    let Push::More(a) = p else {
+        return Found::Other;
+    };
+    if chunk.len() <= at + 1 {
+        return long_varint(chunk, at);
+    }
+    let q = a.push(chunk[at + 1]);
+    if let Push::Value(v) = q {
+        return Found::Whole(v, at + 2);
+    }
+    long_varint(chunk, at)
+}
+
+// A call that reads n bytes and stops at an event.
+fn done(n: usize, e: Event, stream: IStream) -> Quick
+    ensures { λ r. ⌜ r ≡ raisedOf n (Stepped.Raised e stream) ⌝ }
+{
+    Quick::Done(stream, e, n)
+}
+
+// The same where a byte, the nth of the chunk, may have raised one.
+fn raised(n: usize, s: Stepped) -> Quick
+    ensures { λ r. ⌜ r ≡ raisedOf n s ⌝ }
+{
+    let Stepped::Raised(e, stream) = s else {
+        return Quick::Other;
+    };
+    done(n, e, stream)
+}
+
+// An element, or the scalar after a header.
+fn unsigned_at(depth: u8, id: u32, left: u32, chunk: &[u8]) -> Quick
+    ensures { λ r. ⌜ Right r (fedIn (call base (reading depth (inUnsigned id left 0 0)) (now (chunk .entry)))) ⌝ }
+{
+    let found = varint(chunk, 0);
+    let Found::Whole(v, n) = found else {
+        return Quick::Other;
+    };
+    let stream = IStream {
+        phase: unsigneds(id, less(left)),
+        depth,
+    };
+    done(n, Event::Unsigned(id, v), stream)
+}
+
+fn signed_at(depth: u8, id: u32, left: u32, chunk: &[u8]) -> Quick
+    ensures { λ r. ⌜ Right r (fedIn (call base (reading depth (inSigned id left 0 0)) (now (chunk .entry)))) ⌝ }
+{
+    let found = varint(chunk, 0);
+    let Found::Whole(v, n) = found else {
+        return Quick::Other;
+    };
+    let stream = IStream {
+        phase: signeds(id, less(left)),
+        depth,
+    };
+    done(n, Event::Signed(id, zigzag_decode(v)), stream)
+}
+
+// What follows a header of this type, at a place of the chunk.
+fn value_at(depth: u8, id: u32, wire: u8, chunk: &[u8], at: usize) -> Quick
+    requires { ⌜ id ≤ base .id ⌝ }
+    ensures { λ r. ⌜ Right r (fedIn (onward (now (chunk .entry)) at (atWire base depth id (wireOf wire)))) ⌝ }
+{
+    let found = varint(chunk, at);
+    let Found::Whole(v, n) = found else {
+        return Quick::Other;
+    };
+    match wire {
+        0 => done(n, Event::Unsigned(id, v), between(depth)),
+        1 => done(n, Event::Signed(id, zigzag_decode(v)), between(depth)),
+        2 => raised(n, fixlen(depth, id, v / 8, (v % 8) as u8)),
+        _ => Quick::Other,
+    }
+}
+
+// A whole field, or the part of it up to its first event.
+fn field_at(depth: u8, chunk: &[u8]) -> Quick
+    ensures { λ r. ⌜ Right r (fedIn (call base (reading depth idle) (now (chunk .entry)))) ⌝ }
+{
+    let found = varint(chunk, 0);
+    let Found::Whole(h, n) = found else {
+        return Quick::Other;
+    };
+    let whole = h / 8;
+    if (ID_MAX as u64) < whole {
+        return Quick::Other;
+    }
+    let id = whole as u32;
+    let wire = (h % 8) as u8;
+    match wire {
+        5 => Quick::Other,
+        6 => raised(n, sequence_begin(depth, id)),
+        7 => raised(n, sequence_end(depth)),
+        _ => value_at(depth, id, wire, chunk, n),
     }
 }
 
@@ -714,8 +873,8 @@ impl IStream {
         }
     }
 
-    // Reads on to the next event, or to the chunk's end and the verdict.
-    pub fn feed(self, chunk: &[u8]) -> Fed
+    // A call from any state, byte by byte.
+    fn plain(self, chunk: &[u8]) -> Fed
         ensures { λ r. ⌜ r ≡ fedOf self (now (chunk .entry)) ⌝ }
     {
         let phase = self.phase;
@@ -745,6 +904,125 @@ impl IStream {
             _ => scan(self, chunk),
         }
     }
+
+    // A call that finds a field or an element whole in the chunk, from a state that has taken no byte of it.
+    fn quick(self, chunk: &[u8]) -> Quick
+        ensures { λ r. ⌜ Right r (fedOf self (now (chunk .entry))) ⌝ }
+    {
+        let phase = self.phase;
+        let depth = self.depth;
+        match phase {
+            Phase::Header(a) => {
+                if a.taken == 0 {
+                    if a.sound() {
+                        return field_at(depth, chunk);
+                    }
+                }
+                Quick::Other
+            }
+            Phase::Unsigned(id, left, a) => {
+                if a.taken == 0 {
+                    if sound_varint(id, left, a) {
+                        return unsigned_at(depth, id, left, chunk);
+                    }
+                }
+                Quick::Other
+            }
+            Phase::Signed(id, left, a) => {
+                if a.taken == 0 {
+                    if sound_varint(id, left, a) {
+                        return signed_at(depth, id, left, chunk);
+                    }
+                }
+                Quick::Other
+            }
+            _ => Quick::Other,
+        }
+    }
+
+    // Reads on to the next event, or to the chunk's end and the verdict.
+    pub fn feed(self, chunk: &[u8]) -> Fed
+        ensures { λ r. ⌜ r ≡ fedOf self (now (chunk .entry)) ⌝ }
+    {
+        let phase = self.phase;
+        let depth = self.depth;
+        if let Phase::Payload(id, r, total, offset) = phase {
+            if sound_payload(id, r, total, offset) {
+                return payload(depth, id, r, total, offset, chunk);
+            }
+        }
+        let q = self.quick(chunk);
+        let Quick::Done(stream, e, n) = q else {
+            return again(self, chunk);
+        };
+        Fed {
+            read: n,
+            answer: Answer::Event(e),
+            stream,
+        }
+    }
+}
+
+// The same, made anew from its numbers.
+fn acc_anew(a: Acc) -> Acc
+    ensures { λ r. ⌜ r ≡ a ⌝ }
+{
+    Acc {
+        value: a.value,
+        taken: a.taken,
+    }
+}
+
+fn anew(phase: Phase) -> Phase
+    ensures { λ r. ⌜ r ≡ phase ⌝ }
+{
+    match phase {
+        Phase::Header(a) => Phase::Header(acc_anew(a)),
+        Phase::Unsigned(id, left, a) => Phase::Unsigned(id, left, acc_anew(a)),
+        Phase::Signed(id, left, a) => Phase::Signed(id, left, acc_anew(a)),
+        Phase::Word(id, a) => Phase::Word(id, acc_anew(a)),
+        Phase::UnsignedCount(id, a) => Phase::UnsignedCount(id, acc_anew(a)),
+        Phase::SignedCount(id, a) => Phase::SignedCount(id, acc_anew(a)),
+        Phase::FloatCount(id, a) => Phase::FloatCount(id, acc_anew(a)),
+        Phase::ArrayWord(id, count, a) => Phase::ArrayWord(id, count, acc_anew(a)),
+        Phase::Float(id, w, left, k, v) => Phase::Float(id, w, left, k, v),
+        Phase::Payload(id, r, total, offset) => Phase::Payload(id, r, total, offset),
+        Phase::Empty(id, r) => Phase::Empty(id, r),
+        Phase::Broken => Phase::Broken,
+    }
+}
+
+fn fed_anew(f: Fed) -> Fed
+    ensures { λ r. ⌜ r ≡ f ⌝ }
+{
+    let answer = f.answer;
+    let stream = f.stream;
+    let phase = stream.phase;
+    Fed {
+        read: f.read,
+        answer,
+        stream: IStream {
+            phase: anew(phase),
+            depth: stream.depth,
+        },
+    }
+}
+
+// The plain call, out of line: it stands at two places, and the state goes in and comes back as a copy made anew from its numbers. So the
+// state of a loop over `feed` need not stand in memory, with its padding, for this call's sake.
+fn again(stream: IStream, chunk: &[u8]) -> Fed
+    ensures { λ r. ⌜ r ≡ fedOf stream (now (chunk .entry)) ⌝ }
+{
+    let phase = stream.phase;
+    let depth = stream.depth;
+    let copy = IStream {
+        phase: anew(phase),
+        depth,
+    };
+    if depth == 0 {
+        return fed_anew(copy.plain(chunk));
+    }
+    fed_anew(copy.plain(chunk))
 }
 
 // A call's answer, and beside it the reader after the call.

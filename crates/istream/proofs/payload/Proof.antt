@@ -1,5 +1,4 @@
 -- `istream::payload` meets its contract: no byte, a part, or the rest.
-use mathlib.Core.Path.{_∙_}
 use Rattle.istream.proofs.Calls.{no-bytes, part-read, rest-read}
 use borrow.Author.Needs.{needs}
 use Rattle.istream.proofs.payload.Statement.{statement}
@@ -11,21 +10,18 @@ sub-owed c = search needs
 cast-owed : tie.Need-cast-owed
 cast-owed c = search needs
 
-stop-requires : tie.Need-stop-requires
-stop-requires c κs = search needs
-
 returns : tie.Need-returns
 returns c =
-    c .stop .ensures ∙ no-bytes (c .before .before .before .args .depth) (c .before .before .before .args .id) (c .before .before .before .args .r) (c .before .before .before .args .total) (c .before .before .before .args .offset) (c .before .before .before .args .chunk .now) (c .before .if1 .taken)
+    no-bytes (c .before .before .args .depth) (c .before .before .args .id) (c .before .before .args .r) (c .before .before .args .total) (c .before .before .args .offset) (c .before .before .args .chunk .now) (c .if1 .taken)
 
 piece-requires : tie.Need-piece-requires
 piece-requires c κs = search needs
 
-cast-t16 : tie.Need-cast-t16
-cast-t16 c = search needs
+cast-t17 : tie.Need-cast-t17
+cast-t17 c = search needs
 
-add-t17 : tie.Need-add-t17
-add-t17 c = search needs
+add-t18 : tie.Need-add-t18
+add-t18 c = search needs
 
 returns-2 : tie.Need-returns-2
 returns-2 c =
@@ -47,11 +43,10 @@ payload-spec =
     (tie.spec
     sub-owed
     cast-owed
-    stop-requires
     returns
     piece-requires
-    cast-t16
-    add-t17
+    cast-t17
+    add-t18
     returns-2
     piece-requires-2
     idle-requires

@@ -1,78 +1,60 @@
--- `istream::IStream::feed` meets its contract: refused as unsound, a payload, an empty piece that is due, broken, or byte by byte.
-use mathlib.Core.Path.{refl, sym, ap, _∙_, subst}
-use mir.Syntax.{w8}
+-- `istream::IStream::feed` meets its contract: a piece, at once, or by the plain call.
+use Rattle.istream.proofs.AtOnce.{payload-owed, from-payload}
+use Rattle.istream.specs.AtOnce.{Right}
+use Rattle.istream.specs.Stream.{fedOf}
+use Rattle.istream.specs.declared.Quick.{Quick}
+use mathlib.Core.Path.{sym, _∙_, subst}
 use mir.Val.{Fits}
-use borrow.Author.Tests.{not-true, not-false}
-use Rattle.istream.specs.declared.Phase.{Phase}
-use Rattle.istream.specs.Stream.{stateAt, stateOf}
-use Rattle.istream.specs.Sound.{SoundState}
-use Rattle.istream.proofs.Laws.{is-sound, at-bytes, fed-sound, fed-broken, fed-unsound, owed-piece, live-bytes}
+use mir.Syntax.{w8}
 use borrow.Author.Needs.{needs}
 use Rattle.istream.proofs.IStream.feed.Statement.{statement}
 use Rattle.istream.proofs.IStream.feed.Tie as tie
 
-sound-requires : tie.Need-sound-requires
-sound-requires c κs = search needs
-
-returns : tie.Need-returns
-returns c =
-    let f : Fits w8 (c .before .before .before .args .self .depth) = search needs in
-    fed-unsound (c .before .before .before .args .self) (c .before .before .before .args .chunk .now) (f .fits) (sym (c .before .sound .ensures) ∙ not-true _ (c .if1 .taken))
-
 enum-known-phase : tie.Need-enum-known-phase
 enum-known-phase c = search needs
 
+sound-payload-requires : tie.Need-sound-payload-requires
+sound-payload-requires c κs = search needs
+
 payload-requires : tie.Need-payload-requires
 payload-requires c κs =
-    subst (λ (p : Phase). SoundState (stateAt (c .before .before .before .before .before .before .args .self .depth) p)) (c .before .phase .given .1) (is-sound (c .before .before .before .before .before .before .args .self) (sym (c .before .before .before .before .sound .ensures) ∙ not-false _ (c .before .before .before .if1 .left))) .1 .1 .1
+    payload-owed (c .before .before .before .phase .given .0 .0) (c .before .before .before .phase .given .0 .1 .0) _ _ (sym (c .before .sound-payload .ensures) ∙ c .if1 .taken)
 
-enum-known-phase-2 : tie.Need-enum-known-phase-2
-enum-known-phase-2 c = search needs
+returns : tie.Need-returns
+returns c =
+    let f : Fits w8 (c .before .before .before .before .before .before .before .args .self .depth) = search needs in
+    from-payload (c .before .before .before .before .before .before .before .args .self) (c .before .before .before .before .before .before .before .args .chunk .now) _ _ _ _ (c .payload .result) (f .fits) (c .before .before .before .before .phase .given .1) (sym (c .before .before .sound-payload .ensures) ∙ c .before .if1 .taken) (c .payload .ensures)
 
-piece-requires : tie.Need-piece-requires
-piece-requires c κs = search needs
+quick-requires : tie.Need-quick-requires
+quick-requires c κs = search needs
 
-idle-requires : tie.Need-idle-requires
-idle-requires c κs = search needs
+enum-known-q : tie.Need-enum-known-q
+enum-known-q c = search needs
 
 enum-told : tie.Need-enum-told
 enum-told c = search needs
 
-scan-requires : tie.Need-scan-requires
-scan-requires c κs =
-    at-bytes (c .before .before .before .before .args .self) (sym (c .before .before .sound .ensures) ∙ not-false _ (c .before .if1 .left)) (c .match .keys4)
+again-requires : tie.Need-again-requires
+again-requires c κs = search needs
 
 returns-2 : tie.Need-returns-2
-returns-2 c =
-    c .payload .ensures ∙ fed-sound (c .before .before .before .before .before .before .before .args .self) _ (c .before .before .before .before .before .before .before .args .chunk .now) (ap (λ (p : Phase). stateAt (c .before .before .before .before .before .before .before .args .self .depth) p) (c .before .before .phase .given .1)) tt (sym (c .before .before .before .before .before .sound .ensures) ∙ not-false _ (c .before .before .before .before .if1 .left))
+returns-2 c = search needs
 
 returns-3 : tie.Need-returns-3
 returns-3 c =
-    owed-piece (c .before .before .before .before .before .before .before .before .args .self .depth) (c .before .before .before .phase2 .given .0 .0) (c .before .before .before .phase2 .given .0 .1 .0) (c .before .before .before .before .before .before .before .before .args .chunk .now) (c .before .piece .result) (c .idle .result) (c .before .piece .ensures) (c .idle .ensures) ∙ fed-sound (c .before .before .before .before .before .before .before .before .args .self) _ (c .before .before .before .before .before .before .before .before .args .chunk .now) (ap (λ (p : Phase). stateAt (c .before .before .before .before .before .before .before .before .args .self .depth) p) (c .before .before .before .phase2 .given .1)) tt (sym (c .before .before .before .before .before .before .sound .ensures) ∙ not-false _ (c .before .before .before .before .before .if1 .left))
-
-returns-4 : tie.Need-returns-4
-returns-4 c =
-    fed-broken (c .before .before .before .before .before .args .self) (c .before .before .before .before .before .args .chunk .now) (c .enum-told .given .1)
-
-returns-5 : tie.Need-returns-5
-returns-5 c =
-    let b = at-bytes (c .before .before .before .before .before .args .self) (sym (c .before .before .before .sound .ensures) ∙ not-false _ (c .before .before .if1 .left)) (c .before .match .keys4) in
-    c .scan .ensures ∙ fed-sound (c .before .before .before .before .before .args .self) (stateOf (c .before .before .before .before .before .args .self)) (c .before .before .before .before .before .args .chunk .now) refl (live-bytes (stateOf (c .before .before .before .before .before .args .self)) b) (sym (c .before .before .before .sound .ensures) ∙ not-false _ (c .before .before .if1 .left))
+    subst (λ (x : Quick). Right x (fedOf (c .before .before .before .before .before .before .args .self) (c .before .before .before .before .before .before .args .chunk .now))) (c .before .q .given .1) (c .before .before .before .quick .ensures)
 
 pub feed-spec : {M : Type 1} → statement M
 feed-spec =
     tie.close
     (tie.spec
-    sound-requires
-    returns
     enum-known-phase
+    sound-payload-requires
     payload-requires
-    enum-known-phase-2
-    piece-requires
-    idle-requires
+    returns
+    quick-requires
+    enum-known-q
     enum-told
-    scan-requires
+    again-requires
     returns-2
-    returns-3
-    returns-4
-    returns-5)
+    returns-3)

@@ -1,6 +1,8 @@
 -- `emit::put_fittings`: at each turn, the elements from the i-th on are left to write, and there is room for each.
-use Prim.Native.Nat.{ℕ, _-_}
-use mathlib.Core.Path.{refl}
+use Prim.Native.Nat.{ℕ, _+_, _-_, _*_, _≤_, _<_}
+use mathlib.Core.Path.{_≡_, refl, sym, ap, _∙_, subst}
+use mathlib.Core.List.{List}
+use native.Mathlib.Omega.{arith}
 use borrow.Author.Needs.{needs}
 use lib.ListN.{length, getD}
 use Rattle.layout.specs.Varint.{shortest}
@@ -13,41 +15,96 @@ use Rattle.emit.proofs.put_fittings.Lts as lts
 use Rattle.emit.proofs.put_fitting.Reads as put-fitting-reads
 
 abbrev Inv-loop : tie.InvT-loop
-Inv-loop buf₀ pos items at₀ i₀ buf at i = Roomy shortest 10 items buf₀ pos buf at i
+Inv-loop buf₀ pos items at₀ i₀ buf at i = Roomy shortest 10 items buf₀ pos buf at i × (i ≤ length items)
 
 abbrev μ-loop : tie.MeasureT-loop
 μ-loop buf₀ pos items at₀ i₀ buf at i = length items - i
 
+-- one element more
+first : (c : tie.After-put-fitting Inv-loop μ-loop) → Roomy shortest 10 (c .before .before .before .before .before .before .before .before .args .items .now) (c .before .before .before .before .before .before .before .before .args .buf .now) (c .before .before .before .before .before .before .before .before .args .pos) (c .put-fitting .last .0) (c .put-fitting .result) (c .before .before .before .before .before .loop .i + 1)
+first c =
+    let l = c .before .before .before .before .before .loop in
+    let t = c .before .before .before .before .loop-test .taken in
+    let v : ℕ = getD (c .before .before .before .before .before .before .before .before .args .items .now) (l .i) 0 in
+    roomy-next _ _ _ _ _ _ _ _ (l .inv .0) 0 _ _ _ (omega arith) refl (length-64 v (c .before .before .before .shared-slice-known2 .given (l .i) .fits)) (c .put-fitting .ensures)
+
+last : (c : tie.After-put-fitting3 Inv-loop μ-loop) → Roomy shortest 10 (c .before .before .before .before .before .before .before .before .args .items .now) (c .before .before .before .before .before .before .before .before .args .buf .now) (c .before .before .before .before .before .before .before .before .args .pos) (c .put-fitting3 .last .0) (c .put-fitting3 .result) (c .before .before .before .before .before .loop .i + 1)
+last c =
+    let l = c .before .before .before .before .before .loop in
+    let v : ℕ = getD (c .before .before .before .before .before .before .before .before .args .items .now) (l .i) 0 in
+    roomy-next _ _ _ _ _ _ _ _ (l .inv .0) 0 _ _ _ (c .before .before .before .if1 .taken) refl (length-64 v (c .before .before .shared-slice-known4 .given (l .i) .fits)) (c .put-fitting3 .ensures)
+
 loop-holds : tie.Need-loop-holds Inv-loop μ-loop
-loop-holds c = roomy-start _ _ _ _ _ (c .before .before .pre)
+loop-holds c = (roomy-start _ _ _ _ _ (c .before .before .pre), omega arith)
+
+sub-loop : tie.Need-sub-loop Inv-loop μ-loop
+sub-loop c = let h = c .loop .inv .1 in search needs
 
 mul-v : tie.Need-mul-v Inv-loop μ-loop
 mul-v c = search needs
 
 shared-slice-read-v : tie.Need-shared-slice-read-v Inv-loop μ-loop
-shared-slice-read-v c = search needs
+shared-slice-read-v c = let t = c .before .loop-test .taken in omega arith
+
+add-w : tie.Need-add-w Inv-loop μ-loop
+add-w c = let t = c .before .loop-test .taken in record { fits = omega arith }
+
+mul-w : tie.Need-mul-w Inv-loop μ-loop
+mul-w c = search needs
+
+shared-slice-read-w : tie.Need-shared-slice-read-w Inv-loop μ-loop
+shared-slice-read-w c = let t = c .before .before .loop-test .taken in omega arith
 
 put-fitting-requires : tie.Need-put-fitting-requires Inv-loop μ-loop
-put-fitting-requires c κs = let l = c .before .before .before .loop in roomy-here _ _ _ _ _ _ _ _ (l .inv) (c .before .before .loop-test .taken)
+put-fitting-requires c κs = let l = c .before .before .before .before .loop in let t = c .before .before .before .loop-test .taken in roomy-here _ _ _ _ _ _ _ _ (l .inv .0) (omega arith)
+
+put-fitting-requires-2 : tie.Need-put-fitting-requires-2 Inv-loop μ-loop
+put-fitting-requires-2 c κs = let t = c .before .before .before .before .before .before .before .loop-test .taken in roomy-here _ _ _ _ _ _ _ _ (first (c .before .before .before)) (omega arith)
 
 add-i : tie.Need-add-i Inv-loop μ-loop
-add-i c = search needs
+add-i c = let t = c .before .before .before .before .before .before .before .before .before .before .loop-test .taken in record { fits = omega arith }
 
 loop-less : tie.Need-loop-less Inv-loop μ-loop
-loop-less c = search needs
+loop-less c = let t = c .before .before .before .before .before .before .before .before .before .before .loop-test .taken in omega arith
 
 loop-again : tie.Need-loop-again Inv-loop μ-loop
 loop-again c =
-    let l = c .before .before .before .before .before .before .loop in
-    let v : ℕ = getD (c .before .before .before .before .before .before .before .before .before .args .items .now) (l .i) 0 in
-    roomy-next _ _ _ _ _ _ _ _ (l .inv) 0 _ _ _ (c .before .before .before .before .before .loop-test .taken) refl (length-64 v (c .before .before .before .before .shared-slice-known2 .given (l .i) .fits)) (c .before .before .put-fitting .ensures)
+    let a = c .before .before .before .before .before .before .before .before .before .before .before .before .before .before .args in
+    let l = c .before .before .before .before .before .before .before .before .before .before .before .loop in
+    let t = c .before .before .before .before .before .before .before .before .before .before .loop-test .taken in
+    let v : ℕ = getD (a .items .now) (l .i + 1) 0 in
+    let n : l .i + 1 + 1 ≡ l .i + 2 = omega arith in (
+      subst (λ (k : ℕ). Roomy shortest 10 (a .items .now) (a .buf .now) (a .pos) (c .before .before .put-fitting2 .last .0) (c .before .before .put-fitting2 .result) k) n (roomy-next _ _ _ _ _ _ _ _ (first (c .before .before .before .before .before .before)) 0 _ _ _ (omega arith) refl (length-64 v (c .before .before .before .before .before .before .before .before .shared-slice-known3 .given (l .i + 1) .fits)) (c .before .before .put-fitting2 .ensures)),
+      omega arith,
+    )
+
+mul-v-2 : tie.Need-mul-v-2 Inv-loop μ-loop
+mul-v-2 c = search needs
+
+shared-slice-read-v-2 : tie.Need-shared-slice-read-v-2 Inv-loop μ-loop
+shared-slice-read-v-2 c = search needs
+
+put-fitting-requires-3 : tie.Need-put-fitting-requires-3 Inv-loop μ-loop
+put-fitting-requires-3 c κs = roomy-here _ _ _ _ _ _ _ _ (c .before .before .before .before .loop .inv .0) (c .before .before .if1 .taken)
 
 same-length : tie.Need-same-length Inv-loop μ-loop
-same-length c = c .before .loop .inv .left .size
+same-length c = last (c .before .before) .left .size
 
 returns : tie.Need-returns Inv-loop μ-loop
 returns c =
-    let w = roomy-end _ _ _ _ _ _ _ _ (c .before .loop .inv) (c .loop-test .left) in (w .0, w .1, roomy-fits _ _ _ _ _ _ _ _ (c .before .loop .inv) (c .loop-test .left))
+    let r = last (c .before .before) in
+    let t = c .before .before .before .before .before .before .loop-test .left in
+    let w = roomy-end _ _ _ _ _ _ _ _ r (omega arith) in
+    (w .0, w .1, roomy-fits _ _ _ _ _ _ _ _ r (omega arith))
+
+same-length-2 : tie.Need-same-length-2 Inv-loop μ-loop
+same-length-2 c = c .before .before .loop .inv .0 .left .size
+
+returns-2 : tie.Need-returns-2 Inv-loop μ-loop
+returns-2 c =
+    let r = c .before .before .loop .inv .0 in
+    let w = roomy-end _ _ _ _ _ _ _ _ r (c .if1 .left) in
+    (w .0, w .1, roomy-fits _ _ _ _ _ _ _ _ r (c .if1 .left))
 
 pub put-fittings-spec : {M : Type 1} → statement M
 put-fittings-spec =
@@ -56,11 +113,21 @@ put-fittings-spec =
     Inv-loop
     μ-loop
     loop-holds
+    sub-loop
     mul-v
     shared-slice-read-v
+    add-w
+    mul-w
+    shared-slice-read-w
     put-fitting-requires
+    put-fitting-requires-2
     add-i
     loop-less
     loop-again
+    mul-v-2
+    shared-slice-read-v-2
+    put-fitting-requires-3
     same-length
-    returns)
+    returns
+    same-length-2
+    returns-2)

@@ -659,8 +659,21 @@ impl OStream {
             .anew()
     }
 
-    // The same from any state and place.
+    // The same from any state and place. (Read field by field, the state need not wait until its fields are stored.)
     fn write_varint_slowly(
+        self,
+        buf: &mut [u8],
+        id: u32,
+        wire: u8,
+        value: u64,
+        place: usize,
+    ) -> Written
+        ensures { λ r. ⌜ (r ≡ called (varintCall self (length (now (buf .entry))) id wire value) self (now (buf .entry)) place) × (now (buf .exit) ≡ leaves (varintCall self (length (now (buf .entry))) id wire value) self (now (buf .entry)) place) ⌝ }
+    {
+        self.anew().write_varint_from(buf, id, wire, value, place)
+    }
+
+    fn write_varint_from(
         self,
         buf: &mut [u8],
         id: u32,
@@ -744,8 +757,22 @@ impl OStream {
             .anew()
     }
 
-    // The same from any state and place.
+    // The same from any state and place. (Read field by field, the state need not wait until its fields are stored.)
     fn write_fixlen_slowly(
+        self,
+        buf: &mut [u8],
+        id: u32,
+        bytes: &[u8],
+        subtype: FixlenType,
+        place: usize,
+    ) -> Written
+        ensures { λ r. ⌜ (r ≡ called (rawCall self (length (now (buf .entry))) id (now (bytes .entry)) subtype) self (now (buf .entry)) place) × (now (buf .exit) ≡ leaves (rawCall self (length (now (buf .entry))) id (now (bytes .entry)) subtype) self (now (buf .entry)) place) ⌝ }
+    {
+        self.anew()
+            .write_fixlen_from(buf, id, bytes, subtype, place)
+    }
+
+    fn write_fixlen_from(
         self,
         buf: &mut [u8],
         id: u32,

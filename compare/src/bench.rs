@@ -106,11 +106,31 @@ fn rust_write(kind: u32, n: usize, data: &[u8], buf: &mut [u8], out: &mut [u8]) 
         let text = |n: usize| std::str::from_utf8(&data[..n]).expect("text");
         let id = |i: usize| (i % 16) as u32;
         match kind {
-            0 => (0..n).for_each(|i| drop(os.write_unsigned(id(i), (i % 100) as u64))),
-            1 => (0..n).for_each(|i| drop(os.write_unsigned(100000, u64::MAX - (i % 1000) as u64))),
-            2 => (0..n).for_each(|i| drop(os.write_str(id(i), text(24)))),
-            3 => (0..n).for_each(|i| drop(os.write_blob(id(i), data))),
-            4 => (0..n).for_each(|i| drop(os.write_array_unsigned(id(i), &[300u64; 64]))),
+            0 => {
+                for i in 0..n {
+                    let _ = os.write_unsigned(id(i), (i % 100) as u64);
+                }
+            }
+            1 => {
+                for i in 0..n {
+                    let _ = os.write_unsigned(100000, u64::MAX - (i % 1000) as u64);
+                }
+            }
+            2 => {
+                for i in 0..n {
+                    let _ = os.write_str(id(i), text(24));
+                }
+            }
+            3 => {
+                for i in 0..n {
+                    let _ = os.write_blob(id(i), data);
+                }
+            }
+            4 => {
+                for i in 0..n {
+                    let _ = os.write_array_unsigned(id(i), &[300u64; 64]);
+                }
+            }
             5 => {
                 for i in (0..n).step_by(5) {
                     let _ = os.write_sequence_begin_lazy(1);

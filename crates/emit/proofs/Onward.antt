@@ -85,6 +85,13 @@ module _ {A : Type 0} (f : A → List ℕ) (l : List A) where
     pub out-end : length l ≤ i → Standing f l skip i left
     out-end h = record { within = w .within; sum = w .sum; short = λ (k : i < length l). absurd (omega arith) }
 
+  -- where an element is not all out, the bytes counted are fewer than all
+  pub more-than : (skip whole part : ℕ) → Standing f l skip whole part → whole < length l → skip < length (each f l)
+  more-than skip whole part w k =
+      let t = w .short k in
+      let a : length (each f l) ≡ length (each f (take (whole + 1) l)) + length (each f (drop (whole + 1) l)) = ap length (halves (whole + 1)) ∙ length-append (each f (take (whole + 1) l)) _ in
+      omega arith
+
   -- ---- a call that goes on from there
 
   module _ (c : Cursor) (b : List ℕ) (whole part : ℕ) (w : Standing f l (c .skip) whole part) where

@@ -20,4 +20,4 @@ moved c b s = record { pos = reached b (c .pos) (drop (c .skip) s); skip = c .sk
 pub record Standing {A : Type 0} (f : A → List ℕ) (l : List A) (skip whole part : ℕ) : Type 0 where
   pub within : whole ≤ length l
   pub sum : length (each f (take whole l)) + part ≡ skip
-  pub short : whole < length l → skip ≤ length (each f (take (whole + 1) l))
+  pub short : whole < length l → skip < length (each f (take (whole + 1) l))

@@ -6,7 +6,7 @@ use Prim.Native.Nat.{ℕ, zero, suc, _+_, _-_, _≤_, _<_, min}
 use native.Mathlib.Omega.{arith}
 use lib.Dec.{leb, eqb, ltb}
 use lib.ListN.{length, take, drop, length-drop}
-use borrow.Author.Tests.{leb-true, ltb-true, le-leb, lt-ltb, le-ltb, ltb-false, not-true, not-false}
+use borrow.Author.Tests.{leb-true, ltb-true, le-leb, lt-leb, lt-ltb, le-ltb, ltb-false, not-true, not-false}
 use Rattle.layout.specs.Limits.{base, pick}
 use Rattle.layout.specs.Field.{header, each, T-begin}
 use Rattle.types.specs.declared.Error.{Error}
@@ -21,7 +21,7 @@ use Rattle.ostream.specs.declared.Written.{Written}
 use Rattle.ostream.specs.declared.Check.{Check}
 use Rattle.ostream.specs.Calls.{unsound, idTooLarge, payloadTooLong, fieldTests, checkOf}
 use Rattle.ostream.specs.Stream.{every, soundStream, lazyDepth, heldBytes, zeroed, committed, at}
-use Rattle.ostream.specs.Emission.{Test, Call, Verdict, accepted, refusedWith, judged, refused, answered, left, start, calledBy, leavesBy, called, leaves}
+use Rattle.ostream.specs.Emission.{Test, Call, Verdict, accepted, refusedWith, judged, refused, answered, fullAt, left, start, calledBy, leavesBy, called, leaves}
 
 -- ---- a sound state
 
@@ -233,3 +233,13 @@ stops-short k s b place c′ b′ r j i e z h q =
       q ∙ ap (λ (n : ℕ). record { answer = Done; stream = at (k .done) n }) f ∙ sym (simp (le-ltb _ _ l, le-leb _ _ w)),
       left-emitted s b (k .output) place c′ b′ l e,
     )
+
+-- there is more of it than the place and the room
+pub goes-on : (k : Call) (s : OStream) (b : List ℕ) (place : ℕ) (c′ : Cursor) (b′ : List ℕ) (r : Written) → judged (k .tests) ≡ accepted → Emitted (start s place) b (k .output) c′ b′
+    → place + (length b - s .offset) < length (k .output) → r ≡ fullAt s (length b) place
+    → (r ≡ called k s b place) × (b′ ≡ leaves k s b place)
+unfolding answered
+goes-on k s b place c′ b′ r j e h q =
+    let l : place ≤ length (k .output) = omega arith in
+    let w : length b - s .offset < length (k .output) - place = omega arith in
+    accepts k s b place r b′ j (q ∙ sym (simp (le-ltb _ _ l, lt-leb _ _ w)), left-emitted s b (k .output) place c′ b′ l e)

@@ -56,6 +56,10 @@ left s b o place = pick (ltb (length o) place) b (put b (s .offset) (drop place 
 abbrev pub finished : OStream → ℕ → Written
 finished s end = record { answer = Done; stream = at (committed s (s .depth)) end }
 
+-- the answer of one that has filled the buffer and goes on
+abbrev pub fullAt : OStream → ℕ → ℕ → Written
+fullAt s size place = record { answer = Full (place + (size - s .offset)); stream = at s size }
+
 -- where the emission of a call's output starts
 abbrev pub start : OStream → ℕ → Cursor
 start s place = record { pos = s .offset; skip = place }

@@ -6,7 +6,9 @@ use emit::put_fitting;
 use emit::put_fitting_zigzags;
 use emit::put_fittings;
 use emit::put_rest;
+use emit::varints_go_on;
 use emit::varints_len;
+use emit::zigzags_go_on;
 use emit::zigzags_len;
 use event::fp32_bits;
 use event::fp64_bits;
@@ -39,7 +41,7 @@ ghost use Rattle.layout.specs.Zigzag.{zigzag};
 ghost use Rattle.layout.specs.Limits.{base, pick};
 ghost use Rattle.ostream.specs.Stream.{every, soundStream, heldBytes, headBytes, zeroed, committed, holding, dropped, opened, clean, roomFor, easy, holds, reachedIf, putIf};
 ghost use Rattle.emit.specs.Cursor.{placed, moved};
-ghost use Rattle.ostream.specs.Emission.{start, answered, finished, left, refused, refusedWith, judged, called, leaves};
+ghost use Rattle.ostream.specs.Emission.{start, answered, finished, fullAt, left, refused, refusedWith, judged, called, leaves};
 ghost use Rattle.ostream.specs.Buffer.{badBuffer, opening, draining, changing};
 ghost use Rattle.ostream.specs.Calls.{fieldTests, checkOf, isString, rawCall, fixlenCall, floatCall, payloadCall, unsignedArrayCall, signedArrayCall, floatArrayCall};
 ghost use Rattle.ostream.specs.Calls.{varintCall, unsignedCall, signedCall, booleanCall, beginCall, endCall, endKeepCall};
@@ -586,6 +588,19 @@ impl OStream {
         }
     }
 
+    // The answer of a call that has filled the buffer and goes on.
+    fn filled(mut self, size: usize, place: usize) -> Written
+        requires { ⌜ (self .offset ≤ size) × (place + (size - self .offset) < 18446744073709551616) ⌝ }
+        ensures { λ r. ⌜ r ≡ fullAt self size place ⌝ }
+    {
+        let out = place + (size - self.offset);
+        self.offset = size;
+        Written {
+            answer: Answer::Full(out),
+            stream: self,
+        }
+    }
+
     // The answer of a call that writes: once all is out, no id is held any more.
     fn complete(self, size: usize, total: usize, place: usize, depth: u16) -> Written
         requires { ⌜ (self .npending ≤ 8) × (self .offset ≤ size) ⌝ }
@@ -923,12 +938,16 @@ impl OStream {
         }
         let header = tagged(id, T_VARINTARRAY_UNSIGNED);
         let count = items.len() as u64;
-        let head = self.put_head(buf, header, count, place);
-        let end = head.put_varints(buf, items);
+        let start = self.put_head(buf, header, count, place);
+        let end = start.put_varints(buf, items);
         if end.skip == 0 && end.pos < size {
             return self.all_out(end.pos);
         }
-        let total = self.head_len(header, count) + varints_len(items);
+        let head = self.head_len(header, count);
+        if varints_go_on(items, head, place, size - self.offset) {
+            return self.filled(size, place);
+        }
+        let total = head + varints_len(items);
         self.complete(size, total, place, self.depth)
     }
 
@@ -987,12 +1006,16 @@ impl OStream {
         }
         let header = tagged(id, T_VARINTARRAY_SIGNED);
         let count = items.len() as u64;
-        let head = self.put_head(buf, header, count, place);
-        let end = head.put_zigzags(buf, items);
+        let start = self.put_head(buf, header, count, place);
+        let end = start.put_zigzags(buf, items);
         if end.skip == 0 && end.pos < size {
             return self.all_out(end.pos);
         }
-        let total = self.head_len(header, count) + zigzags_len(items);
+        let head = self.head_len(header, count);
+        if zigzags_go_on(items, head, place, size - self.offset) {
+            return self.filled(size, place);
+        }
+        let total = head + zigzags_len(items);
         self.complete(size, total, place, self.depth)
     }
 

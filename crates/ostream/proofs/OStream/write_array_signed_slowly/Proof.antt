@@ -1,5 +1,5 @@
 -- `ostream::OStream::write_array_signed_slowly`: the refusals, then the head and the elements.
-use Prim.Native.Nat.{ℕ, _+_, _*_, _≤_, _<_}
+use Prim.Native.Nat.{ℕ, _+_, _-_, _*_, _≤_, _<_}
 use mathlib.Core.Path.{_≡_, refl, sym, ap, _∙_}
 use mathlib.Core.List.{List, _++_}
 use native.Mathlib.Omega.{arith}
@@ -13,7 +13,7 @@ use Rattle.emit.proofs.Segments.{Emitted, respelled, joined, stays-in}
 use Rattle.ostream.specs.Stream.{heldBytes, headBytes, committed}
 use Rattle.ostream.specs.Emission.{start, accepted, judged, answered}
 use Rattle.ostream.specs.Calls.{fieldTests, signedArrayCall}
-use Rattle.ostream.proofs.Called.{Sound, refuses, sends-any, stops-short, grouped, check-passes, check-fails, check-sound, check-short}
+use Rattle.ostream.proofs.Called.{Sound, refuses, sends-any, stops-short, goes-on, grouped, check-passes, check-fails, check-sound, check-short}
 use borrow.Author.Tests.{ltb-true}
 use Rattle.emit.specs.declared.Cursor.{Cursor}
 use borrow.Author.Needs.{needs}
@@ -22,10 +22,12 @@ use Rattle.ostream.proofs.OStream.write_array_signed_slowly.Tie as tie
 use Rattle.ostream.proofs.OStream.write_array_signed_slowly.Reads as reads
 use Rattle.ostream.proofs.OStream.write_array_signed_slowly.Lts as lts
 use Rattle.emit.proofs.Cursor.put_zigzags.Reads as put-zigzags-reads
+use Rattle.emit.proofs.zigzags_go_on.Reads as zigzags-go-on-reads
 use Rattle.emit.proofs.zigzags_len.Reads as zigzags-len-reads
 use Rattle.ostream.proofs.OStream.all_out.Reads as all-out-reads
 use Rattle.ostream.proofs.OStream.check.Reads as check-reads
 use Rattle.ostream.proofs.OStream.complete.Reads as complete-reads
+use Rattle.ostream.proofs.OStream.filled.Reads as filled-reads
 use Rattle.ostream.proofs.OStream.head_len.Reads as head-len-reads
 use Rattle.ostream.proofs.OStream.put_head.Reads as put-head-reads
 use Rattle.ostream.proofs.OStream.refuse.Reads as refuse-reads
@@ -48,15 +50,15 @@ spelled c =
     ap (λ (h : ℕ). headBytes (a .self) h (length (a .items .now)) ++ each (λ z. shortest (zigzag z)) (a .items .now)) (c .tagged .ensures)
     ∙ grouped (heldBytes (a .self)) (shortest (a .id * 8 + 4)) (shortest (length (a .items .now))) (each (λ z. shortest (zigzag z)) (a .items .now))
 
-long : (c : tie.After-zigzags-len) → c .before .head-len .result + c .zigzags-len .result ≡ length (signedArrayCall (c .before .before .before .before .before .before .before .before .before .before .before .before .before .before .before .before .before .args .self) 0 (c .before .before .before .before .before .before .before .before .before .before .before .before .before .before .before .before .before .args .id) (c .before .before .before .before .before .before .before .before .before .before .before .before .before .before .before .before .before .args .items .now) .output)
+-- how long it is, by its two parts
+long : (c : tie.After-head-len) → c .head-len .result + length (each (λ z. shortest (zigzag z)) (c .before .before .before .before .before .before .before .before .before .before .before .before .before .before .before .before .args .items .now)) ≡ length (signedArrayCall (c .before .before .before .before .before .before .before .before .before .before .before .before .before .before .before .before .args .self) 0 (c .before .before .before .before .before .before .before .before .before .before .before .before .before .before .before .before .args .id) (c .before .before .before .before .before .before .before .before .before .before .before .before .before .before .before .before .args .items .now) .output)
 long c =
-    let a = c .before .before .before .before .before .before .before .before .before .before .before .before .before .before .before .before .before .args in
-    let l = c .before .head-len .ensures .0 in
-    let n = c .zigzags-len .ensures .0 in
-    let o = headBytes (a .self) (c .before .before .before .before .before .before .before .before .before .before .before .before .tagged .result) (length (a .items .now)) in
+    let a = c .before .before .before .before .before .before .before .before .before .before .before .before .before .before .before .before .args in
+    let l = c .head-len .ensures .0 in
+    let o = headBytes (a .self) (c .before .before .before .before .before .before .before .before .before .before .before .tagged .result) (length (a .items .now)) in
     let m = length-append o (each (λ z. shortest (zigzag z)) (a .items .now)) in
-    let e : c .before .head-len .result + c .zigzags-len .result ≡ length (o ++ each (λ z. shortest (zigzag z)) (a .items .now)) = omega arith in
-    e ∙ ap length (spelled (c .before .before .before .before .before .before .before .before .before .before .before .before))
+    let e : c .head-len .result + length (each (λ z. shortest (zigzag z)) (a .items .now)) ≡ length (o ++ each (λ z. shortest (zigzag z)) (a .items .now)) = omega arith in
+    e ∙ ap length (spelled (c .before .before .before .before .before .before .before .before .before .before .before))
 
 -- the whole output, emitted
 out : (c : tie.After-put-zigzags) → Emitted (start (c .before .before .before .before .before .before .before .before .before .before .before .args .self) (c .before .before .before .before .before .before .before .before .before .before .before .args .place)) (c .before .before .before .before .before .before .before .before .before .before .before .args .buf .now) (signedArrayCall (c .before .before .before .before .before .before .before .before .before .before .before .args .self) 0 (c .before .before .before .before .before .before .before .before .before .before .before .args .id) (c .before .before .before .before .before .before .before .before .before .before .before .args .items .now) .output) (c .put-zigzags .result) (c .put-zigzags .last .1 .0)
@@ -98,24 +100,43 @@ returns-2 c =
 head-len-requires : tie.Need-head-len-requires
 head-len-requires c κs = sound (c .before .before .before .before .before .before .before .before .before .before .before) .few
 
-zigzags-len-requires : tie.Need-zigzags-len-requires
-zigzags-len-requires c κs = short (c .before .before .before .before .before .before .before .before .before .before .before .before)
+sub-zigzags-go-on : tie.Need-sub-zigzags-go-on
+sub-zigzags-go-on c = let h = sound (c .before .before .before .before .before .before .before .before .before .before .before .before .before) .inside in omega arith
 
-add-total : tie.Need-add-total
-add-total c = let l = c .before .head-len .ensures .1 in let m = c .zigzags-len .ensures .1 in let n = short (c .before .before .before .before .before .before .before .before .before .before .before .before .before) in record { fits = omega arith }
+zigzags-go-on-requires : tie.Need-zigzags-go-on-requires
+zigzags-go-on-requires c κs = search needs
 
-complete-requires : tie.Need-complete-requires
-complete-requires c κs = let h = sound (c .before .before .before .before .before .before .before .before .before .before .before .before .before) in (h .few, h .inside)
+filled-requires : tie.Need-filled-requires
+filled-requires c κs = let h = sound (c .before .before .before .before .before .before .before .before .before .before .before .before .before .before .before) in (h .inside, c .before .zigzags-go-on .ensures (c .if4 .taken) .1)
 
 same-length-2 : tie.Need-same-length-2
 same-length-2 c = search needs
 
 returns-3 : tie.Need-returns-3
 returns-3 c =
-    let t = c .before .before .before .before .before .before .before .before .before .before .before .before .before .before in
+    let t = c .before .before .before .before .before .before .before .before .before .before .before .before .before .before .before .before in
+    let l = long (c .before .before .before .before) in
+    let g = c .before .before .zigzags-go-on .ensures (c .before .if4 .taken) .0 in
+    goes-on _ _ _ _ _ _ _ (verdict t) (out (c .before .before .before .before .before .before .before .before .before)) (omega arith) (c .filled .ensures)
+
+zigzags-len-requires : tie.Need-zigzags-len-requires
+zigzags-len-requires c κs = short (c .before .before .before .before .before .before .before .before .before .before .before .before .before .before .before)
+
+add-total : tie.Need-add-total
+add-total c = let l = c .before .before .before .before .head-len .ensures .1 in let m = c .zigzags-len .ensures .1 in let n = short (c .before .before .before .before .before .before .before .before .before .before .before .before .before .before .before .before) in record { fits = omega arith }
+
+complete-requires : tie.Need-complete-requires
+complete-requires c κs = let h = sound (c .before .before .before .before .before .before .before .before .before .before .before .before .before .before .before .before) in (h .few, h .inside)
+
+same-length-3 : tie.Need-same-length-3
+same-length-3 c = search needs
+
+returns-4 : tie.Need-returns-4
+returns-4 c =
+    let t = c .before .before .before .before .before .before .before .before .before .before .before .before .before .before .before .before .before in
     let a = t .before .before .before .before .args in
-    let l = long (c .before) in
-    sends-any _ _ _ _ _ _ _ (verdict t) (c .complete .ensures ∙ ap (λ (n : ℕ). answered (a .self) (length (a .buf .now)) n (a .place) (committed (a .self) (a .self .depth))) l) (out (c .before .before .before .before .before .before .before))
+    let l = ap (λ (n : ℕ). c .before .before .before .before .before .head-len .result + n) (c .before .zigzags-len .ensures .0) ∙ long (c .before .before .before .before .before) in
+    sends-any _ _ _ _ _ _ _ (verdict t) (c .complete .ensures ∙ ap (λ (n : ℕ). answered (a .self) (length (a .buf .now)) n (a .place) (committed (a .self) (a .self .depth))) l) (out (c .before .before .before .before .before .before .before .before .before .before))
 
 pub write-array-signed-slowly-spec : {M : Type 1} → statement M
 write-array-signed-slowly-spec =
@@ -131,8 +152,13 @@ write-array-signed-slowly-spec =
     same-length
     returns-2
     head-len-requires
+    sub-zigzags-go-on
+    zigzags-go-on-requires
+    filled-requires
+    same-length-2
+    returns-3
     zigzags-len-requires
     add-total
     complete-requires
-    same-length-2
-    returns-3)
+    same-length-3
+    returns-4)

@@ -2,18 +2,16 @@
 use mathlib.Core.Path.{_≡_, refl, sym, ap, _∙_, subst}
 use mathlib.Core.Bool.{true}
 use mathlib.Core.List.{List, [], _∷_, _++_, map, append-assoc}
-use Prim.Native.Nat.{ℕ, zero, suc, _+_, _-_, _*_, _≤_, _<_, min}
+use Prim.Native.Nat.{ℕ, _+_, _-_, _*_, _≤_, _<_}
 use native.Mathlib.Numerals.{add-one}
 use native.Mathlib.Nat.{mul-suc, suc-mul, zero-mul}
 use native.Mathlib.Omega.{arith}
 use lib.Dec.{leb}
-use lib.ListN.{length, take, drop, getD, length-append, length-drop, drop-of-length-le, take-append-drop}
+use lib.ListN.{length, take, drop, getD, length-append, drop-of-length-le, take-append-drop}
 use lib.Seq.{drop-cons, length-take-le}
 use borrow.Author.Tests.{leb-true}
 use Rattle.layout.specs.Field.{each}
 use Rattle.emit.specs.declared.Cursor.{Cursor}
-use Rattle.emit.specs.Put.{put, reached}
-use Rattle.emit.specs.Cursor.{placed, moved}
 use Rattle.emit.proofs.Segments.{Emitted, none-left, no-room, joined, stays-in}
 
 -- ---- the bytes of a list's elements

@@ -1,8 +1,8 @@
 -- A number's low bytes, low byte first, one by one and from a place on.
-use mathlib.Core.Path.{_≡_, refl, sym, ap, _∙_, subst}
-use mathlib.Core.List.{List, [], _∷_}
-use Prim.Native.Nat.{ℕ, zero, suc, _+_, _-_, _*_, _/_, _%_, _^_, _≤_, _<_}
-use native.Mathlib.Nat.{pow-suc, suc-mul, div-one, div-div-eq-div-mul, not-suc-le-zero, add-comm}
+use mathlib.Core.Path.{_≡_, refl, sym, ap, _∙_}
+use mathlib.Core.List.{_∷_}
+use Prim.Native.Nat.{ℕ, zero, suc, _-_, _*_, _/_, _%_, _^_, _≤_, _<_}
+use native.Mathlib.Nat.{suc-mul, div-one, div-div-eq-div-mul, not-suc-le-zero, add-comm}
 use native.Mathlib.Omega.{arith}
 use lib.ListN.{length, drop}
 use lib.Pow.{pow-add}

@@ -1,9 +1,12 @@
 -- An array's output that goes on from a place: how many of its elements are out, and a loop that writes the others until the buffer is
 -- full.
-use mathlib.Core.Path.{_≡_, sym, ap, _∙_, subst}
+use mathlib.Core.Path.{_≡_, refl, sym, ap, _∙_, subst}
 use mathlib.Core.List.{List, _++_}
 use Prim.Native.Nat.{ℕ, _+_, _-_, _≤_, _<_}
 use native.Mathlib.Omega.{arith}
+use mathlib.Core.Bool.{Bool, true, false}
+use lib.Dec.{ltb}
+use borrow.Author.Tests.{ltb-true, ltb-false, lt-ltb, le-ltb}
 use lib.ListN.{length, take, drop, getD, length-append, take-append-drop}
 use lib.Seq.{take-all}
 use Rattle.layout.specs.Field.{each}
@@ -91,6 +94,21 @@ module _ {A : Type 0} (f : A → List ℕ) (l : List A) where
       let t = w .short k in
       let a : length (each f l) ≡ length (each f (take (whole + 1) l)) + length (each f (drop (whole + 1) l)) = ap length (halves (whole + 1)) ∙ length-append (each f (take (whole + 1) l)) _ in
       omega arith
+
+  -- where all are out, they are not more
+  pub no-more : (skip whole part : ℕ) → Standing f l skip whole part → length l ≤ whole → length (each f l) ≤ skip
+  no-more skip whole part w h =
+      let e : length (each f (take whole l)) ≡ length (each f l) = ap (λ (k : List A). length (each f k)) (take-all whole l h) in
+      let s : length (each f (take whole l)) + part ≡ skip = w .sum in
+      omega arith
+
+  -- so whether they go on is whether one of them is not all out
+  pub goes-beyond : (head out whole part : ℕ) → head ≤ out → Standing f l (out - head) whole part → ltb whole (length l) ≡ ltb out (head + length (each f l))
+  goes-beyond head out whole part h w = go (ltb whole (length l)) refl
+    where
+      go : (t : Bool) → ltb whole (length l) ≡ t → t ≡ ltb out (head + length (each f l))
+      go true e = let m = more-than (out - head) whole part w (ltb-true _ _ e) in sym (lt-ltb out (head + length (each f l)) (omega arith))
+      go false e = let m = no-more (out - head) whole part w (ltb-false _ _ e) in sym (le-ltb out (head + length (each f l)) (omega arith))
 
   -- ---- a call that goes on from there
 

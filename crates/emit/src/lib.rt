@@ -2,8 +2,9 @@
 // A call that goes on from a place skips the bytes that are out already. Every write stops at the buffer's end, so a call may emit
 // all its segments with no test between them; how much went follows from the lengths.
 ghost use mathlib.Core.Path.{_≡_};
-ghost use mathlib.Core.Bool.{true};
-ghost use Prim.Native.Nat.{_+_, _-_, _*_, _≤_, _<_, min};
+ghost use mathlib.Core.Bool.{_&&_};
+ghost use lib.Dec.{ltb};
+ghost use Prim.Native.Nat.{_+_, _-_, _*_, _≤_, min};
 ghost use lib.ListN.{length, drop};
 use event::fp32_bits;
 use event::fp64_bits;
@@ -215,10 +216,10 @@ fn zigzags_out(items: &[i64], skip: usize) -> Out
     }
 }
 
-// Whether an output of `head` bytes and an unsigned array's elements surely goes on after the place and `room` bytes more. It looks at
-// no element that is not reached; "no" may also be said where the sum is too large for a number, which no output is.
+// Whether an output of `head` bytes and an unsigned array's elements goes on after the place and `room` bytes more. No element beyond
+// those is looked at. A sum that is no machine number is answered "no": no output is so long.
 pub fn varints_go_on(items: &[u64], head: usize, place: usize, room: usize) -> bool
-    ensures { λ r. ⌜ (r ≡ true → (place + room < head + length (each shortest (now (items .entry)))) × (place + room < 18446744073709551616)) ⌝ }
+    ensures { λ r. ⌜ r ≡ (ltb (place + room) 18446744073709551616 && ltb (place + room) (head + length (each shortest (now (items .entry))))) ⌝ }
 {
     if usize::MAX - place < room {
         return false;
@@ -232,7 +233,7 @@ pub fn varints_go_on(items: &[u64], head: usize, place: usize, room: usize) -> b
 
 // The same of a signed array's.
 pub fn zigzags_go_on(items: &[i64], head: usize, place: usize, room: usize) -> bool
-    ensures { λ r. ⌜ (r ≡ true → (place + room < head + length (each (λ z. shortest (zigzag z)) (now (items .entry)))) × (place + room < 18446744073709551616)) ⌝ }
+    ensures { λ r. ⌜ r ≡ (ltb (place + room) 18446744073709551616 && ltb (place + room) (head + length (each (λ z. shortest (zigzag z)) (now (items .entry))))) ⌝ }
 {
     if usize::MAX - place < room {
         return false;

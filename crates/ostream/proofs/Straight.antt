@@ -1,13 +1,13 @@
 -- Writing straight away: what the tests of a field that holds nothing say, and a write that is made only where they pass.
 use mathlib.Core.Path.{_≡_, refl, sym, ap, _∙_, subst}
 use mathlib.Core.List.{List, [], _∷_, _++_}
-use mathlib.Core.Bool.{Bool, true, false, _&&_, not}
-use Prim.Native.Nat.{ℕ, zero, suc, _+_, _-_, _≤_, _<_, min}
+use mathlib.Core.Bool.{Bool, true, false, _&&_}
+use Prim.Native.Nat.{ℕ, _+_, _-_, _≤_, _<_}
 use native.Mathlib.Omega.{arith}
-use lib.Dec.{leb, eqb, ltb}
+use lib.Dec.{leb, eqb}
 use lib.ListN.{length, take, drop, replicate, length-append}
-use borrow.Author.Tests.{leb-true, ltb-true, le-leb, lt-leb, lt-ltb, le-ltb, ltb-false, not-true, not-false, leb-false}
-use Rattle.layout.specs.Limits.{base, pick}
+use borrow.Author.Tests.{leb-true, ltb-true, le-leb, le-ltb}
+use Rattle.layout.specs.Limits.{base}
 use Rattle.layout.specs.Varint.{shortest}
 use Rattle.emit.specs.declared.Cursor.{Cursor}
 use Rattle.emit.specs.Put.{put, reached}
@@ -16,12 +16,13 @@ use Rattle.emit.proofs.Writes.{put-put, reached-reached, reached-is, length-put
 use Rattle.emit.proofs.Turns.{Whole}
 use Rattle.emit.proofs.Segments.{Emitted, some-left}
 use Rattle.ostream.specs.declared.OStream.{OStream}
-use Rattle.ostream.specs.Calls.{unsound, idTooLarge, payloadTooLong, arrayTooLong, fieldTests}
+use Rattle.ostream.specs.Calls.{unsound, idTooLarge, arrayTooLong, fieldTests}
 use Rattle.ostream.specs.declared.Answer.the-variants.{Done}
 use Rattle.ostream.specs.declared.Written.{Written}
-use Rattle.ostream.specs.Stream.{every, soundStream, lazyDepth, heldBytes, committed, clean, roomFor, easy, holds, reachedIf, putIf, at}
-use Rattle.ostream.specs.Emission.{Call, Verdict, accepted, judged, start, finished, called, leaves}
-use Rattle.ostream.proofs.Called.{both, goes-straight}
+use Rattle.ostream.specs.Stream.{every, soundStream, lazyDepth, heldBytes, committed, at}
+use Rattle.ostream.specs.Straight.{clean, roomFor, easy, holds, reachedIf, putIf}
+use Rattle.ostream.specs.Emission.{Call, accepted, judged, start, finished, called, leaves}
+use Rattle.ostream.proofs.Called.{both, none-held, goes-straight}
 
 -- ---- the state
 
@@ -97,6 +98,10 @@ no-second a b e f = ap (λ (x : Bool). x && b) e ∙ f
 pub yes-both : (a b : Bool) → a ≡ true → b ≡ true → (a && b) ≡ true
 yes-both a b e f = ap (λ (x : Bool). x && b) e ∙ f
 
+-- what follows from a test that fails
+pub untrue : (t : Bool) (a b : ℕ) → t ≡ false → t ≡ true → a ≤ b
+untrue t a b e g = let x : true ≡ false = sym g ∙ e in let z : _≡_ {A = ℕ} 0 1 = cc in absurd (omega arith)
+
 -- ---- a write that is made where a test passes
 
 abbrev pub WholeIf : Bool → List ℕ → ℕ → List ℕ → List ℕ → ℕ → Type 0
@@ -163,6 +168,10 @@ ready-array s size id k n y h = simp (y .sound, le-ltb _ _ (y .legal), le-ltb _ 
 -- a write from a state's position on, as an emission from the output's start
 pub emitted : (s : OStream) (b o : List ℕ) (end : ℕ) (b′ : List ℕ) → end ≡ reached b (s .offset) o → b′ ≡ put b (s .offset) o → Emitted (start s 0) b o (record { pos = end; skip = 0 }) b′
 emitted s b o end b′ e f = some-left (start s 0) b o o end 0 b′ (omega arith) refl e f
+
+-- the output of a state that holds nothing, with the header as it was made
+pub spelled : (s : OStream) → s .npending ≡ 0 → (h n : ℕ) (l : List ℕ) → h ≡ n → shortest h ++ l ≡ heldBytes s ++ (shortest n ++ l)
+spelled s e h n l q = ap (λ (x : ℕ). shortest x ++ l) q ∙ ap (λ (x : List ℕ). x ++ (shortest n ++ l)) (sym (none-held s e))
 
 -- a call whose output goes straight away
 pub straight : (k : Call) (s : OStream) (b o : List ℕ) (place end : ℕ) (b′ : List ℕ) (next : OStream) → judged (k .tests) ≡ accepted → o ≡ k .output → next ≡ k .done → place ≡ 0

@@ -1,6 +1,6 @@
 -- One call of the writer: its refusals in order, its whole output, and the state that it leaves once all of that is out.
 -- Every writing call is these three and a place in the output to go on from.
-use mathlib.Core.Bool.{Bool, true, false}
+use mathlib.Core.Bool.{Bool}
 use mathlib.Core.List.{List, [], _∷_}
 use Prim.Native.Nat.{ℕ, _+_, _-_}
 use lib.Dec.{leb, ltb}
@@ -11,7 +11,6 @@ use Rattle.emit.specs.declared.Cursor.{Cursor}
 use Rattle.types.specs.declared.Error.{Error}
 use Rattle.types.specs.declared.Error.the-variants.{PlaceBeyond}
 use Rattle.ostream.specs.declared.OStream.{OStream}
-use Rattle.ostream.specs.declared.Answer.{Answer}
 use Rattle.ostream.specs.declared.Answer.the-variants.{Done, Full, Refused}
 use Rattle.ostream.specs.declared.Written.{Written}
 use Rattle.ostream.specs.Stream.{at, committed}

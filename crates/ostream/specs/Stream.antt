@@ -1,13 +1,12 @@
 -- The writer's state: which are sound, the headers that it holds back, and the states that calls leave.
-use mathlib.Core.Bool.{Bool, true, false, _&&_}
+use mathlib.Core.Bool.{Bool, true, _&&_}
 use mathlib.Core.List.{List, [], _∷_, _++_}
 use Prim.Native.Nat.{ℕ, _+_, _-_}
-use lib.Dec.{leb, ltb, eqb}
-use lib.ListN.{length, take, drop, set, replicate}
-use Rattle.layout.specs.Limits.{base, pick}
+use lib.Dec.{leb, eqb}
+use lib.ListN.{take, drop, set, replicate}
+use Rattle.layout.specs.Limits.{base}
 use Rattle.layout.specs.Varint.{shortest}
 use Rattle.layout.specs.Field.{header, each, T-begin}
-use Rattle.emit.specs.Put.{put, reached}
 use Rattle.ostream.specs.declared.OStream.{OStream}
 
 -- whether each element of a list passes a test
@@ -24,33 +23,6 @@ lazyDepth = 8
 unfoldable pub soundStream : OStream → ℕ → Bool
 soundStream s size =
     leb (s .offset) size && (leb (s .npending) lazyDepth && (leb (s .npending) (s .depth) && (leb (s .depth) (base .depth) && (every (λ x. leb x (base .id)) (take (s .npending) (s .pending)) && every (λ x. eqb x 0) (drop (s .npending) (s .pending))))))
-
--- ---- writing straight away
-
--- whether no place is in use
-abbrev pub clean : List ℕ → Bool
-clean places = every (λ x. eqb x 0) (drop 0 places)
-
--- whether there is room from pos on for two varints, of ten bytes at most each, and n more bytes
-unfoldable pub roomFor : ℕ → ℕ → ℕ → Bool
-roomFor size pos n = leb 20 size && (leb pos (size - 20) && leb n (size - 20 - pos))
-
--- whether no id is held, and nothing but the places and the room stands against a field
-unfoldable pub easy : OStream → ℕ → Bool
-easy s id = leb id (base .id) && (leb (s .npending) 0 && leb (s .depth) (base .depth))
-
--- whether a sequence can be opened and held back
-unfoldable pub holds : OStream → ℕ → ℕ → Bool
-holds s size id = ltb (s .npending) lazyDepth && (ltb (s .depth) (base .depth) && (leb id (base .id) && soundStream s size))
-
--- a write that is made where a test passes, and otherwise not: where it ends, and what it leaves
-abbrev pub reachedIf : Bool → List ℕ → ℕ → List ℕ → ℕ
-reachedIf t b pos o = pick t (reached b pos o) pos
-
-abbrev pub putIf : Bool → List ℕ → ℕ → List ℕ → List ℕ
-putIf t b pos o = pick t (put b pos o) b
-
--- ---- held headers
 
 -- the headers of the sequences that are held back, "outermost first"
 unfoldable pub heldBytes : OStream → List ℕ

@@ -39,7 +39,8 @@ ghost use Rattle.types.specs.Types.{subtype};
 ghost use Rattle.layout.specs.Field.{fp32, fp64, string, blob, lowBytes, each};
 ghost use Rattle.layout.specs.Zigzag.{zigzag};
 ghost use Rattle.layout.specs.Limits.{base, pick};
-ghost use Rattle.ostream.specs.Stream.{every, soundStream, heldBytes, headBytes, zeroed, committed, holding, dropped, opened, clean, roomFor, easy, holds, reachedIf, putIf};
+ghost use Rattle.ostream.specs.Stream.{every, soundStream, heldBytes, headBytes, zeroed, committed, holding, dropped, opened};
+ghost use Rattle.ostream.specs.Straight.{clean, roomFor, easy, holds, reachedIf, putIf};
 ghost use Rattle.emit.specs.Cursor.{placed, moved};
 ghost use Rattle.ostream.specs.Emission.{start, answered, finished, fullAt, left, refused, refusedWith, judged, called, leaves};
 ghost use Rattle.ostream.specs.Buffer.{badBuffer, opening, draining, changing};
@@ -223,7 +224,7 @@ fn has_room(size: usize, pos: usize, more: usize) -> bool
 }
 
 // Two varints straight away, where no place is in use and there is room for the longest; where they end. Else nothing, and pos.
-// The calls below test little themselves and leave the rest to this and the next two, so that they are small enough to be inlined:
+// The calls below test little themselves and leave the rest to this and the four after it, so that they are small enough to be inlined:
 // then a writer's state stays in registers from call to call.
 fn put_pair(buf: &mut [u8], pos: usize, places: [u32; 8], header: u64, second: u64) -> usize
     ensures { λ r. ⌜ (r ≡ reachedIf (roomFor (length (now (buf .entry))) pos 0 && clean places) (now (buf .entry)) pos (shortest header ++ shortest second)) × (now (buf .exit) ≡ putIf (roomFor (length (now (buf .entry))) pos 0 && clean places) (now (buf .entry)) pos (shortest header ++ shortest second)) ⌝ }
@@ -688,6 +689,7 @@ impl OStream {
         self.anew().write_varint_from(buf, id, wire, value, place)
     }
 
+    // The refusals, then the held headers and the field from the place on.
     fn write_varint_from(
         self,
         buf: &mut [u8],
@@ -787,6 +789,7 @@ impl OStream {
             .write_fixlen_from(buf, id, bytes, subtype, place)
     }
 
+    // The refusals, then the held headers and the field from the place on.
     fn write_fixlen_from(
         self,
         buf: &mut [u8],

@@ -1,13 +1,14 @@
 -- `emit::varints_go_on`: an element that is not all out has bytes to come.
-use Prim.Native.Nat.{ℕ, _+_, _-_, _≤_, _<_}
-use mathlib.Core.Path.{_≡_, refl, sym, ap, _∙_}
-use mathlib.Core.Bool.{true, false}
+use Prim.Native.Nat.{_+_}
+use mathlib.Core.Path.{sym, ap, _∙_}
+use mathlib.Core.Bool.{Bool, _&&_}
 use native.Mathlib.Omega.{arith}
-use borrow.Author.Tests.{ltb-true}
+use borrow.Author.Tests.{lt-ltb, le-ltb}
+use lib.Dec.{ltb}
 use lib.ListN.{length}
 use Rattle.layout.specs.Varint.{shortest}
 use Rattle.layout.specs.Field.{each}
-use Rattle.emit.proofs.Onward.{more-than}
+use Rattle.emit.proofs.Onward.{goes-beyond}
 use borrow.Author.Needs.{needs}
 use Rattle.emit.proofs.varints_go_on.Statement.{statement}
 use Rattle.emit.proofs.varints_go_on.Tie as tie
@@ -19,13 +20,13 @@ sub-if1 : tie.Need-sub-if1
 sub-if1 c = search needs
 
 returns : tie.Need-returns
-returns c = λ e. let z : _≡_ {A = ℕ} 0 1 = cc in absurd (omega arith)
+returns c = let a = c .before .before .args in let g = c .if1 .taken in sym (ap (λ (x : Bool). x && ltb (a .place + a .room) (a .head + length (each shortest (a .items .now)))) (le-ltb (a .place + a .room) 18446744073709551616 (omega arith)))
 
 add-if2 : tie.Need-add-if2
 add-if2 c = search needs
 
 returns-2 : tie.Need-returns-2
-returns-2 c = λ e. let g = c .before .if1 .left in (omega arith, omega arith)
+returns-2 c = let a = c .before .before .before .args in let g = c .before .if1 .left in let h = c .if2 .taken in sym (ap (λ (x : Bool). x && ltb (a .place + a .room) (a .head + length (each shortest (a .items .now)))) (lt-ltb (a .place + a .room) 18446744073709551616 (omega arith)) ∙ lt-ltb (a .place + a .room) (a .head + length (each shortest (a .items .now))) (omega arith))
 
 add-varints-out : tie.Need-add-varints-out
 add-varints-out c = search needs
@@ -37,13 +38,7 @@ varints-out-requires : tie.Need-varints-out-requires
 varints-out-requires c κs = search needs
 
 returns-3 : tie.Need-returns-3
-returns-3 c =
-    λ e.
-    let a = c .before .before .before .before .before .args in
-    let h = c .before .before .if2 .left in
-    let m : a .place + a .room - a .head < length (each shortest (a .items .now)) = more-than _ _ _ _ _ (c .before .varints-out .ensures) (ltb-true _ _ e) in
-    let g = c .before .before .before .if1 .left in
-    (omega arith, omega arith)
+returns-3 c = let a = c .before .before .before .before .before .args in let g = c .before .before .before .if1 .left in let h = c .before .before .if2 .left in goes-beyond _ _ _ _ _ _ h (c .before .varints-out .ensures) ∙ sym (ap (λ (x : Bool). x && ltb (a .place + a .room) (a .head + length (each shortest (a .items .now)))) (lt-ltb (a .place + a .room) 18446744073709551616 (omega arith)))
 
 pub varints-go-on-spec : {M : Type 1} → statement M
 varints-go-on-spec =

@@ -1,7 +1,6 @@
 -- `ostream::has_room`: the tests one after another.
-use mathlib.Core.Path.{_≡_, refl, sym, ap, _∙_}
-use borrow.Author.Tests.{le-leb, lt-leb, le-ltb, lt-ltb, leb-true, leb-false, not-true, not-false}
-use Rattle.ostream.specs.Stream.{roomFor}
+use borrow.Author.Tests.{le-leb, lt-leb}
+use Rattle.ostream.specs.Straight.{roomFor}
 use borrow.Author.Needs.{needs}
 use Rattle.ostream.proofs.has_room.Statement.{statement}
 use Rattle.ostream.proofs.has_room.Tie as tie

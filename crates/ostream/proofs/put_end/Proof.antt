@@ -1,18 +1,13 @@
 -- `ostream::put_end`: one byte.
-use Prim.Native.Nat.{ℕ, _+_, _-_, _≤_, _<_}
-use mathlib.Core.Path.{_≡_, refl, sym, ap, _∙_}
-use mathlib.Core.List.{List, [], _∷_, _++_}
-use mathlib.Core.Bool.{Bool, true, false, _&&_}
-use native.Mathlib.Omega.{arith}
+use mathlib.Core.Path.{sym, _∙_}
+use mathlib.Core.List.{[], _∷_}
+use mathlib.Core.Bool.{_&&_}
 use lib.ListN.{length}
 use lib.Dec.{ltb}
-use borrow.Author.Tests.{le-leb, lt-leb, le-ltb, lt-ltb, not-true, not-false}
-use Rattle.layout.specs.Varint.{shortest}
-use Rattle.varint.proofs.Shortest.{length-64}
-use Rattle.emit.proofs.Turns.{Whole}
+use borrow.Author.Tests.{le-ltb, lt-ltb, not-true, not-false}
 use Rattle.emit.proofs.Writes.{put-one, reached-one}
-use Rattle.ostream.specs.Stream.{clean, roomFor}
-use Rattle.ostream.proofs.Straight.{no-first, no-second, yes-both, WholeIf, made, unmade, in-a-row, same-size, not-beyond, has-room}
+use Rattle.ostream.specs.Straight.{clean}
+use Rattle.ostream.proofs.Straight.{no-first, no-second, yes-both, made, unmade}
 use borrow.Author.Needs.{needs}
 use Rattle.ostream.proofs.put_end.Statement.{statement}
 use Rattle.ostream.proofs.put_end.Tie as tie

@@ -1,17 +1,14 @@
 -- `ostream::put_pair`: the tests, then one write after another.
-use Prim.Native.Nat.{ℕ, _+_, _-_, _≤_, _<_}
-use mathlib.Core.Path.{_≡_, refl, sym, ap, _∙_}
-use mathlib.Core.List.{List, [], _∷_, _++_}
-use mathlib.Core.Bool.{Bool, true, false, _&&_}
+use mathlib.Core.Path.{_≡_, sym, _∙_}
+use mathlib.Core.List.{_++_}
+use mathlib.Core.Bool.{true, _&&_}
 use native.Mathlib.Omega.{arith}
 use lib.ListN.{length}
-use borrow.Author.Tests.{le-leb, lt-leb, le-ltb, lt-ltb, not-true, not-false}
+use borrow.Author.Tests.{not-true, not-false}
 use Rattle.layout.specs.Varint.{shortest}
 use Rattle.varint.proofs.Shortest.{length-64}
-use Rattle.emit.proofs.Turns.{Whole}
-use Rattle.emit.proofs.Writes.{put-one, reached-one}
-use Rattle.ostream.specs.Stream.{clean, roomFor}
-use Rattle.ostream.proofs.Straight.{no-first, no-second, yes-both, WholeIf, made, unmade, in-a-row, same-size, not-beyond, has-room}
+use Rattle.ostream.specs.Straight.{clean, roomFor}
+use Rattle.ostream.proofs.Straight.{no-first, no-second, yes-both, made, unmade, in-a-row, same-size, not-beyond, has-room}
 use borrow.Author.Needs.{needs}
 use Rattle.ostream.proofs.put_pair.Statement.{statement}
 use Rattle.ostream.proofs.put_pair.Tie as tie

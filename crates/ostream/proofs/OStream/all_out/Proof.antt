@@ -1,5 +1,5 @@
 -- `ostream::OStream::all_out`: the state with nothing held any more, at the end.
-use mathlib.Core.Path.{_≡_, refl, sym, ap, _∙_}
+use mathlib.Core.Path.{ap}
 use Rattle.ostream.specs.declared.OStream.{OStream}
 use Rattle.ostream.specs.declared.Answer.the-variants.{Done}
 use Rattle.ostream.specs.Stream.{at}

@@ -1,7 +1,6 @@
 -- `ostream::OStream::at_ease`: the tests one after another.
-use mathlib.Core.Path.{_≡_, refl, sym, ap, _∙_}
-use borrow.Author.Tests.{le-leb, lt-leb, le-ltb, lt-ltb, leb-true, leb-false, not-true, not-false}
-use Rattle.ostream.specs.Stream.{easy}
+use borrow.Author.Tests.{le-leb, lt-leb}
+use Rattle.ostream.specs.Straight.{easy}
 use Rattle.ostream.proofs.OStream.at_ease.Statement.{statement}
 use Rattle.ostream.proofs.OStream.at_ease.Tie as tie
 use Rattle.ostream.proofs.OStream.at_ease.Reads as reads

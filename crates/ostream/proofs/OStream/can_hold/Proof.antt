@@ -1,7 +1,6 @@
 -- `ostream::OStream::can_hold`: the tests one after another.
-use mathlib.Core.Path.{_≡_, refl, sym, ap, _∙_}
-use borrow.Author.Tests.{le-leb, lt-leb, le-ltb, lt-ltb, leb-true, leb-false, not-true, not-false}
-use Rattle.ostream.specs.Stream.{holds}
+use borrow.Author.Tests.{le-leb, lt-leb, le-ltb, lt-ltb}
+use Rattle.ostream.specs.Straight.{holds}
 use borrow.Author.Needs.{needs}
 use Rattle.ostream.proofs.OStream.can_hold.Statement.{statement}
 use Rattle.ostream.proofs.OStream.can_hold.Tie as tie

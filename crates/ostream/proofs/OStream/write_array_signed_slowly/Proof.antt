@@ -1,8 +1,9 @@
 -- `ostream::OStream::write_array_signed_slowly`: the refusals, then the head and the elements.
-use Prim.Native.Nat.{ℕ, _+_, _-_, _*_, _≤_, _<_}
-use mathlib.Core.Path.{_≡_, refl, sym, ap, _∙_}
-use mathlib.Core.List.{List, _++_}
+use Prim.Native.Nat.{ℕ, _+_, _*_, _≤_, _-_, _<_}
+use mathlib.Core.Path.{_≡_, ap, _∙_, sym}
+use mathlib.Core.List.{_++_}
 use native.Mathlib.Omega.{arith}
+use lib.Dec.{ltb}
 use lib.ListN.{length, length-append}
 use Rattle.layout.specs.Varint.{shortest}
 use Rattle.layout.specs.Zigzag.{zigzag}
@@ -13,9 +14,8 @@ use Rattle.emit.proofs.Segments.{Emitted, respelled, joined, stays-in}
 use Rattle.ostream.specs.Stream.{heldBytes, headBytes, committed}
 use Rattle.ostream.specs.Emission.{start, accepted, judged, answered}
 use Rattle.ostream.specs.Calls.{fieldTests, signedArrayCall}
-use Rattle.ostream.proofs.Called.{Sound, refuses, sends-any, stops-short, goes-on, grouped, check-passes, check-fails, check-sound, check-short}
+use Rattle.ostream.proofs.Called.{both, Sound, refuses, sends-any, stops-short, goes-on, grouped, check-passes, check-fails, check-sound, check-short}
 use borrow.Author.Tests.{ltb-true}
-use Rattle.emit.specs.declared.Cursor.{Cursor}
 use borrow.Author.Needs.{needs}
 use Rattle.ostream.proofs.OStream.write_array_signed_slowly.Statement.{statement}
 use Rattle.ostream.proofs.OStream.write_array_signed_slowly.Tie as tie
@@ -107,7 +107,7 @@ zigzags-go-on-requires : tie.Need-zigzags-go-on-requires
 zigzags-go-on-requires c κs = search needs
 
 filled-requires : tie.Need-filled-requires
-filled-requires c κs = let h = sound (c .before .before .before .before .before .before .before .before .before .before .before .before .before .before .before) in (h .inside, c .before .zigzags-go-on .ensures (c .if4 .taken) .1)
+filled-requires c κs = let h = sound (c .before .before .before .before .before .before .before .before .before .before .before .before .before .before .before) in (h .inside, ltb-true _ _ (both _ _ (sym (c .before .zigzags-go-on .ensures) ∙ c .if4 .taken) .0))
 
 same-length-2 : tie.Need-same-length-2
 same-length-2 c = search needs
@@ -116,7 +116,8 @@ returns-3 : tie.Need-returns-3
 returns-3 c =
     let t = c .before .before .before .before .before .before .before .before .before .before .before .before .before .before .before .before in
     let l = long (c .before .before .before .before) in
-    let g = c .before .before .zigzags-go-on .ensures (c .before .if4 .taken) .0 in
+    let a = t .before .before .before .before .args in
+    let g : a .place + (length (a .buf .now) - a .self .offset) < c .before .before .before .before .head-len .result + length (each (λ z. shortest (zigzag z)) (a .items .now)) = ltb-true _ _ (both (ltb (a .place + (length (a .buf .now) - a .self .offset)) 18446744073709551616) _ (sym (c .before .before .zigzags-go-on .ensures) ∙ c .before .if4 .taken) .1) in
     goes-on _ _ _ _ _ _ _ (verdict t) (out (c .before .before .before .before .before .before .before .before .before)) (omega arith) (c .filled .ensures)
 
 zigzags-len-requires : tie.Need-zigzags-len-requires

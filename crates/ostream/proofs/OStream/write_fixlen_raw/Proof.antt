@@ -1,7 +1,7 @@
 -- `ostream::OStream::write_fixlen_raw`: straight away from a state that holds nothing, and otherwise left to the slow form.
-use Prim.Native.Nat.{ℕ, _+_, _*_, _≤_, _<_}
+use Prim.Native.Nat.{ℕ, _+_, _*_, _≤_}
 use mathlib.Core.Path.{_≡_, refl, sym, ap, _∙_}
-use mathlib.Core.List.{List, [], _++_}
+use mathlib.Core.List.{_++_}
 use mathlib.Core.Logic.{⊎-elim}
 use native.Mathlib.Omega.{arith}
 use borrow.Author.Tests.{leb-true}
@@ -9,11 +9,9 @@ use lib.ListN.{length, length-append}
 use Rattle.layout.specs.Varint.{shortest}
 use Rattle.varint.proofs.Shortest.{length-64, length-some}
 use Rattle.types.specs.Types.{fixlenRaw}
-use Rattle.ostream.specs.declared.OStream.{OStream}
-use Rattle.ostream.specs.Stream.{heldBytes}
 use Rattle.ostream.specs.Calls.{rawCall, fixlenBytes}
-use Rattle.ostream.proofs.Called.{none-held, committed-none}
-use Rattle.ostream.proofs.Straight.{Ready, is-ready, is-easy, ready-field, went, unmoved, straight, left-to}
+use Rattle.ostream.proofs.Called.{committed-none}
+use Rattle.ostream.proofs.Straight.{is-ready, is-easy, ready-field, went, unmoved, spelled, straight, left-to}
 use borrow.Author.Needs.{needs}
 use Rattle.ostream.proofs.OStream.write_fixlen_raw.Statement.{statement}
 use Rattle.ostream.proofs.OStream.write_fixlen_raw.Tie as tie
@@ -26,13 +24,6 @@ use Rattle.ostream.proofs.Written.anew.Reads as Written-anew-reads
 use Rattle.ostream.proofs.put_field.Reads as put-field-reads
 use Rattle.ostream.proofs.tagged.Reads as tagged-reads
 use Rattle.types.proofs.FixlenType.raw.Reads as raw-reads
-
--- the output of a state that holds nothing, with the header and the word as they were made
-spelled : (s : OStream) → s .npending ≡ 0 → (h n w m : ℕ) (l : List ℕ) → h ≡ n → w ≡ m → shortest h ++ (shortest w ++ l) ≡ heldBytes s ++ (shortest n ++ (shortest m ++ l))
-spelled s e h n w m l q r =
-    ap (λ (x : ℕ). shortest x ++ (shortest w ++ l)) q
-    ∙ ap (λ (x : ℕ). shortest n ++ (shortest x ++ l)) r
-    ∙ ap (λ (x : List ℕ). x ++ (shortest n ++ (shortest m ++ l))) (sym (none-held s e))
 
 -- where the straight form has written nothing, the buffer is as it was
 unaltered : (c : tie.Joined2-2) → c .if2 .buf ≡ c .before .before .before .before .before .args .buf .now
@@ -105,7 +96,7 @@ returns-2 c =
     let p = c .before .before .before .before .before .before .before .before .before .before .before .before .before .if1 .left in
     straight (rawCall (a .self) (length (a .buf .now)) (a .id) (a .bytes .now) (a .subtype)) (a .self) (a .buf .now) (shortest h ++ (shortest w ++ a .bytes .now)) (a .place) _ _ (a .self)
     (ready-field (a .self) (length (a .buf .now)) (a .id) (length (a .bytes .now)) y (leb-true _ _ (c .before .before .before .before .before .before .before .before .before .before .if3 .taken)))
-    (spelled (a .self) (y .none) h (a .id * 8 + 2) w (length (a .bytes .now) * 8 + fixlenRaw (a .subtype)) (a .bytes .now) (c .before .before .before .before .before .tagged2 .ensures) (c .before .before .before .before .before .before .before .tagged .ensures ∙ ap (λ (n : ℕ). length (a .bytes .now) * 8 + n) (c .before .before .before .before .before .before .before .before .raw .ensures)))
+    (ap (λ (x : ℕ). shortest h ++ (shortest x ++ a .bytes .now)) (c .before .before .before .before .before .before .before .tagged .ensures ∙ ap (λ (n : ℕ). length (a .bytes .now) * 8 + n) (c .before .before .before .before .before .before .before .before .raw .ensures)) ∙ spelled (a .self) (y .none) h (a .id * 8 + 2) (shortest (length (a .bytes .now) * 8 + fixlenRaw (a .subtype)) ++ a .bytes .now) (c .before .before .before .before .before .tagged2 .ensures))
     (committed-none (a .self) (a .self .depth) (y .none))
     (omega arith)
     (omega arith)

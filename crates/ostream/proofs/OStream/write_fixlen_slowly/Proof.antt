@@ -1,5 +1,5 @@
 -- `ostream::OStream::write_fixlen_slowly`: the same call on the same state.
-use mathlib.Core.Path.{_≡_, refl}
+use mathlib.Core.Path.{refl}
 use Rattle.ostream.specs.Calls.{rawCall}
 use Rattle.ostream.proofs.Straight.{left-to}
 use borrow.Author.Needs.{needs}

@@ -1,21 +1,20 @@
 -- `ostream::OStream::write_sequence_end`: straight away from a state that holds nothing, where the output is the close alone.
-use Prim.Native.Nat.{ℕ, _+_, _-_, _*_, _≤_, _<_}
+use Prim.Native.Nat.{ℕ, _-_, _<_}
 use mathlib.Core.Path.{_≡_, refl, sym, ap, _∙_}
-use mathlib.Core.List.{List, [], _∷_, _++_}
+use mathlib.Core.List.{[], _∷_}
 use mathlib.Core.Logic.{⊎-elim}
 use mathlib.Core.Bool.{true, _&&_}
 use lib.Dec.{ltb}
 use native.Mathlib.Omega.{arith}
 use borrow.Author.Tests.{eq-eqb, ne-eqb, ltb-true}
 use lib.ListN.{length}
-use Rattle.layout.specs.Varint.{shortest}
 use Rattle.layout.specs.Copy.{fieldBytes}
 use Rattle.varint.proofs.Shortest.{shortest-one}
-use Rattle.ostream.specs.declared.OStream.{OStream}
-use Rattle.ostream.specs.Stream.{soundStream, clean}
+use Rattle.ostream.specs.Stream.{soundStream}
+use Rattle.ostream.specs.Straight.{clean}
 use Rattle.ostream.specs.Calls.{endCall}
 use Rattle.ostream.proofs.Called.{both, committed-none}
-use Rattle.ostream.proofs.Straight.{Easy, is-easy, quiet, went, stayed, straight, left-to}
+use Rattle.ostream.proofs.Straight.{is-easy, quiet, went, stayed, straight, left-to}
 use borrow.Author.Needs.{needs}
 use Rattle.ostream.proofs.OStream.write_sequence_end.Statement.{statement}
 use Rattle.ostream.proofs.OStream.write_sequence_end.Tie as tie

@@ -1,17 +1,15 @@
 -- `ostream::OStream::write_varint`: straight away from a state that holds nothing, and otherwise left to the slow form.
-use Prim.Native.Nat.{ℕ, _+_, _*_, _≤_, _<_}
+use Prim.Native.Nat.{_+_, _*_}
 use mathlib.Core.Path.{_≡_, refl, sym, ap, _∙_}
-use mathlib.Core.List.{List, [], _++_}
+use mathlib.Core.List.{_++_}
 use mathlib.Core.Logic.{⊎-elim}
 use native.Mathlib.Omega.{arith}
 use lib.ListN.{length, length-append}
 use Rattle.layout.specs.Varint.{shortest}
 use Rattle.varint.proofs.Shortest.{length-64, length-some}
-use Rattle.ostream.specs.declared.OStream.{OStream}
-use Rattle.ostream.specs.Stream.{heldBytes, roomFor, clean}
 use Rattle.ostream.specs.Calls.{varintCall}
-use Rattle.ostream.proofs.Called.{none-held, committed-none}
-use Rattle.ostream.proofs.Straight.{Ready, is-ready, is-easy, ready-scalar, went, unmoved, straight, left-to}
+use Rattle.ostream.proofs.Called.{committed-none}
+use Rattle.ostream.proofs.Straight.{is-ready, is-easy, ready-scalar, went, unmoved, spelled, straight, left-to}
 use borrow.Author.Needs.{needs}
 use Rattle.ostream.proofs.OStream.write_varint.Statement.{statement}
 use Rattle.ostream.proofs.OStream.write_varint.Tie as tie
@@ -23,10 +21,6 @@ use Rattle.ostream.proofs.OStream.write_varint_slowly.Reads as write-va
 use Rattle.ostream.proofs.Written.anew.Reads as Written-anew-reads
 use Rattle.ostream.proofs.put_pair.Reads as put-pair-reads
 use Rattle.ostream.proofs.tagged.Reads as tagged-reads
-
--- the output of a state that holds nothing, with the header as it was made
-spelled : (s : OStream) → s .npending ≡ 0 → (h n v : ℕ) → h ≡ n → shortest h ++ shortest v ≡ heldBytes s ++ (shortest n ++ shortest v)
-spelled s e h n v q = ap (λ (m : ℕ). shortest m ++ shortest v) q ∙ ap (λ (l : List ℕ). l ++ (shortest n ++ shortest v)) (sym (none-held s e))
 
 -- where the straight form has written nothing, the buffer is as it was
 unaltered : (c : tie.Joined2) → c .if2 .buf ≡ c .before .before .before .before .args .buf .now
@@ -85,7 +79,7 @@ returns-2 c =
     let p = c .before .before .before .before .before .before .before .before .before .before .if1 .left in
     straight (varintCall (a .self) (length (a .buf .now)) (a .id) (a .wire) (a .value)) (a .self) (a .buf .now) (shortest h ++ shortest (a .value)) (a .place) _ _ (a .self)
     (ready-scalar (a .self) (length (a .buf .now)) (a .id) 0 y)
-    (spelled (a .self) (y .none) h (a .id * 8 + a .wire) (a .value) (c .before .before .before .before .before .tagged .ensures))
+    (spelled (a .self) (y .none) h (a .id * 8 + a .wire) (shortest (a .value)) (c .before .before .before .before .before .tagged .ensures))
     (committed-none (a .self) (a .self .depth) (y .none))
     (omega arith)
     (omega arith)

@@ -1,5 +1,5 @@
 -- `ostream::OStream::write_varint_slowly`: the same call on the same state.
-use mathlib.Core.Path.{_≡_, refl}
+use mathlib.Core.Path.{refl}
 use Rattle.ostream.specs.Calls.{varintCall}
 use Rattle.ostream.proofs.Straight.{left-to}
 use borrow.Author.Needs.{needs}

@@ -1,5 +1,5 @@
 -- `ostream::Written::anew`: the same fields.
-use mathlib.Core.Path.{_≡_, refl, sym, ap, _∙_}
+use mathlib.Core.Path.{ap}
 use Rattle.ostream.specs.declared.OStream.{OStream}
 use borrow.Author.Needs.{needs}
 use Rattle.ostream.proofs.Written.anew.Statement.{statement}

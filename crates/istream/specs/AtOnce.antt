@@ -1,4 +1,5 @@
--- What is read at once: where a varint stands whole in the chunk, and an answer that is the call's wherever there is one.
+-- What is read at once: where a varint stands whole in the chunk, and an answer that is the call's wherever there is one. Only private
+-- functions cite these: `feed` has its equation in `Stream`.
 use Prim.Native.Nat.{ℕ, _≤_}
 use mathlib.Core.Path.{_≡_}
 use mathlib.Core.List.{List}

@@ -1,7 +1,6 @@
 -- `bench::writing::rest` is safe and ends.
 use mathlib.Core.Path.{_≡_}
 use lib.ListN.{length}
-use Prim.Native.Nat.{_-_, _≤_}
 use borrow.Author.Needs.{needs}
 use Rattle.bench.proofs.writing.rest.Statement.{statement}
 use Rattle.bench.proofs.writing.rest.Tie as tie

@@ -1,5 +1,5 @@
 -- The port's own enums as the layout's, and the numbers of the refusals.
-use Prim.Native.Nat.{ℕ}
+use Prim.Native.Nat.{ℕ, zero, suc}
 use Rattle.layout.specs.Field.{Width, Raw, Subtype, Subtyped, Kind, fp32, fp64, string, blob, float, raw, known, unknown, unsigneds, signeds, floats}
 use Rattle.layout.specs.Field.{subtypeNumber, subtypeOf, kindNumber}
 use Rattle.types.specs.declared.FixlenType.{FixlenType}
@@ -89,3 +89,18 @@ numberOf Err.Nesting = 8
 numberOf Err.IdTooLarge = 9
 numberOf Err.TooLong = 10
 numberOf Err.PlaceBeyond = 11
+
+-- And back: the refusal with a number, by which the promises of all calls name their refusals. 01 gives no other numbers.
+abbrev pub refusal : ℕ → Error
+refusal zero = Err.UnsoundReader
+refusal (suc zero) = Err.UnsoundReader
+refusal (suc (suc zero)) = Err.InvalidMsg
+refusal (suc (suc (suc zero))) = Err.UnsoundGatherer
+refusal (suc (suc (suc (suc zero)))) = Err.PayloadTooLong
+refusal (suc (suc (suc (suc (suc zero))))) = Err.BadBuffer
+refusal (suc (suc (suc (suc (suc (suc zero)))))) = Err.UnsoundWriter
+refusal (suc (suc (suc (suc (suc (suc (suc zero))))))) = Err.StringSubtype
+refusal (suc (suc (suc (suc (suc (suc (suc (suc zero)))))))) = Err.Nesting
+refusal (suc (suc (suc (suc (suc (suc (suc (suc (suc zero))))))))) = Err.IdTooLarge
+refusal (suc (suc (suc (suc (suc (suc (suc (suc (suc (suc zero)))))))))) = Err.TooLong
+refusal (suc (suc (suc (suc (suc (suc (suc (suc (suc (suc (suc n))))))))))) = Err.PlaceBeyond

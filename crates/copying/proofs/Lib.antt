@@ -1,0 +1,1 @@
+-- Proofs about the copier's call.

@@ -1,0 +1,3 @@
+-- The copier over the machine's states: what is owed, and one call.
+pub mod Owed
+pub mod Copy

@@ -1,3 +1,4 @@
--- The copier over the machine's states: what is owed, and one call.
+-- The copier over the machine's states. Read in this order: Owed (what is owed), Copy (one call), Run (what a call keeps).
 pub mod Owed
 pub mod Copy
+pub mod Run

@@ -1,1 +1,2 @@
 -- Proofs about the copier's call.
+pub mod Turns

@@ -1,2 +1,3 @@
 -- Proofs about the copier's call.
 pub mod Turns
+pub mod Due

@@ -1,3 +1,5 @@
 -- Proofs about the copier's call.
 pub mod Turns
 pub mod Due
+pub mod Pieces
+pub mod Keeps

@@ -26,7 +26,7 @@ use Rattle.copying.specs.Copy.{Copy, full, Copied, after, settled, fille
 -- ---- the turn in two halves
 
 -- the half after what is owed is out
-goes : Limits → ℕ → ℕ → Copy → List ℕ → List ℕ → Copied
+unfoldable pub goes : Limits → ℕ → ℕ → Copy → List ℕ → List ℕ → Copied
 goes L n room k c b =
     elim (stuck (k .reader) room c) [
       | true ↦ record { used = 0; answer = full; copy = k; buf = b }
@@ -48,13 +48,13 @@ turn-is : (L : Limits) (n : ℕ) (k : Copy) (c b : List ℕ) → copies L (suc n
 unfolding copies turned-by goes
 turn-is L n k c b = refl
 
-turn-full : (L : Limits) (n : ℕ) (k : Copy) (c b : List ℕ) → length b - k .pos < length (rest (k .owed))
+pub turn-full : (L : Limits) (n : ℕ) (k : Copy) (c b : List ℕ) → length b - k .pos < length (rest (k .owed))
     → copies L (suc n) k c b
     ≡ record { used = 0; answer = full; copy = filled k (reached b (k .pos) (rest (k .owed))); buf = put b (k .pos) (rest (k .owed)) }
 unfolding turned-by
 turn-full L n k c b h = turn-is L n k c b ∙ ap (turned-by L n k c b) (lt-leb (length (rest (k .owed))) (length b - k .pos) h)
 
-turn-goes : (L : Limits) (n : ℕ) (k : Copy) (c b : List ℕ) → length (rest (k .owed)) ≤ length b - k .pos
+pub turn-goes : (L : Limits) (n : ℕ) (k : Copy) (c b : List ℕ) → length (rest (k .owed)) ≤ length b - k .pos
     → copies L (suc n) k c b
     ≡ goes L n (length b - reached b (k .pos) (rest (k .owed))) (settled k (reached b (k .pos) (rest (k .owed)))) c (put b (k .pos) (rest (k .owed)))
 unfolding turned-by
@@ -91,11 +91,11 @@ heard-ext k c b j (calls.verdict v) s f g h = refl
 heard-ext k c b j calls.invalid s f g h = refl
 
 -- the bytes that it is handed are the chunk's first
-abbrev paced : Pace → ℕ → List ℕ → List ℕ
+abbrev pub paced : Pace → ℕ → List ℕ → List ℕ
 paced byte room c = c
 paced (bulk id r total o) room c = take room c
 
-handed-is : (d : ℕ) (p : Phase) (room : ℕ) (c : List ℕ) → handed (reading d p) room c ≡ paced (paceOf p) room c
+pub handed-is : (d : ℕ) (p : Phase) (room : ℕ) (c : List ℕ) → handed (reading d p) room c ≡ paced (paceOf p) room c
 unfolding handed
 handed-is d p room c = go (paceOf p)
   where
@@ -131,7 +131,7 @@ handed-first (owing d id r) room c j h = refl
 handed-first broke room c j h = refl
 
 -- a payload's bytes raise an event
-bulk-event : (L : Limits) (n d : ℕ) (p : Phase) (x : ℕ) (xs : List ℕ) (id : ℕ) (r : Raw) (total o : ℕ) → paceOf p ≡ bulk id r total o
+pub bulk-event : (L : Limits) (n d : ℕ) (p : Phase) (x : ℕ) (xs : List ℕ) (id : ℕ) (r : Raw) (total o : ℕ) → paceOf p ≡ bulk id r total o
     → scan L n d p (x ∷ xs) ≡ piece n d id r total o (min (total - o) (length (x ∷ xs))) (x ∷ xs)
 unfolding scan
 bulk-event L n d p x xs id r total o e =
@@ -208,7 +208,7 @@ nearer s s′ (calls.event x) j m e i h = h
 nearer s s′ (calls.verdict v) j m e i h = let z : _≡_ {A = ℕ} 0 1 = cc in absurd (omega arith)
 nearer s s′ calls.invalid j m e i h = let z : _≡_ {A = ℕ} 0 1 = cc in absurd (omega arith)
 
-goes-on : Limits → ℕ → ℕ → Copy → List ℕ → List ℕ → Bool → Copied
+unfoldable pub goes-on : Limits → ℕ → ℕ → Copy → List ℕ → List ℕ → Bool → Copied
 goes-on L n room k c b t =
     let r = call L (k .reader) (handed (k .reader) room c) in
     elim t [
@@ -216,7 +216,7 @@ goes-on L n room k c b t =
       | false ↦ heard k c b r (λ e. copies L n (gone k (r .state) (owes (dueIn (k .reader)) e 0)) (drop (r .read) c) b)
     ]
 
-goes-is : (L : Limits) (n room : ℕ) (k : Copy) (c b : List ℕ) → goes L n room k c b ≡ goes-on L n room k c b (stuck (k .reader) room c)
+pub goes-is : (L : Limits) (n room : ℕ) (k : Copy) (c b : List ℕ) → goes L n room k c b ≡ goes-on L n room k c b (stuck (k .reader) room c)
 unfolding goes goes-on
 goes-is L n room k c b = refl
 

@@ -1,0 +1,1 @@
+-- Proofs about the caller's side of the copier.

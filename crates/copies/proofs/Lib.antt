@@ -1,1 +1,2 @@
 -- Proofs about the caller's side of the copier.
+pub mod Owed

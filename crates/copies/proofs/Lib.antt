@@ -1,2 +1,3 @@
 -- Proofs about the caller's side of the copier.
 pub mod Owed
+pub mod Sound

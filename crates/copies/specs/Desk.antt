@@ -4,21 +4,27 @@ use Prim.Native.Nat.{ℕ, zero, suc, _+_, _*_}
 use mathlib.Core.Path.{_≡_}
 use mathlib.Core.Logic.{_⊎_}
 use mathlib.Core.Bool.{Bool, true, false, _&&_, _||_}
-use mathlib.Core.List.{List, [], _∷_, _++_}
+use mathlib.Core.List.{List, [], _∷_, _++_, map}
 use lib.Dec.{ltb}
 use lib.ListN.{length, take, drop}
-use Rattle.layout.specs.Limits.{base, pick}
-use Rattle.layout.specs.Message.{Verdict, complete, incomplete, brokenAt, verdictOf}
+use Rattle.layout.specs.Limits.{pick}
+use Rattle.layout.specs.Message.{Verdict, complete, incomplete, brokenAt}
 use Rattle.copier.specs.declared.Copier.{Copier}
 use Rattle.copier.specs.Calls.{Said, full, verdict, Left, copied, Opens, taken, Started, started, Sends, bytes, Sent, drained, changed}
 use Rattle.copier.specs.Calls as calls
 
 -- ---- the desk
 
--- How a chunk ended: with a verdict or a refusal's number, so many bytes of the message being read.
-pub record Heard : Type 0 where
-  pub said : Said
-  pub read : ℕ
+-- How a chunk ended: with a verdict, or with a refusal by its number, so many bytes of the message being read; `nothing` is no ending.
+pub data Heard : Type 0 where
+  status : Verdict → Heard
+  refused : (number read : ℕ) → Heard
+  nothing : Heard
+
+abbrev pub told : ℕ → Said → Heard
+told n full = nothing
+told n (verdict v) = status v
+told n (calls.Said.number m) = refused m n
 
 -- The copier and its buffer; every byte sent; the chunks that have no verdict yet, the first being what "full" left of it; the bytes read;
 -- how each chunk ended; whether the last feed said "full" and no drain came since; and the drains counted.
@@ -64,7 +70,7 @@ ended d cs r =
       sent = d .sent;
       chunks = cs;
       read = d .read + r .used;
-      heard = d .heard ++ (record { said = r .said; read = d .read + r .used } ∷ []);
+      heard = d .heard ++ (told (d .read + r .used) (r .said) ∷ []);
       full = false;
       drains = d .drains;
     }
@@ -188,13 +194,11 @@ turns (suc n) = feed ∷ drain ∷ turns n
 
 -- ---- what the layout says
 
--- "Number 2: the message is broken; the count read includes the offending byte." Else all the bytes bs are read.
-abbrev pub heardBy : List ℕ → Verdict → Heard
-heardBy bs complete = record { said = verdict complete; read = length bs }
-heardBy bs incomplete = record { said = verdict incomplete; read = length bs }
-heardBy bs (brokenAt n) = record { said = calls.Said.number 2; read = n }
+-- how the layout's verdict is heard. "Number 2: the message is broken; the count read includes the offending byte."
+abbrev pub heardOf : Verdict → Heard
+heardOf complete = status complete
+heardOf incomplete = status incomplete
+heardOf (brokenAt n) = refused 2 n
 
--- at the end of each chunk, by the bytes so far, bs being those before
-unfoldable pub heardAfter : List ℕ → List (List ℕ) → List Heard
-heardAfter bs [] = []
-heardAfter bs (c ∷ cs) = heardBy (bs ++ c) (verdictOf base (bs ++ c)) ∷ heardAfter (bs ++ c) cs
+abbrev pub heardAll : List Verdict → List Heard
+heardAll vs = map heardOf vs

@@ -87,10 +87,10 @@ follows-nil : (L : Limits) (bs c : List ℕ) (es : List Event) (s : State) → F
 follows-nil L bs c es s f = subst (λ (l : List ℕ). Follows L l es s) (sym (append-nil bs)) f
 
 -- it doesn't fit
-kept-full : (L : Limits) (bs sent : List ℕ) (k : Copy) (c b : List ℕ) → Keeps L bs (sent ++ take (k .pos) b) k → k .pos ≤ length b → NoPiece (k .owed)
+kept-full : (L : Limits) (reserved bs sent : List ℕ) (k : Copy) (c b : List ℕ) → Keeps L reserved bs (sent ++ take (k .pos) b) k → k .pos ≤ length b → NoPiece (k .owed)
     → length b - k .pos < length (rest (k .owed))
-    → Kept L bs sent k c b (record { used = 0; answer = full; copy = filled k (reached b (k .pos) (rest (k .owed))); buf = put b (k .pos) (rest (k .owed)) })
-kept-full L bs sent k c b q p n h =
+    → Kept L reserved bs sent k c b (record { used = 0; answer = full; copy = filled k (reached b (k .pos) (rest (k .owed))); buf = put b (k .pos) (rest (k .owed)) })
+kept-full L reserved bs sent k c b q p n h =
     let o = rest (k .owed) in
     let e = reached-is b (k .pos) o in
     let pos = reached b (k .pos) o in
@@ -113,11 +113,11 @@ kept-full L bs sent k c b q p n h =
     }
 
 -- it fits
-keeps-settled : (L : Limits) (bs sent : List ℕ) (k : Copy) (b : List ℕ) → Keeps L bs (sent ++ take (k .pos) b) k → k .pos ≤ length b
+keeps-settled : (L : Limits) (reserved bs sent : List ℕ) (k : Copy) (b : List ℕ) → Keeps L reserved bs (sent ++ take (k .pos) b) k → k .pos ≤ length b
     → length (rest (k .owed)) ≤ length b - k .pos
-    → Keeps L bs (sent ++ take (reached b (k .pos) (rest (k .owed))) (put b (k .pos) (rest (k .owed)))) (settled k (reached b (k .pos) (rest (k .owed))))
+    → Keeps L reserved bs (sent ++ take (reached b (k .pos) (rest (k .owed))) (put b (k .pos) (rest (k .owed)))) (settled k (reached b (k .pos) (rest (k .owed))))
 unfolding rest
-keeps-settled L bs sent k b q p h =
+keeps-settled L reserved bs sent k b q p h =
     let o = rest (k .owed) in
     let pos = reached b (k .pos) o in
     let e = reached-is b (k .pos) o in
@@ -129,8 +129,8 @@ keeps-settled L bs sent k b q p h =
     }
 
 -- a call from a state and buffer that are further on
-kept-from : (L : Limits) (bs sent : List ℕ) (k j : Copy) (c b d : List ℕ) (r : Copied) → k .pos ≤ j .pos → length d ≡ length b → Kept L bs sent j c d r → Kept L bs sent k c b r
-kept-from L bs sent k j c b d r p n h =
+kept-from : (L : Limits) (reserved bs sent : List ℕ) (k j : Copy) (c b d : List ℕ) (r : Copied) → k .pos ≤ j .pos → length d ≡ length b → Kept L reserved bs sent j c d r → Kept L reserved bs sent k c b r
+kept-from L reserved bs sent k j c b d r p n h =
     let a = h .ahead in
     let w = h .within in
     record {
@@ -152,8 +152,8 @@ final-later k c size j n (verdict v) l m h = let e : j + n ≡ length c = omega 
 final-later k c size j n invalid l m h = h
 final-later k c size j n unfinished l m h = h
 
-kept-after : (L : Limits) (bs sent : List ℕ) (k j : Copy) (c b : List ℕ) (n : ℕ) (r : Copied) → j .pos ≡ k .pos → n ≤ length c → Kept L (bs ++ take n c) sent j (drop n c) b r → Kept L bs sent k c b (after n r)
-kept-after L bs sent k j c b n r p l h =
+kept-after : (L : Limits) (reserved bs sent : List ℕ) (k j : Copy) (c b : List ℕ) (n : ℕ) (r : Copied) → j .pos ≡ k .pos → n ≤ length c → Kept L reserved (bs ++ take n c) sent j (drop n c) b r → Kept L reserved bs sent k c b (after n r)
+kept-after L reserved bs sent k j c b n r p l h =
     let m : length (drop n c) ≡ length c - n = length-drop n c in
     let e : (bs ++ take n c) ++ take (r .used) (drop n c) ≡ bs ++ take (n + r .used) c =
     append-assoc bs (take n c) _ ∙ ap (λ (x : List ℕ). bs ++ x) (sym (take-add n (r .used) c)) in
@@ -164,7 +164,7 @@ kept-after L bs sent k j c b n r p l h =
       size = h .size;
       ahead = omega arith;
       within = h .within;
-      keeps = subst (λ (x : List ℕ). Keeps L x (sent ++ take (r .copy .pos) (r .buf)) (r .copy)) e (h .keeps);
+      keeps = subst (λ (x : List ℕ). Keeps L reserved x (sent ++ take (r .copy .pos) (r .buf)) (r .copy)) e (h .keeps);
       whole = h .whole;
       final = final-later (r .copy) c (length b) n (r .used) (r .answer) l f (h .final);
     }
@@ -183,9 +183,9 @@ stuck-is (reading d p) zero (x ∷ c) h = (refl, go (paceOf p) h, omega arith)
 stuck-is (owing d id r) room c h = let w : _≡_ {A = ℕ} 0 1 = cc in absurd (omega arith)
 stuck-is broke room c h = let w : _≡_ {A = ℕ} 0 1 = cc in absurd (omega arith)
 
-kept-stuck : (L : Limits) (bs sent : List ℕ) (k : Copy) (c b : List ℕ) → Keeps L bs (sent ++ take (k .pos) b) k → k .pos ≤ length b → k .owed ≡ nothing
-    → stuck (k .reader) (length b - k .pos) c ≡ true → Kept L bs sent k c b (record { used = 0; answer = full; copy = k; buf = b })
-kept-stuck L bs sent k c b q p o t =
+kept-stuck : (L : Limits) (reserved bs sent : List ℕ) (k : Copy) (c b : List ℕ) → Keeps L reserved bs (sent ++ take (k .pos) b) k → k .pos ≤ length b → k .owed ≡ nothing
+    → stuck (k .reader) (length b - k .pos) c ≡ true → Kept L reserved bs sent k c b (record { used = 0; answer = full; copy = k; buf = b })
+kept-stuck L reserved bs sent k c b q p o t =
     let s = stuck-is (k .reader) (length b - k .pos) c t in
     let n = s .0 in
     let z : k .pos ≡ length b = omega arith in
@@ -206,28 +206,30 @@ not-broke L s c e h b =
     let w : _≡_ {A = ℕ} 0 1 = cc in omega arith
 
 -- an event more is owed
-keeps-event : (L : Limits) (bs sent : List ℕ) (k : Copy) (c b : List ℕ) (j : ℕ) (s : State) (e : Event) (q : Keeps L bs (sent ++ take (k .pos) b) k) → k .owed ≡ nothing
+keeps-event : (L : Limits) (reserved bs sent : List ℕ) (k : Copy) (c b : List ℕ) (j : ℕ) (s : State) (e : Event) (q : Keeps L reserved bs (sent ++ take (k .pos) b) k) → k .owed ≡ nothing
     → (k .reader ≡ broke → ⊥) → Follows L (bs ++ take j c) (q .events ++ (e ∷ [])) s
-    → Keeps L (bs ++ take j c) (sent ++ take (k .pos) b) (gone k s (owes (dueIn (k .reader)) e 0))
+    → Keeps L reserved (bs ++ take j c) (sent ++ take (k .pos) b) (gone k s (owes (dueIn (k .reader)) e 0))
 unfolding rest encodeEvents
-keeps-event L bs sent k c b j s e q o n f =
-    let d : dueAfterAll 0 (q .events) ≡ dueIn (k .reader) = walk-due L bs (q .events) (k .reader) (q .follows) n in
-    let z : sent ++ take (k .pos) b ≡ encodeEvents 0 (q .events) =
+keeps-event L reserved bs sent k c b j s e q o n f =
+    let es = q .events in
+    let d : dueAfterAll 0 es ≡ dueIn (k .reader) = walk-due L bs es (k .reader) (q .follows) n in
+    let z : sent ++ take (k .pos) b ≡ reserved ++ encodeEvents 0 es =
     sym (append-nil (sent ++ take (k .pos) b)) ∙ ap (λ (x : Owed). (sent ++ take (k .pos) b) ++ rest x) (sym o) ∙ q .bytes in
     record {
-      events = q .events ++ (e ∷ []);
+      events = es ++ (e ∷ []);
       follows = f;
       bytes =
           ap (λ (x : List ℕ). x ++ eventBytes (dueIn (k .reader)) e) z
-          ∙ ap (λ (m : ℕ). encodeEvents 0 (q .events) ++ eventBytes m e) (sym d)
-          ∙ ap (λ (x : List ℕ). encodeEvents 0 (q .events) ++ x) (sym (append-nil (eventBytes (dueAfterAll 0 (q .events)) e)))
-          ∙ sym (encode-append 0 (q .events) (e ∷ []));
+          ∙ append-assoc reserved (encodeEvents 0 es) (eventBytes (dueIn (k .reader)) e)
+          ∙ ap (λ (m : ℕ). reserved ++ (encodeEvents 0 es ++ eventBytes m e)) (sym d)
+          ∙ ap (λ (x : List ℕ). reserved ++ (encodeEvents 0 es ++ x)) (sym (append-nil (eventBytes (dueAfterAll 0 es) e)))
+          ∙ ap (λ (x : List ℕ). reserved ++ x) (sym (encode-append 0 es (e ∷ [])));
     }
 
 -- no event more
-keeps-end : (L : Limits) (bs sent : List ℕ) (k : Copy) (c b : List ℕ) (j : ℕ) (s : State) (q : Keeps L bs (sent ++ take (k .pos) b) k) → k .owed ≡ nothing
-    → Follows L (bs ++ take j c) (q .events ++ []) s → Keeps L (bs ++ take j c) (sent ++ take (k .pos) b) (gone k s nothing)
-keeps-end L bs sent k c b j s q o f =
+keeps-end : (L : Limits) (reserved bs sent : List ℕ) (k : Copy) (c b : List ℕ) (j : ℕ) (s : State) (q : Keeps L reserved bs (sent ++ take (k .pos) b) k) → k .owed ≡ nothing
+    → Follows L (bs ++ take j c) (q .events ++ []) s → Keeps L reserved (bs ++ take j c) (sent ++ take (k .pos) b) (gone k s nothing)
+keeps-end L reserved bs sent k c b j s q o f =
     record {
       events = q .events;
       follows = subst (λ (es : List Event). Follows L (bs ++ take j c) es s) (append-nil (q .events)) f;
@@ -235,42 +237,42 @@ keeps-end L bs sent k c b j s q o f =
     }
 
 -- by the reader's answer
-kept-heard : (L : Limits) (bs sent : List ℕ) (k : Copy) (c b : List ℕ) (j : ℕ) (a : calls.Answer) (s : State) (f : Event → Copied) (q : Keeps L bs (sent ++ take (k .pos) b) k)
+kept-heard : (L : Limits) (reserved bs sent : List ℕ) (k : Copy) (c b : List ℕ) (j : ℕ) (a : calls.Answer) (s : State) (f : Event → Copied) (q : Keeps L reserved bs (sent ++ take (k .pos) b) k)
     → k .pos ≤ length b → k .owed ≡ nothing → j ≤ length c → Closes a (k .reader) s j (length c) → Follows L (bs ++ take j c) (q .events ++ given a) s
     → ((e : Event) → a ≡ calls.event e → Follows L (bs ++ take j c) (q .events ++ (e ∷ [])) s → 2 * (length c - j) + weight s < 2 * length c + weight (k .reader)
-    → Kept L (bs ++ take j c) sent (gone k s (owes (dueIn (k .reader)) e 0)) (drop j c) b (f e))
-    → Kept L bs sent k c b (heard k c b (record { read = j; answer = a; state = s }) f)
+    → Kept L reserved (bs ++ take j c) sent (gone k s (owes (dueIn (k .reader)) e 0)) (drop j c) b (f e))
+    → Kept L reserved bs sent k c b (heard k c b (record { read = j; answer = a; state = s }) f)
 unfolding heard
-kept-heard L bs sent k c b j (calls.event e) s f q p o l h g go =
-    kept-after L bs sent k (gone k s (owes (dueIn (k .reader)) e 0)) c b j (f e) refl l (go e refl g h)
-kept-heard L bs sent k c b j (calls.verdict v) (reading d p′) f q p o l h g go =
+kept-heard L reserved bs sent k c b j (calls.event e) s f q p o l h g go =
+    kept-after L reserved bs sent k (gone k s (owes (dueIn (k .reader)) e 0)) c b j (f e) refl l (go e refl g h)
+kept-heard L reserved bs sent k c b j (calls.verdict v) (reading d p′) f q p o l h g go =
     record {
       few = l;
       size = refl;
       ahead = omega arith;
       within = p;
-      keeps = keeps-end L bs sent k c b j (reading d p′) q o g;
+      keeps = keeps-end L reserved bs sent k c b j (reading d p′) q o g;
       whole = tt;
       final = (h .0, refl, (d, p′, refl, h .1));
     }
-kept-heard L bs sent k c b j (calls.verdict v) (owing d id r) f q p o l h g go = absurd (h .1)
-kept-heard L bs sent k c b j (calls.verdict v) broke f q p o l h g go = absurd (h .1)
-kept-heard L bs sent k c b j calls.invalid s f q p o l h g go =
-    record { few = l; size = refl; ahead = omega arith; within = p; keeps = keeps-end L bs sent k c b j s q o g; whole = tt; final = (refl, h) }
+kept-heard L reserved bs sent k c b j (calls.verdict v) (owing d id r) f q p o l h g go = absurd (h .1)
+kept-heard L reserved bs sent k c b j (calls.verdict v) broke f q p o l h g go = absurd (h .1)
+kept-heard L reserved bs sent k c b j calls.invalid s f q p o l h g go =
+    record { few = l; size = refl; ahead = omega arith; within = p; keeps = keeps-end L reserved bs sent k c b j s q o g; whole = tt; final = (refl, h) }
 
 -- what a turn needs of the turns after it
-abbrev Later : Limits → ℕ → ℕ → Type 0
-Later L n most =
-    (bs sent : List ℕ) (k : Copy) (c b : List ℕ) → Keeps L bs (sent ++ take (k .pos) b) k → k .pos ≤ length b → Takes k b → 2 * length c + weight (k .reader) < most
-    → Kept L bs sent k c b (copies L n k c b)
+abbrev Later : Limits → ℕ → List ℕ → ℕ → Type 0
+Later L n reserved most =
+    (bs sent : List ℕ) (k : Copy) (c b : List ℕ) → Keeps L reserved bs (sent ++ take (k .pos) b) k → k .pos ≤ length b → Takes k b → 2 * length c + weight (k .reader) < most
+    → Kept L reserved bs sent k c b (copies L n k c b)
 
-kept-goes : (L : Limits) (n : ℕ) (bs sent : List ℕ) (k : Copy) (c b : List ℕ) → Keeps L bs (sent ++ take (k .pos) b) k → k .pos ≤ length b → k .owed ≡ nothing
-    → Later L n (2 * length c + weight (k .reader)) → Kept L bs sent k c b (goes L n (length b - k .pos) k c b)
+kept-goes : (L : Limits) (n : ℕ) (reserved bs sent : List ℕ) (k : Copy) (c b : List ℕ) → Keeps L reserved bs (sent ++ take (k .pos) b) k → k .pos ≤ length b → k .owed ≡ nothing
+    → Later L n reserved (2 * length c + weight (k .reader)) → Kept L reserved bs sent k c b (goes L n (length b - k .pos) k c b)
 unfolding goes-on rest
-kept-goes L n bs sent k c b q p o later = subst (Kept L bs sent k c b) (sym (goes-is L n (length b - k .pos) k c b)) (go (stuck (k .reader) (length b - k .pos) c) refl)
+kept-goes L n reserved bs sent k c b q p o later = subst (Kept L reserved bs sent k c b) (sym (goes-is L n (length b - k .pos) k c b)) (go (stuck (k .reader) (length b - k .pos) c) refl)
   where
-    go : (t : Bool) → stuck (k .reader) (length b - k .pos) c ≡ t → Kept L bs sent k c b (goes-on L n (length b - k .pos) k c b t)
-    go true e = kept-stuck L bs sent k c b q p o e
+    go : (t : Bool) → stuck (k .reader) (length b - k .pos) c ≡ t → Kept L reserved bs sent k c b (goes-on L n (length b - k .pos) k c b t)
+    go true e = kept-stuck L reserved bs sent k c b q p o e
     go false e =
         let h = handed (k .reader) (length b - k .pos) c in
         let r = call L (k .reader) h in
@@ -279,25 +281,25 @@ kept-goes L n bs sent k c b q p o later = subst (Kept L bs sent k c b) (sym (goe
         let v = turn-heard L (k .reader) (length b - k .pos) c fair e in
         let g : Follows L (bs ++ take (r .read) c) (q .events ++ given (r .answer)) (r .state) =
         subst (λ (l : List ℕ). Follows L (bs ++ l) (q .events ++ given (r .answer)) (r .state)) (handed-first (k .reader) (length b - k .pos) c (r .read) (w .few)) (w .follows) in
-        kept-heard L bs sent k c b (r .read) (r .answer) (r .state) _ q p o (v .few) (v .closes) g
+        kept-heard L reserved bs sent k c b (r .read) (r .answer) (r .state) _ q p o (v .few) (v .closes) g
         (λ x i y z.
         later (bs ++ take (r .read) c) sent (gone k (r .state) (owes (dueIn (k .reader)) x 0)) (drop (r .read) c) b
-        (keeps-event L bs sent k c b (r .read) (r .state) x q o (not-broke L (k .reader) h x i) y) p (given-fits L (dueIn (k .reader)) (k .reader) (length b - k .pos) c x i)
+        (keeps-event L reserved bs sent k c b (r .read) (r .state) x q o (not-broke L (k .reader) h x i) y) p (given-fits L (dueIn (k .reader)) (k .reader) (length b - k .pos) c x i)
         (omega (arith, length-drop (r .read) c)))
 
 -- one turn, and those after it
-kept-turn : (L : Limits) (n : ℕ) (bs sent : List ℕ) (k : Copy) (c b : List ℕ) → Keeps L bs (sent ++ take (k .pos) b) k → k .pos ≤ length b → Takes k b
-    → Later L n (2 * length c + weight (k .reader)) → Kept L bs sent k c b (copies L (suc n) k c b)
-kept-turn L n bs sent k c b q p t later = go (leb (length (rest (k .owed))) (length b - k .pos)) refl
+kept-turn : (L : Limits) (n : ℕ) (reserved bs sent : List ℕ) (k : Copy) (c b : List ℕ) → Keeps L reserved bs (sent ++ take (k .pos) b) k → k .pos ≤ length b → Takes k b
+    → Later L n reserved (2 * length c + weight (k .reader)) → Kept L reserved bs sent k c b (copies L (suc n) k c b)
+kept-turn L n reserved bs sent k c b q p t later = go (leb (length (rest (k .owed))) (length b - k .pos)) refl
   where
     plain : Takes k b → length b - k .pos < length (rest (k .owed)) → NoPiece (k .owed)
     plain (inl h) l = h
     plain (inr h) l = absurd (omega arith)
 
-    go : (u : Bool) → leb (length (rest (k .owed))) (length b - k .pos) ≡ u → Kept L bs sent k c b (copies L (suc n) k c b)
+    go : (u : Bool) → leb (length (rest (k .owed))) (length b - k .pos) ≡ u → Kept L reserved bs sent k c b (copies L (suc n) k c b)
     go false e =
         let l = leb-false (length (rest (k .owed))) (length b - k .pos) e in
-        subst (Kept L bs sent k c b) (sym (turn-full L n k c b l)) (kept-full L bs sent k c b q p (plain t l) l)
+        subst (Kept L reserved bs sent k c b) (sym (turn-full L n k c b l)) (kept-full L reserved bs sent k c b q p (plain t l) l)
     go true e =
         let l = leb-true (length (rest (k .owed))) (length b - k .pos) e in
         let pos = reached b (k .pos) (rest (k .owed)) in
@@ -305,21 +307,21 @@ kept-turn L n bs sent k c b q p t later = go (leb (length (rest (k .owed))) (len
         let m : length d ≡ length b = length-put b (k .pos) (rest (k .owed)) p in
         let i = reached-is b (k .pos) (rest (k .owed)) in
         let w = reached-le b (k .pos) (rest (k .owed)) p in
-        let x : Kept L bs sent (settled k pos) c d (goes L n (length d - pos) (settled k pos) c d) =
-        kept-goes L n bs sent (settled k pos) c d (keeps-settled L bs sent k b q p l) (omega arith) refl later in
-        subst (Kept L bs sent k c b)
+        let x : Kept L reserved bs sent (settled k pos) c d (goes L n (length d - pos) (settled k pos) c d) =
+        kept-goes L n reserved bs sent (settled k pos) c d (keeps-settled L reserved bs sent k b q p l) (omega arith) refl later in
+        subst (Kept L reserved bs sent k c b)
         (ap (λ (y : ℕ). goes L n (y - pos) (settled k pos) c d) m ∙ sym (turn-goes L n k c b l))
-        (kept-from L bs sent k (settled k pos) c b d _ (omega arith) m x)
+        (kept-from L reserved bs sent k (settled k pos) c b d _ (omega arith) m x)
 
-kept-turns : (L : Limits) (n : ℕ) (bs sent : List ℕ) (k : Copy) (c b : List ℕ) → Keeps L bs (sent ++ take (k .pos) b) k → k .pos ≤ length b → Takes k b
-    → 2 * length c + weight (k .reader) < n → Kept L bs sent k c b (copies L n k c b)
-kept-turns L zero bs sent k c b q p t h = absurd (not-suc-le-zero h)
-kept-turns L (suc n) bs sent k c b q p t h =
-    kept-turn L n bs sent k c b q p t (λ bs′ sent′ k′ c′ b′ q′ p′ t′ h′. kept-turns L n bs′ sent′ k′ c′ b′ q′ p′ t′ (omega arith))
+kept-turns : (L : Limits) (n : ℕ) (reserved bs sent : List ℕ) (k : Copy) (c b : List ℕ) → Keeps L reserved bs (sent ++ take (k .pos) b) k → k .pos ≤ length b → Takes k b
+    → 2 * length c + weight (k .reader) < n → Kept L reserved bs sent k c b (copies L n k c b)
+kept-turns L zero reserved bs sent k c b q p t h = absurd (not-suc-le-zero h)
+kept-turns L (suc n) reserved bs sent k c b q p t h =
+    kept-turn L n reserved bs sent k c b q p t (λ bs′ sent′ k′ c′ b′ q′ p′ t′ h′. kept-turns L n reserved bs′ sent′ k′ c′ b′ q′ p′ t′ (omega arith))
 
 -- THE CALL. From a state of a run, over any chunk and any buffer: no byte is lost or made up, "full" comes only with the buffer written to
 -- its end and a byte owed, the verdict once the chunk is spent, and the turns of a call are enough.
-pub copy-keeps : (L : Limits) (bs sent : List ℕ) (k : Copy) (c b : List ℕ) → Keeps L bs (sent ++ take (k .pos) b) k → k .pos ≤ length b → NoPiece (k .owed)
-    → Kept L bs sent k c b (copy L k c b)
+pub copy-keeps : (L : Limits) (reserved bs sent : List ℕ) (k : Copy) (c b : List ℕ) → Keeps L reserved bs (sent ++ take (k .pos) b) k → k .pos ≤ length b → NoPiece (k .owed)
+    → Kept L reserved bs sent k c b (copy L k c b)
 unfolding copy
-copy-keeps L bs sent k c b q p h = kept-turns L (2 * length c + 2) bs sent k c b q p (inl h) (omega (arith, light (k .reader)))
+copy-keeps L reserved bs sent k c b q p h = kept-turns L (2 * length c + 2) reserved bs sent k c b q p (inl h) (omega (arith, light (k .reader)))

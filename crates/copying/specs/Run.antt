@@ -13,11 +13,12 @@ use Rattle.machine.specs.Run.{Follows}
 use Rattle.copying.specs.Owed.{Owed, nothing, owes, rest}
 use Rattle.copying.specs.Copy.{Copy, Answer, full, verdict, invalid, unfinished, Copied}
 
--- The bytes bs are read and `out` is out: with what is owed, these are the bytes of the events given so far.
-pub record Keeps (L : Limits) (bs out : List ℕ) (k : Copy) : Type 0 where
+-- The bytes bs are read and `out` is out: with what is owed, these are the bytes of the events given so far, behind the bytes that an
+-- opening at another offset reserved ("they go out with the first drain").
+pub record Keeps (L : Limits) (reserved bs out : List ℕ) (k : Copy) : Type 0 where
   pub events : List Event
   pub follows : Follows L bs events (k .reader)
-  pub bytes : out ++ rest (k .owed) ≡ encodeEvents 0 events
+  pub bytes : out ++ rest (k .owed) ≡ reserved ++ encodeEvents 0 events
 
 abbrev pub Bulk : Pace → Type 0
 Bulk byte = ⊥
@@ -55,11 +56,11 @@ NoPiece nothing = Unit {0}
 NoPiece (owes due e place) = NotPiece e
 
 -- A call from k with chunk c and buffer b, `sent` being what went out before with earlier buffers and bs what was read before.
-pub record Kept (L : Limits) (bs sent : List ℕ) (k : Copy) (c b : List ℕ) (r : Copied) : Type 0 where
+pub record Kept (L : Limits) (reserved bs sent : List ℕ) (k : Copy) (c b : List ℕ) (r : Copied) : Type 0 where
   pub few : r .used ≤ length c
   pub size : length (r .buf) ≡ length b
   pub ahead : k .pos ≤ r .copy .pos
   pub within : r .copy .pos ≤ length b
-  pub keeps : Keeps L (bs ++ take (r .used) c) (sent ++ take (r .copy .pos) (r .buf)) (r .copy)
+  pub keeps : Keeps L reserved (bs ++ take (r .used) c) (sent ++ take (r .copy .pos) (r .buf)) (r .copy)
   pub whole : NoPiece (r .copy .owed)
   pub final : Final (r .answer) (r .copy) (r .used) c (length b)

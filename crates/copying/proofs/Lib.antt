@@ -3,3 +3,6 @@ pub mod Turns
 pub mod Due
 pub mod Pieces
 pub mod Keeps
+pub mod Allowed
+pub mod Sound
+pub mod Reader

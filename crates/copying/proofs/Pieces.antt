@@ -24,7 +24,7 @@ use Rattle.copying.proofs.Turns.{handed-is, paced, bulk-event}
 
 -- ---- a byte that is no payload's raises no piece first, and leads on to another such byte
 
-abbrev NoneFirst : Stepped → Type 0
+abbrev pub NoneFirst : Stepped → Type 0
 NoneFirst (on [] d p) = paceOf p ≡ byte
 NoneFirst (on (e ∷ es) d p) = NotPiece e
 NoneFirst bad = Unit {0}
@@ -63,7 +63,7 @@ none-element d id c m (known (float w)) = none-pick (eqb m (bytesOf w)) _ bad tt
 none-element d id c m (known (raw r)) = tt
 none-element d id c m unknown = tt
 
-none-step : (L : Limits) (d : ℕ) (p : Phase) (b : ℕ) → paceOf p ≡ byte → NoneFirst (step L d p b)
+pub none-step : (L : Limits) (d : ℕ) (p : Phase) (b : ℕ) → paceOf p ≡ byte → NoneFirst (step L d p b)
 unfolding step atHeader atWord atUnsignedCount atSignedCount atFloatCount atArrayWord atUnsigned atSigned atFloat
 none-step L d (inHeader k v) b i = none-within d (push L k v b) inHeader (atHeader L d) (λ k v. refl) (λ h. none-pick (leb (h / 8) (L .id)) _ bad (none-wire L d (h / 8) (wireOf (h % 8))) tt)
 none-step L d (inUnsigned id left k v) b i = none-within d (push L k v b) (inUnsigned id left) (atUnsigned d id left) (λ k v. refl) (λ x. tt)
@@ -89,7 +89,7 @@ none-scanned n (on [] d p) f h g = g d p h
 none-scanned n (on (e ∷ es) d p) f h g = h
 none-scanned n bad f h g = tt
 
-byte-scan : (L : Limits) (n d : ℕ) (p : Phase) (x : ℕ) (xs : List ℕ) → paceOf p ≡ byte → scan L n d p (x ∷ xs) ≡ scanned (suc n) (step L d p x) (λ d′ p′. scan L (suc n) d′ p′ xs)
+pub byte-scan : (L : Limits) (n d : ℕ) (p : Phase) (x : ℕ) (xs : List ℕ) → paceOf p ≡ byte → scan L n d p (x ∷ xs) ≡ scanned (suc n) (step L d p x) (λ d′ p′. scan L (suc n) d′ p′ xs)
 unfolding scan
 byte-scan L n d p x xs e =
     ap

@@ -35,7 +35,7 @@ goes L n room k c b =
           heard k c b r (λ e. copies L n (gone k (r .state) (owes (dueIn (k .reader)) e 0)) (drop (r .read) c) b))
     ]
 
-turned-by : Limits → ℕ → Copy → List ℕ → List ℕ → Bool → Copied
+unfoldable pub turned-by : Limits → ℕ → Copy → List ℕ → List ℕ → Bool → Copied
 turned-by L n k c b t =
     let pos = reached b (k .pos) (rest (k .owed)) in
     let b′ = put b (k .pos) (rest (k .owed)) in
@@ -44,7 +44,7 @@ turned-by L n k c b t =
       | true ↦ goes L n (length b - pos) (settled k pos) c b′
     ]
 
-turn-is : (L : Limits) (n : ℕ) (k : Copy) (c b : List ℕ) → copies L (suc n) k c b ≡ turned-by L n k c b (leb (length (rest (k .owed))) (length b - k .pos))
+pub turn-is : (L : Limits) (n : ℕ) (k : Copy) (c b : List ℕ) → copies L (suc n) k c b ≡ turned-by L n k c b (leb (length (rest (k .owed))) (length b - k .pos))
 unfolding copies turned-by goes
 turn-is L n k c b = refl
 
@@ -203,7 +203,7 @@ turn-heard L s room c f t =
 
 -- ---- turns enough
 
-nearer : (s s′ : State) (a : calls.Answer) (j m : ℕ) (e : Event) → a ≡ calls.event e → Closes a s s′ j m → 2 * (m - j) + weight s′ < 2 * m + weight s
+pub nearer : (s s′ : State) (a : calls.Answer) (j m : ℕ) (e : Event) → a ≡ calls.event e → Closes a s s′ j m → 2 * (m - j) + weight s′ < 2 * m + weight s
 nearer s s′ (calls.event x) j m e i h = h
 nearer s s′ (calls.verdict v) j m e i h = let z : _≡_ {A = ℕ} 0 1 = cc in absurd (omega arith)
 nearer s s′ calls.invalid j m e i h = let z : _≡_ {A = ℕ} 0 1 = cc in absurd (omega arith)

@@ -1,3 +1,4 @@
 -- Proofs about the caller's side of the copier.
 pub mod Owed
 pub mod Sound
+pub mod Runs

@@ -1,26 +1,21 @@
 -- The caller's side of the copier: chunks handed on in order, each carried on through every "full" to its verdict, with drains, buffer
 -- changes and refused calls anywhere between. All of it goes through the definitions that the calls' contracts cite.
-use Prim.Native.Nat.{ℕ, zero, suc, _+_, _*_}
+use Prim.Native.Nat.{ℕ, _+_}
 use mathlib.Core.Path.{_≡_}
 use mathlib.Core.Logic.{_⊎_}
 use mathlib.Core.Bool.{Bool, true, false, _&&_, _||_}
-use mathlib.Core.List.{List, [], _∷_, _++_, map}
+use mathlib.Core.List.{List, [], _∷_, _++_}
 use lib.Dec.{ltb}
 use lib.ListN.{length, take, drop}
 use Rattle.layout.specs.Limits.{pick}
-use Rattle.layout.specs.Message.{Verdict, complete, incomplete, brokenAt}
+use Rattle.machine.specs.Run.{Heard, status, refused, nothing}
 use Rattle.copier.specs.declared.Copier.{Copier}
 use Rattle.copier.specs.Calls.{Said, full, verdict, Left, copied, Opens, taken, Started, started, Sends, bytes, Sent, drained, changed}
 use Rattle.copier.specs.Calls as calls
 
 -- ---- the desk
 
--- How a chunk ended: with a verdict, or with a refusal by its number, so many bytes of the message being read; `nothing` is no ending.
-pub data Heard : Type 0 where
-  status : Verdict → Heard
-  refused : (number read : ℕ) → Heard
-  nothing : Heard
-
+-- How a chunk ended, n bytes of the message being read: with a verdict, or with a refusal by its number.
 abbrev pub told : ℕ → Said → Heard
 told n full = nothing
 told n (verdict v) = status v
@@ -175,30 +170,3 @@ MayStand (stray x) d = (refusedWith x (d .copier) ≡ 5) ⊎ (refusedWith x (d .
 abbrev pub Allowed : List Act → Desk → Type 0
 Allowed [] d = Unit {0}
 Allowed (a ∷ as′) d = MayStand a d × Allowed as′ (act a d)
-
--- How many feeds of a schedule go on: not those after "full" with no drain between, which find the buffer as full as it was.
-abbrev pub goesOn : Act → Desk → ℕ
-goesOn feed d = pick (d .full) 0 1
-goesOn drain d = 0
-goesOn (change b) d = 0
-goesOn (stray x) d = 0
-
-unfoldable pub goings : List Act → Desk → ℕ
-goings [] d = 0
-goings (a ∷ as′) d = goesOn a d + goings as′ (act a d)
-
--- feed and drain in turn
-unfoldable pub turns : ℕ → List Act
-turns zero = []
-turns (suc n) = feed ∷ drain ∷ turns n
-
--- ---- what the layout says
-
--- how the layout's verdict is heard. "Number 2: the message is broken; the count read includes the offending byte."
-abbrev pub heardOf : Verdict → Heard
-heardOf complete = status complete
-heardOf incomplete = status incomplete
-heardOf (brokenAt n) = refused 2 n
-
-abbrev pub heardAll : List Verdict → List Heard
-heardAll vs = map heardOf vs

@@ -193,3 +193,212 @@ module _ (reserved : List ℕ) (cs : List (List ℕ)) (d : Desk) (c : List ℕ) 
       let w = broken-stays base (s .read) (s .unread ++ c) (length (s .read)) v in
       ends 0 (calls.Said.number 2) k b (s .read) (s .unread ++ c) (append-assoc (s .read) (s .unread) c) (λ n. absurd (n h)) z (s .keeps)
       (ap (refused 2) z ∙ ap heardOf (sym (w .0))) (f .sound) refl (broken-owes (k .writer .depth) (copyOf k .owed) (subst (λ (st : State). soundOwed base st (k .writer .depth) (copyOf k .owed) ≡ true) h (f .sound .owed))) (omega arith)
+
+  -- any other reader: the call's own answer
+  abbrev r : Copied
+  r = copy base (copyOf k) c b
+
+  abbrev k′ : Copier
+  k′ = copierIn (k .writer) (r .copy)
+
+  called : Kept base reserved (s .read) (d .sent) (copyOf k) c b r
+  called = copy-keeps base reserved (s .read) (d .sent) (copyOf k) c b (s .keeps) (inside k (length b) (f .sound)) (no-piece (k .owed) (k .place))
+
+  owed-same : rest (copyOf k′ .owed) ≡ rest (r .copy .owed)
+  owed-same = owed-back (r .copy .reader) (r .copy .depth) (r .copy .owed) (copy-sound base (copyOf k) c b (counted-sound k (length b) (f .sound)) (inside k (length b) (f .sound)) .sound .owed) .0
+
+  keeps-on : Keeps base reserved (s .read ++ take (r .used) c) (d .sent ++ take (r .copy .pos) (r .buf)) (copyOf k′)
+  keeps-on =
+      let q = called .keeps in
+      record {
+        events = q .events;
+        follows = subst (Follows base (s .read ++ take (r .used) c) (q .events)) (sym (state-of-stream (r .copy .reader))) (q .follows);
+        bytes = ap (λ (l : List ℕ). (d .sent ++ take (r .copy .pos) (r .buf)) ++ l) owed-same ∙ q .bytes;
+      }
+
+  sound-on : Sound k′ (length (r .buf))
+  sound-on = subst (Sound k′) (sym (called .size)) (carried-sound k c b (first .0) (f .sound))
+
+  counted-on : d .read + r .used ≡ length (s .read ++ take (r .used) c)
+  counted-on =
+      ap (λ (x : ℕ). x + r .used) (s .count)
+      ∙ ap (λ (x : ℕ). length (s .read) + x) (sym (length-take (r .used) c ∙ least (r .used) (length c) (called .few)))
+      ∙ sym (length-append (s .read) (take (r .used) c))
+
+  none-owed : r .copy .owed ≡ nothing → rest (copyOf k′ .owed) ≡ []
+  unfolding rest
+  none-owed o = owed-same ∙ ap rest o
+
+  -- the verdict once the chunk is spent
+  at-end : (v : Verdict) → s .unread ≡ [] → Final (copying.verdict v) (r .copy) (r .used) c (length b)
+      → Fine reserved cs (ended d later (record { used = r .used; said = verdict v; copier = k′; buf = r .buf }))
+  at-end v z (n, o, (dep, p, w, t)) =
+      let i : take (r .used) c ≡ c = ap (λ (m : ℕ). take m c) n ∙ take-length c in
+      let g = subst (Follows base (s .read ++ take (r .used) c) (called .keeps .events)) w (called .keeps .follows) in
+      let x : verdictOf base (s .read ++ take (r .used) c) ≡ verdictAt dep p = verdict-at base (s .read ++ take (r .used) c) dep p (g .place) in
+      ends (r .used) (verdict v) k′ (r .buf) (s .read ++ take (r .used) c) []
+      (ap (λ (l : List ℕ). (s .read ++ l) ++ c) z ∙ ap (λ (l : List ℕ). l ++ c) (append-nil (s .read)) ∙ ap (λ (l : List ℕ). s .read ++ l) (sym i) ∙ sym (append-nil _))
+      (λ m. refl) counted-on keeps-on
+      (ap status t ∙ sym (plain-at dep p .0) ∙ ap heardOf (sym x) ∙ ap (λ (l : List ℕ). heardOf (verdictOf base l)) (sym (append-nil (s .read ++ take (r .used) c))))
+      sound-on (called .size) (none-owed o) (called .ahead)
+
+  -- 2 at the offending byte
+  at-two : s .unread ≡ [] → Final copying.invalid (r .copy) (r .used) c (length b)
+      → Fine reserved cs (ended d later (record { used = r .used; said = calls.Said.number 2; copier = k′; buf = r .buf }))
+  at-two z (o, w) =
+      let g = subst (Follows base (s .read ++ take (r .used) c) (called .keeps .events)) w (called .keeps .follows) in
+      let v : verdictOf base (s .read ++ take (r .used) c) ≡ brokenAt (length (s .read ++ take (r .used) c)) = verdict-broken base (s .read ++ take (r .used) c) (g .place) in
+      let x = broken-stays base (s .read ++ take (r .used) c) (drop (r .used) c) (length (s .read ++ take (r .used) c)) v in
+      ends (r .used) (calls.Said.number 2) k′ (r .buf) (s .read ++ take (r .used) c) (drop (r .used) c)
+      (ap (λ (l : List ℕ). (s .read ++ l) ++ c) z ∙ ap (λ (l : List ℕ). l ++ c) (append-nil (s .read)) ∙ ap (λ (l : List ℕ). s .read ++ l) (sym (take-append-drop (r .used) c)) ∙ sym (append-assoc (s .read) (take (r .used) c) (drop (r .used) c)))
+      (λ m. absurd (m (state-of-stream (r .copy .reader) ∙ w))) counted-on keeps-on (ap (refused 2) counted-on ∙ ap heardOf (sym (x .0)))
+      sound-on (called .size) (none-owed o) (called .ahead)
+
+  by-answer : (a : copying.Answer) → s .unread ≡ [] → Final a (r .copy) (r .used) c (length b)
+      → Fine reserved cs (fed d c later (saidIn a) (record { used = r .used; said = saidIn a; copier = k′; buf = r .buf }))
+  by-answer copying.full z h = fills (r .used) k′ (r .buf) (called .few) z keeps-on sound-on (called .size) (called .ahead) (h .0 ∙ sym (called .size))
+  by-answer (copying.verdict v) z h = at-end v z h
+  by-answer copying.invalid z h = at-two z h
+  by-answer copying.unfinished z h = absurd h
+
+  by-state : (st : State) → stateOf (k .reader) ≡ st → Fine reserved cs (fed d c later (copied k c b .said) (copied k c b))
+  by-state broke h = subst (λ (x : Left). Fine reserved cs (fed d c later (x .said) x)) (sym (on-broken k c b (f .sound) h)) (again h)
+  by-state (reading dep p) h =
+      subst (λ (x : Left). Fine reserved cs (fed d c later (x .said) x)) (sym (on-live k c b (f .sound) (subst Live (sym h) tt)))
+      (by-answer (r .answer) (s .live (λ x. let z : reading dep p ≡ broke = sym h ∙ x in let w : _≡_ {A = ℕ} 0 1 = cc in omega arith)) (called .final))
+  by-state (owing dep id w) h =
+      subst (λ (x : Left). Fine reserved cs (fed d c later (x .said) x)) (sym (on-live k c b (f .sound) (subst Live (sym h) tt)))
+      (by-answer (r .answer) (s .live (λ x. let z : owing dep id w ≡ broke = sym h ∙ x in let w : _≡_ {A = ℕ} 0 1 = cc in omega arith)) (called .final))
+
+fine-feeding : (reserved : List ℕ) (cs : List (List ℕ)) (d : Desk) (l : List (List ℕ)) → Fine reserved cs d → d .chunks ≡ l → Fine reserved cs (feeding d l)
+unfolding feeding
+fine-feeding reserved cs d [] f e = f
+fine-feeding reserved cs d (c ∷ later) f e = by-state reserved cs d c later f e (stateOf (d .copier .reader)) refl
+
+-- ---- a drain, and another buffer
+
+-- a counted drain sends a byte at least
+sends-one : (reserved : List ℕ) (cs : List (List ℕ)) (d : Desk) → Fine reserved cs d → counts d ≡ true → 1 ≤ d .copier .writer .offset
+sends-one reserved cs d f c = go (d .full) refl (none (d .chunks)) (ltb 0 (d .copier .writer .offset)) refl c
+  where
+    go : (x : Bool) → d .full ≡ x → (y z : Bool) → ltb 0 (d .copier .writer .offset) ≡ z → (x || (y && z)) ≡ true → 1 ≤ d .copier .writer .offset
+    go true e y z g h = omega (arith, f .filled e, f .room)
+    go false e true true g h = ltb-true 0 (d .copier .writer .offset) g
+    go false e true false g h = let w : _≡_ {A = ℕ} 0 1 = cc in absurd (omega arith)
+    go false e false z g h = let w : _≡_ {A = ℕ} 0 1 = cc in absurd (omega arith)
+
+fine-sending : (reserved : List ℕ) (cs : List (List ℕ)) (d : Desk) (b : List ℕ) → Fine reserved cs d → 1 ≤ length b
+    → Fine reserved cs (sending d (bytes (d .copier .writer .offset)) (over (d .copier) (at (d .copier .writer) 0)) b)
+fine-sending reserved cs d b f h =
+    let s = f .stands in
+    let k : Copier = over (d .copier) (at (d .copier .writer) 0) in
+    let y : Sound k (length b) = moved-sound (d .copier) (length (d .buf)) 0 (length b) (f .sound) (omega arith) in
+    let n = out-length (d .sent) (d .buf) (d .copier .writer .offset) (inside (d .copier) (length (d .buf)) (f .sound)) in
+    record {
+      stands =
+          record {
+            done = s .done;
+            begun = s .begun;
+            chunks = s .chunks;
+            read = s .read;
+            unread = s .unread;
+            handed = s .handed;
+            live = s .live;
+            count = s .count;
+            keeps =
+                record {
+                  events = s .keeps .events;
+                  follows = s .keeps .follows;
+                  bytes = ap (λ (l : List ℕ). l ++ rest (copyOf k .owed)) (append-nil (out d)) ∙ s .keeps .bytes;
+                };
+            settled = s .settled;
+            heard = s .heard;
+            sound = sound-is k (length b) y;
+          };
+      sound = y;
+      room = h;
+      bytes = f .bytes;
+      filled = λ w. let v : _≡_ {A = ℕ} 0 1 = cc in absurd (omega arith);
+      few = go (counts d) refl n;
+      ahead = subst (λ (l : List ℕ). length reserved ≤ length l) (sym (append-nil (out d))) (f .ahead);
+    }
+  where
+    go : (t : Bool) → counts d ≡ t → {n : ℕ} → n ≡ length (d .sent) + d .copier .writer .offset → pick t 1 0 + d .drains ≤ n
+    go true e q = omega (arith, sends-one reserved cs d f e, f .few)
+    go false e q = omega (arith, f .few)
+
+fine-drain : (reserved : List ℕ) (cs : List (List ℕ)) (d : Desk) → Fine reserved cs d → Fine reserved cs (act drain d)
+unfolding act
+fine-drain reserved cs d f =
+    subst (λ (r : Sent). Fine reserved cs (sending d (r .sends) (r .copier) (d .buf))) (sym (drain-is (d .copier) (length (d .buf)) (f .sound .writer)))
+    (fine-sending reserved cs d (d .buf) f (f .room))
+
+fine-change : (reserved : List ℕ) (cs : List (List ℕ)) (d : Desk) (b : List ℕ) → Fine reserved cs d → Fine reserved cs (act (change b) d)
+unfolding act
+fine-change reserved cs d b f = go (leb (length b) 0) refl
+  where
+    go : (t : Bool) → leb (length b) 0 ≡ t
+        → Fine reserved cs (sending d (changed (d .copier) (length (d .buf)) (length b) 0 .sends) (changed (d .copier) (length (d .buf)) (length b) 0 .copier) b)
+    go true e =
+        subst (λ (r : Sent). Fine reserved cs (sending d (r .sends) (r .copier) b)) (sym (change-unfit (d .copier) (length (d .buf)) (length b) 0 (leb-true (length b) 0 e))) f
+    go false e =
+        subst (λ (r : Sent). Fine reserved cs (sending d (r .sends) (r .copier) b))
+        (sym (change-is (d .copier) (length (d .buf)) (length b) 0 (f .sound .writer) (leb-false (length b) 0 e)))
+        (fine-sending reserved cs d b f (leb-false (length b) 0 e))
+
+-- ---- any acts
+
+-- a call refused with 5 or 6 leaves the desk as it was
+pub stray-is : (x : Stray) (d : Desk) → MayStand (stray x) d → act (stray x) d ≡ d
+unfolding act
+stray-is x d h = ap (holding d) (stray-back x (d .copier) h)
+
+pub fine-act : (reserved : List ℕ) (cs : List (List ℕ)) (a : Act) (d : Desk) → MayStand a d → Fine reserved cs d → Fine reserved cs (act a d)
+unfolding act
+fine-act reserved cs feed d h f = fine-feeding reserved cs d (d .chunks) f refl
+fine-act reserved cs drain d h f = fine-drain reserved cs d f
+fine-act reserved cs (change b) d h f = fine-change reserved cs d b f
+fine-act reserved cs (stray x) d h f = subst (Fine reserved cs) (sym (stray-is x d h)) f
+
+pub fine-acts : (reserved : List ℕ) (cs : List (List ℕ)) (as′ : List Act) (d : Desk) → Allowed as′ d → Fine reserved cs d → Fine reserved cs (acts as′ d)
+unfolding acts
+fine-acts reserved cs [] d h f = f
+fine-acts reserved cs (a ∷ as′) d h f = fine-acts reserved cs as′ (act a d) (h .1) (fine-act reserved cs a d (h .0) f)
+
+-- ---- from the start
+
+fine-fresh : (offset : ℕ) (b : List ℕ) (cs : List (List ℕ)) → offset < length b → All Bytes cs → (k : Copier) → k ≡ freshOver (opened offset) → Sound k (length b)
+    → Fine (take offset b) cs (record { copier = k; buf = b; sent = []; chunks = cs; read = 0; heard = []; full = false; drains = 0 })
+unfolding opened rest encodeEvents verdictsOf join
+fine-fresh offset b cs h a k e s =
+    let o : k .writer .offset ≡ offset = ap (λ (k : Copier). k .writer .offset) e in
+    let w : rest (copyOf k .owed) ≡ [] = ap (λ (k : Copier). rest (copyOf k .owed)) e in
+    let p : take (k .writer .offset) b ≡ take offset b = ap (λ (n : ℕ). take n b) o in
+    record {
+      stands =
+          record {
+            done = [];
+            begun = [];
+            chunks = sym (whole-none cs);
+            read = [];
+            unread = [];
+            handed = refl;
+            live = λ z. refl;
+            count = refl;
+            keeps =
+                record {
+                  events = [];
+                  follows = subst (λ (k : Copier). Follows base [] [] (stateOf (k .reader))) (sym e) (fresh-follows base);
+                  bytes = ap (λ (l : List ℕ). take (k .writer .offset) b ++ l) w ∙ ap (λ (l : List ℕ). l ++ []) p;
+                };
+            settled = λ z. (refl, w);
+            heard = refl;
+            sound = sound-is k (length b) s;
+          };
+      sound = s;
+      room = omega arith;
+      bytes = a;
+      filled = λ z. let v : _≡_ {A = ℕ} 0 1 = cc in absurd (omega arith);
+      few = omega arith;
+      ahead = omega (arith, ap length p);
+    }

@@ -2,3 +2,4 @@
 pub mod Owed
 pub mod Sound
 pub mod Runs
+pub mod Sent

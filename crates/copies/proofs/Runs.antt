@@ -66,7 +66,7 @@ whole-none (c ∷ cs) = refl
 least : (x y : ℕ) → x ≤ y → min x y ≡ x
 least x y h = omega arith
 
-out-length : (sent b : List ℕ) (p : ℕ) → p ≤ length b → length (sent ++ take p b) ≡ length sent + p
+pub out-length : (sent b : List ℕ) (p : ℕ) → p ≤ length b → length (sent ++ take p b) ≡ length sent + p
 out-length sent b p h = length-append sent (take p b) ∙ ap (λ (n : ℕ). length sent + n) (length-take p b ∙ least p (length b) h)
 
 -- ---- what is kept
@@ -84,7 +84,7 @@ pub inside : (k : Copier) (size : ℕ) → Sound k size → k .writer .offset �
 inside k size s = writers.is-sound (k .writer) size (s .writer) .inside
 
 -- a broken reader's copier owes nothing
-broken-owes : (w : ℕ) (o : Owed) → soundOwed base broke w o ≡ true → rest o ≡ []
+pub broken-owes : (w : ℕ) (o : Owed) → soundOwed base broke w o ≡ true → rest o ≡ []
 unfolding soundOwed rest
 broken-owes w nothing h = refl
 broken-owes w (owes due e place) h = let z : _≡_ {A = ℕ} 0 1 = cc in absurd (omega arith)
@@ -261,19 +261,51 @@ module _ (reserved : List ℕ) (cs : List (List ℕ)) (d : Desk) (c : List ℕ) 
   by-answer copying.invalid z h = at-two z h
   by-answer copying.unfinished z h = absurd h
 
-  by-state : (st : State) → stateOf (k .reader) ≡ st → Fine reserved cs (fed d c later (copied k c b .said) (copied k c b))
-  by-state broke h = subst (λ (x : Left). Fine reserved cs (fed d c later (x .said) x)) (sym (on-broken k c b (f .sound) h)) (again h)
-  by-state (reading dep p) h =
-      subst (λ (x : Left). Fine reserved cs (fed d c later (x .said) x)) (sym (on-live k c b (f .sound) (subst Live (sym h) tt)))
-      (by-answer (r .answer) (s .live (λ x. let z : reading dep p ≡ broke = sym h ∙ x in let w : _≡_ {A = ℕ} 0 1 = cc in omega arith)) (called .final))
-  by-state (owing dep id w) h =
-      subst (λ (x : Left). Fine reserved cs (fed d c later (x .said) x)) (sym (on-live k c b (f .sound) (subst Live (sym h) tt)))
-      (by-answer (r .answer) (s .live (λ x. let z : owing dep id w ≡ broke = sym h ∙ x in let w : _≡_ {A = ℕ} 0 1 = cc in omega arith)) (called .final))
+  -- what a feed comes to
+  by-feed : (P : Desk → Type 0) → (stateOf (k .reader) ≡ broke → P (ended d later (untouched 2 k b)))
+      → ((a : copying.Answer) → (stateOf (k .reader) ≡ broke → ⊥) → Final a (r .copy) (r .used) c (length b)
+      → P (fed d c later (saidIn a) (record { used = r .used; said = saidIn a; copier = k′; buf = r .buf })))
+      → P (fed d c later (copied k c b .said) (copied k c b))
+  by-feed P two on = go (stateOf (k .reader)) refl
+    where
+      reads : Live (stateOf (k .reader)) → (stateOf (k .reader) ≡ broke → ⊥) → P (fed d c later (copied k c b .said) (copied k c b))
+      reads l n = subst (λ (x : Left). P (fed d c later (x .said) x)) (sym (on-live k c b (f .sound) l)) (on (r .answer) n (called .final))
+
+      go : (st : State) → stateOf (k .reader) ≡ st → P (fed d c later (copied k c b .said) (copied k c b))
+      go broke h = subst (λ (x : Left). P (fed d c later (x .said) x)) (sym (on-broken k c b (f .sound) h)) (two h)
+      go (reading dep p) h = reads (subst Live (sym h) tt) (λ x. let z : reading dep p ≡ broke = sym h ∙ x in let w : _≡_ {A = ℕ} 0 1 = cc in omega arith)
+      go (owing dep id w) h = reads (subst Live (sym h) tt) (λ x. let z : owing dep id w ≡ broke = sym h ∙ x in let v : _≡_ {A = ℕ} 0 1 = cc in omega arith)
+
+  -- A feed brings the end nearer: its chunk ends, or the buffer is written to its end.
+  abbrev pub Moves : Desk → Type 0
+  Moves x = (length (out d) ≤ length (out x)) × ((x .chunks ≡ later) ⊎ ((length (x .chunks) ≡ suc (length later)) × (x .full ≡ true) × (length (out x) ≡ length (d .sent) + length b)))
+
+  moved-on : length (out d) ≤ length (d .sent ++ take (r .copy .pos) (r .buf))
+  moved-on =
+      let p = called .within in
+      let a = called .ahead in
+      omega (arith, called .size, out-length (d .sent) b (k .writer .offset) (inside k (length b) (f .sound)), out-length (d .sent) (r .buf) (r .copy .pos) (omega (arith, called .size)))
+
+  move : (a : copying.Answer) → Final a (r .copy) (r .used) c (length b) → Moves (fed d c later (saidIn a) (record { used = r .used; said = saidIn a; copier = k′; buf = r .buf }))
+  move copying.full h =
+      (moved-on, inr (refl, refl, out-length (d .sent) (r .buf) (r .copy .pos) (omega (arith, called .size, h .0)) ∙ ap (λ (n : ℕ). length (d .sent) + n) (h .0)))
+  move (copying.verdict v) h = (moved-on, inl refl)
+  move copying.invalid h = (moved-on, inl refl)
+  move copying.unfinished h = absurd h
+
+  feed-moves : Moves (fed d c later (copied k c b .said) (copied k c b))
+  feed-moves = by-feed Moves (λ h. (omega arith, inl refl)) (λ a n h. move a h)
 
 fine-feeding : (reserved : List ℕ) (cs : List (List ℕ)) (d : Desk) (l : List (List ℕ)) → Fine reserved cs d → d .chunks ≡ l → Fine reserved cs (feeding d l)
 unfolding feeding
 fine-feeding reserved cs d [] f e = f
-fine-feeding reserved cs d (c ∷ later) f e = by-state reserved cs d c later f e (stateOf (d .copier .reader)) refl
+fine-feeding reserved cs d (c ∷ later) f e =
+    by-feed reserved cs d c later f e (Fine reserved cs) (again reserved cs d c later f e) (λ a n h. by-answer reserved cs d c later f e a (f .stands .live n) h)
+
+pub moves : (reserved : List ℕ) (cs : List (List ℕ)) (d : Desk) (c : List ℕ) (later : List (List ℕ)) → (f : Fine reserved cs d) → (e : d .chunks ≡ c ∷ later)
+    → Moves reserved cs d c later f e (act feed d)
+unfolding act feeding
+moves reserved cs d c later f e = subst (λ (l : List (List ℕ)). Moves reserved cs d c later f e (feeding d l)) (sym e) (feed-moves reserved cs d c later f e)
 
 -- ---- a drain, and another buffer
 
@@ -367,7 +399,7 @@ fine-acts reserved cs (a ∷ as′) d h f = fine-acts reserved cs as′ (act a d
 
 -- ---- from the start
 
-fine-fresh : (offset : ℕ) (b : List ℕ) (cs : List (List ℕ)) → offset < length b → All Bytes cs → (k : Copier) → k ≡ freshOver (opened offset) → Sound k (length b)
+pub fine-fresh : (offset : ℕ) (b : List ℕ) (cs : List (List ℕ)) → offset < length b → All Bytes cs → (k : Copier) → k ≡ freshOver (opened offset) → Sound k (length b)
     → Fine (take offset b) cs (record { copier = k; buf = b; sent = []; chunks = cs; read = 0; heard = []; full = false; drains = 0 })
 unfolding opened rest encodeEvents verdictsOf join
 fine-fresh offset b cs h a k e s =

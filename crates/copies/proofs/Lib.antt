@@ -3,3 +3,4 @@ pub mod Owed
 pub mod Sound
 pub mod Runs
 pub mod Sent
+pub mod Ends

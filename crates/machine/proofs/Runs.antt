@@ -4,24 +4,25 @@ use Prim.Native.Nat.{ℕ, zero, suc, _+_, _-_, _*_, _<_, _≤_, min}
 use native.Mathlib.Nat.{not-suc-le-zero}
 use native.Mathlib.Omega.{arith}
 use mathlib.Core.Path.{_≡_, refl, sym, ap, _∙_, subst}
+use mathlib.Core.Logic.{_↔_}
 use mathlib.Core.Bool.{Bool, true, false}
 use mathlib.Core.List.{List, [], _∷_, _++_, append-assoc, append-nil}
 use lib.Dec.{eqb}
 use lib.ListN.{length, take, drop, length-append, length-take, length-drop, take-append-drop}
 use lib.Seq.{take-add, take-length}
 use Rattle.layout.specs.Limits.{Limits, pick}
-use Rattle.layout.specs.Field.{Raw}
-use Rattle.layout.specs.Event.{Event, Unsigned, Signed, Float, Piece, Fixlen, Array, Begin, End, cutFrom, cutPiece, cut, bytewise}
-use Rattle.layout.specs.Varint.{Outcome, whole, short, broken}
+use Rattle.layout.specs.Event.{Event, joined, bytewise}
+use Rattle.layout.specs.Varint.{broken}
 use Rattle.layout.specs.Message.{Verdict, complete, incomplete, brokenAt, verdictOf, eventsOf, message, fieldsFrom, judged}
 use Rattle.machine.specs.Machine.{Phase, idle, inHeader, inUnsigned, inSigned, inWord, inUnsignedCount, inSignedCount, inFloatCount, inArrayWord, inFloat, inPayload}
 use Rattle.machine.specs.Machine.{Place, at, brokenBefore, walk, ending, endOf, judge}
-use Rattle.machine.specs.Call.{State, reading, owing, broke, fresh, Answer, event, verdict, invalid, Called, verdictAt, verdictSo, Standing, standingOf, standing, call}
+use Rattle.machine.specs.Call.{State, reading, owing, broke, fresh, Answer, event, verdict, invalid, verdictAt, verdictSo, Standing, standingOf, standing, call}
 use Rattle.machine.specs.Call as Call
-use Rattle.machine.specs.Run.{given, due, Follows, Ending, ended, unfinished, Chunk, more, calls, chunk, Heard, status, refused, heardOf, seen, Read, chunks, verdictsOf, heardAll, join}
+use Rattle.machine.specs.Run.{given, due, Follows, Ending, ended, unfinished, Chunk, more, calls, chunk, Heard, status, heardOf, seen, chunks, verdictsOf, heardAll, lastHeard, join}
+use Rattle.layout.proofs.Joined.{joined-exactly, joined-run, bytewise-again}
 use Rattle.machine.proofs.Bridge.{events-walk, verdict-walk}
 use Rattle.machine.proofs.Prefix.{broken-stays}
-use Rattle.machine.proofs.Calls.{Judged, Closes, weight, Answered, bytewise-append, call-follows, fresh-follows}
+use Rattle.machine.proofs.Calls.{Judged, Closes, weight, call-follows, fresh-follows}
 
 -- ---- a chunk
 
@@ -248,29 +249,25 @@ verdict-so (reading d p) = plain-at d p .1
 verdict-so (owing d id r) = refl
 verdict-so broke = refl
 
--- ---- joined
+-- What is heard at last is the layout's verdict for all the bytes; "no chunk at all, is complete".
+last-heard : (L : Limits) (bs : List ℕ) (h : Heard) (cs : List (List ℕ)) → h ≡ heardOf (verdictOf L bs) → lastHeard h (heardAll (verdictsOf L bs cs)) ≡ heardOf (verdictOf L (bs ++ join cs))
+unfolding lastHeard verdictsOf join
+last-heard L bs h [] e = e ∙ ap (λ (l : List ℕ). heardOf (verdictOf L l)) (sym (append-nil bs))
+last-heard L bs h (c ∷ cs) e =
+    last-heard L (bs ++ c) (heardOf (verdictOf L (bs ++ c))) cs refl ∙ ap (λ (l : List ℕ). heardOf (verdictOf L l)) (append-assoc bs c (join cs))
 
-cut-from-again : (id : ℕ) (r : Raw) (total o : ℕ) (bs : List ℕ) → bytewise (cutFrom id r total o bs) ≡ cutFrom id r total o bs
-unfolding cutFrom bytewise cut cutPiece
-cut-from-again id r total o [] = refl
-cut-from-again id r total o (b ∷ bs) = ap (λ (l : List Event). Piece id r total o (b ∷ []) ∷ l) (cut-from-again id r total (suc o) bs)
+pub verdicts-last : (L : Limits) (cs : List (List ℕ)) → lastHeard (status complete) (heardAll (verdictsOf L [] cs)) ≡ heardOf (verdictOf L (join cs))
+verdicts-last L cs = last-heard L [] (status complete) cs (ap heardOf (sym (no-chunk-complete L .1)))
 
-cut-again : (e : Event) → bytewise (cut e) ≡ cut e
-unfolding bytewise cut cutPiece
-cut-again (Unsigned id n) = refl
-cut-again (Signed id z) = refl
-cut-again (Float id w x) = refl
-cut-again (Piece id r total o []) = refl
-cut-again (Piece id r total o (b ∷ bs)) = cut-from-again id r total o (b ∷ bs)
-cut-again (Fixlen id s total) = refl
-cut-again (Array id k n) = refl
-cut-again (Begin id) = refl
-cut-again End = refl
+-- ---- pieces joined
 
-bytewise-again : (es : List Event) → bytewise (bytewise es) ≡ bytewise es
-unfolding bytewise
-bytewise-again [] = refl
-bytewise-again (e ∷ es) = bytewise-append (cut e) (bytewise es) ∙ ap (λ (l : List Event). l ++ bytewise (bytewise es)) (cut-again e) ∙ ap (λ (l : List Event). cut e ++ l) (bytewise-again es)
+-- Payload pieces joined, the events given are the layout's,
+pub reads-joined : (L : Limits) (cs : List (List ℕ)) → joined (chunks L fresh 0 cs .events) ≡ joined (eventsOf L (join cs))
+reads-joined L cs = joined-run L (join cs) (chunks L fresh 0 cs .events) (reads L cs .0)
+
+-- and so the same for any two ways to cut a message into chunks.
+pub same-events : (L : Limits) (cs ds : List (List ℕ)) → join cs ≡ join ds → joined (chunks L fresh 0 cs .events) ≡ joined (chunks L fresh 0 ds .events)
+same-events L cs ds e = reads-joined L cs ∙ ap (λ (l : List ℕ). joined (eventsOf L l)) e ∙ sym (reads-joined L ds)
 
 -- The layout's own events have their pieces cut into bytes already.
 pub events-bytewise : (L : Limits) (bs : List ℕ) → bytewise (eventsOf L bs) ≡ eventsOf L bs
@@ -279,6 +276,9 @@ events-bytewise L bs =
     let r = reads L (bs ∷ []) .0 ∙ ap (eventsOf L) (append-nil bs) in
     ap bytewise (sym r) ∙ bytewise-again (chunks L fresh 0 (bs ∷ []) .events) ∙ r
 
--- Any two ways to cut a message into chunks give the same events, pieces joined.
-pub same-events : (L : Limits) (cs ds : List (List ℕ)) → join cs ≡ join ds → bytewise (chunks L fresh 0 cs .events) ≡ bytewise (chunks L fresh 0 ds .events)
-same-events L cs ds e = reads L cs .0 ∙ ap (eventsOf L) e ∙ sym (reads L ds .0)
+-- So two messages have the same events with their pieces joined exactly when they have the same events.
+pub joined-injective : (L : Limits) (xs ys : List ℕ) → (joined (eventsOf L xs) ≡ joined (eventsOf L ys)) ↔ (eventsOf L xs ≡ eventsOf L ys)
+joined-injective L xs ys = (
+  λ e. sym (events-bytewise L xs) ∙ joined-exactly (eventsOf L xs) (eventsOf L ys) .0 e ∙ events-bytewise L ys,
+  ap joined,
+)

@@ -26,17 +26,17 @@ use Rattle.machine.proofs.Calls.{Judged, Closes, weight, call-follows, 
 
 -- ---- a chunk
 
--- how a chunk's calls end
-abbrev EndsAt : Ending Answer → State → ℕ → ℕ → Type 0
+-- how a chunk's calls end, k bytes of its m being read: a verdict comes once it is spent and is that of the place reached
+abbrev pub EndsAt : Ending Answer → State → ℕ → ℕ → Type 0
 EndsAt (ended (event e)) s k m = ⊥
 EndsAt (ended (verdict v)) s k m = (k ≡ m) × Judged s v
 EndsAt (ended invalid) s k m = s ≡ broke
 EndsAt unfinished s k m = ⊥
 
-record Ran (L : Limits) (bs : List ℕ) (es : List Event) (c : List ℕ) (r : Chunk) : Type 0 where
-  few : r .read ≤ length c
-  follows : Follows L (bs ++ take (r .read) c) (es ++ r .events) (r .state)
-  final : EndsAt (r .answer) (r .state) (r .read) (length c)
+pub record Ran (L : Limits) (bs : List ℕ) (es : List Event) (c : List ℕ) (r : Chunk) : Type 0 where
+  pub few : r .read ≤ length c
+  pub follows : Follows L (bs ++ take (r .read) c) (es ++ r .events) (r .state)
+  pub final : EndsAt (r .answer) (r .state) (r .read) (length c)
 
 -- one call, and the calls after it
 later : (L : Limits) (bs : List ℕ) (es : List Event) (c : List ℕ) (e : Event) (k : ℕ) (q : Chunk) → k ≤ length c
@@ -82,6 +82,15 @@ ran L (suc n) bs es s c f h =
     let a = call-follows L bs es s c f in
     by-answer L n bs es s c (r .read) (r .state) (r .answer) (a .few) (a .closes) (a .follows)
     (λ e g l. ran L n (bs ++ take (r .read) c) (es ++ (e ∷ [])) (r .state) (drop (r .read) c) g (omega (arith, length-drop (r .read) c)))
+
+-- From any state of a run, a chunk's calls end with the events given and due the layout's for the bytes read.
+pub chunk-follows : (L : Limits) (bs : List ℕ) (es : List Event) (s : State) (c : List ℕ) → Follows L bs es s → Ran L bs es c (chunk L s c)
+chunk-follows L bs es s c f = ran L (2 * length c + 2) bs es s c f (enough s)
+  where
+    enough : (s : State) → 2 * length c + weight s < 2 * length c + 2
+    enough (reading d p) = omega arith
+    enough (owing d id r) = omega arith
+    enough broke = omega arith
 
 -- ---- a list of chunks
 
@@ -185,7 +194,7 @@ broken-chunk L bs es n c v e m =
 chunked : (L : Limits) (bs : List ℕ) (es : List Event) (n : ℕ) (s : State) (c : List ℕ) → Stands L bs es n s → Chunked L bs es n c (chunk L s c)
 chunked L bs es n (reading d p) c (clear f m) =
     let r = chunk L (reading d p) c in
-    let h = ran L (2 * length c + 2) bs es (reading d p) c f (omega arith) in
+    let h = chunk-follows L bs es (reading d p) c f in
     chunked-from L bs es n c (r .events) (r .read) (r .answer) (r .state) m (h .few) (h .follows) (h .final)
 chunked L bs es n broke c (gone v e) =
     let m : suc (2 * length c + 1) ≡ 2 * length c + 2 = omega arith in

@@ -2,6 +2,7 @@
 use Prim.Native.Nat.{ℕ, zero, suc, _+_, _-_, _*_, _/_, _%_, _^_, _<_, _≤_, min}
 use native.Mathlib.Omega.{arith}
 use mathlib.Core.Path.{_≡_, refl, sym, ap, _∙_, subst}
+use mathlib.Core.Logic.{_↔_}
 use mathlib.Core.Bool.{Bool, true, false}
 use mathlib.Core.List.{List, [], _∷_, _++_}
 use lib.ListN.{length, take, drop, getD, length-take}
@@ -21,7 +22,7 @@ use Rattle.machine.specs.Call.{State, reading, owing, broke, fresh, Answer, eve
 use Rattle.machine.specs.Call.{standingOf, standing}
 use Rattle.machine.specs.Run.{given, due, Follows, Ending, ended, unfinished, Chunk, calls, Heard, status, seen, chunks, verdictsOf, heardOf, heardAll, lastHeard, join}
 use Rattle.machine.proofs.Calls.{call-follows, fresh-follows}
-use Rattle.machine.proofs.Runs.{standingWith, standing-is, reads, verdicts-last}
+use Rattle.machine.proofs.Runs.{standingWith, standing-is, reads, verdicts-last, joined-injective}
 use Rattle.event.specs.Event.{eventOf, declared}
 use Rattle.event.proofs.Laws.{InRange, declared-back}
 use Rattle.istream.specs.declared.IStream.{IStream}
@@ -378,6 +379,13 @@ feeds-read cs b =
 -- Payload pieces joined, those are the layout's events,
 pub feeds-joined : (cs : List (List ℕ)) → All Bytes cs → joined (feedAll (streamIn fresh) 0 cs .events) ≡ joined (eventsOf base (join cs))
 feeds-joined cs b = joined-run base (join cs) (feedAll (streamIn fresh) 0 cs .events) (feeds-read cs b .0)
+
+-- so that two readers of any chunks have given the same events, joined, exactly when the layout's are the same;
+pub feeds-same : (cs ds : List (List ℕ)) → All Bytes cs → All Bytes ds
+    → (joined (feedAll (streamIn fresh) 0 cs .events) ≡ joined (feedAll (streamIn fresh) 0 ds .events)) ↔ (eventsOf base (join cs) ≡ eventsOf base (join ds))
+feeds-same cs ds b d =
+    let i = joined-injective base (join cs) (join ds) in
+    (λ e. i .0 (sym (feeds-joined cs b) ∙ e ∙ feeds-joined ds d), λ e. feeds-joined cs b ∙ i .1 e ∙ sym (feeds-joined ds d))
 
 -- and what is heard at last is the verdict for all the bytes. "No chunk at all, is complete."
 pub feeds-last : (cs : List (List ℕ)) → All Bytes cs → lastHeard (status complete) (feedAll (streamIn fresh) 0 cs .verdicts) ≡ heardOf (verdictOf base (join cs))

@@ -8,7 +8,7 @@ use Rattle.layout.specs.Limits.{Limits}
 use Rattle.layout.specs.Event.{Event, Piece, bytewise}
 use Rattle.layout.specs.Message.{Verdict, complete, incomplete, brokenAt, verdictOf}
 use Rattle.machine.specs.Machine.{idle, Place, at, brokenBefore, walk}
-use Rattle.machine.specs.Call.{State, reading, owing, broke, Answer, event, verdict, invalid, Called, call}
+use Rattle.machine.specs.Call.{State, reading, owing, broke, Answer, event, verdict, invalid, call}
 
 -- ---- one call
 
@@ -110,6 +110,11 @@ verdictsOf L bs (c ∷ cs) = verdictOf L (bs ++ c) ∷ verdictsOf L (bs ++ c) cs
 -- as they are heard
 abbrev pub heardAll : List Verdict → List Heard
 heardAll vs = map heardOf vs
+
+-- the last that was heard, after what was heard before
+unfoldable pub lastHeard : Heard → List Heard → Heard
+lastHeard h [] = h
+lastHeard h (x ∷ xs) = lastHeard x xs
 
 -- chunks joined
 unfoldable pub join : List (List ℕ) → List ℕ

@@ -19,13 +19,13 @@ use Rattle.machine.specs.Machine.{idle}
 use Rattle.machine.specs.Call.{State, reading, owing, broke, Pace, byte, bulk, paceOf, call}
 use Rattle.machine.specs.Call as calls
 use Rattle.machine.specs.Run.{given, placeOf, Follows}
-use Rattle.machine.proofs.Calls.{FairPlace, fair-walk, weight, light, Closes, call-follows}
+use Rattle.machine.proofs.Calls.{FairPlace, fair-walk, weight, Closes, call-follows}
 use Rattle.emit.specs.Put.{put, reached}
 use Rattle.emit.proofs.Writes.{put-is, reached-is, take-over, length-put, reached-le}
 use Rattle.copying.specs.Owed.{Owed, nothing, owes, rest, further, dueIn}
-use Rattle.copying.specs.Copy.{Copy, Answer, full, verdict, invalid, unfinished, Copied, after, settled, filled, gone, handed, stuck, heard, copies, copy}
+use Rattle.copying.specs.Copy.{Copy, Answer, full, verdict, invalid, unfinished, Copied, after, settled, filled, gone, handed, stuck, heard, fits, allOf, copies, turnsFor, copy}
 use Rattle.copying.specs.Run.{Keeps, InPayload, Bulk, Final, NoPiece, Kept}
-use Rattle.copying.proofs.Turns.{goes, goes-on, goes-is, turn-full, turn-goes, handed-first, turn-heard}
+use Rattle.copying.proofs.Turns.{goes, goes-on, goes-is, turn-full, turn-goes, fits-false, fits-true, enough, handed-first, turn-heard}
 use Rattle.copying.proofs.Due.{walk-due}
 use Rattle.copying.proofs.Pieces.{given-fits}
 
@@ -208,7 +208,7 @@ not-broke L s c e h b =
 -- an event more is owed
 keeps-event : (L : Limits) (reserved bs sent : List ℕ) (k : Copy) (c b : List ℕ) (j : ℕ) (s : State) (e : Event) (q : Keeps L reserved bs (sent ++ take (k .pos) b) k) → k .owed ≡ nothing
     → (k .reader ≡ broke → ⊥) → Follows L (bs ++ take j c) (q .events ++ (e ∷ [])) s
-    → Keeps L reserved (bs ++ take j c) (sent ++ take (k .pos) b) (gone k s (owes (dueIn (k .reader)) e 0))
+    → Keeps L reserved (bs ++ take j c) (sent ++ take (k .pos) b) (gone k s (allOf (k .reader) e))
 unfolding rest encodeEvents
 keeps-event L reserved bs sent k c b j s e q o n f =
     let es = q .events in
@@ -240,11 +240,11 @@ keeps-end L reserved bs sent k c b j s q o f =
 kept-heard : (L : Limits) (reserved bs sent : List ℕ) (k : Copy) (c b : List ℕ) (j : ℕ) (a : calls.Answer) (s : State) (f : Event → Copied) (q : Keeps L reserved bs (sent ++ take (k .pos) b) k)
     → k .pos ≤ length b → k .owed ≡ nothing → j ≤ length c → Closes a (k .reader) s j (length c) → Follows L (bs ++ take j c) (q .events ++ given a) s
     → ((e : Event) → a ≡ calls.event e → Follows L (bs ++ take j c) (q .events ++ (e ∷ [])) s → 2 * (length c - j) + weight s < 2 * length c + weight (k .reader)
-    → Kept L reserved (bs ++ take j c) sent (gone k s (owes (dueIn (k .reader)) e 0)) (drop j c) b (f e))
+    → Kept L reserved (bs ++ take j c) sent (gone k s (allOf (k .reader) e)) (drop j c) b (f e))
     → Kept L reserved bs sent k c b (heard k c b (record { read = j; answer = a; state = s }) f)
 unfolding heard
 kept-heard L reserved bs sent k c b j (calls.event e) s f q p o l h g go =
-    kept-after L reserved bs sent k (gone k s (owes (dueIn (k .reader)) e 0)) c b j (f e) refl l (go e refl g h)
+    kept-after L reserved bs sent k (gone k s (allOf (k .reader) e)) c b j (f e) refl l (go e refl g h)
 kept-heard L reserved bs sent k c b j (calls.verdict v) (reading d p′) f q p o l h g go =
     record {
       few = l;
@@ -283,25 +283,25 @@ kept-goes L n reserved bs sent k c b q p o later = subst (Kept L reserved bs sen
         subst (λ (l : List ℕ). Follows L (bs ++ l) (q .events ++ given (r .answer)) (r .state)) (handed-first (k .reader) (length b - k .pos) c (r .read) (w .few)) (w .follows) in
         kept-heard L reserved bs sent k c b (r .read) (r .answer) (r .state) _ q p o (v .few) (v .closes) g
         (λ x i y z.
-        later (bs ++ take (r .read) c) sent (gone k (r .state) (owes (dueIn (k .reader)) x 0)) (drop (r .read) c) b
+        later (bs ++ take (r .read) c) sent (gone k (r .state) (allOf (k .reader) x)) (drop (r .read) c) b
         (keeps-event L reserved bs sent k c b (r .read) (r .state) x q o (not-broke L (k .reader) h x i) y) p (given-fits L (dueIn (k .reader)) (k .reader) (length b - k .pos) c x i)
         (omega (arith, length-drop (r .read) c)))
 
 -- one turn, and those after it
 kept-turn : (L : Limits) (n : ℕ) (reserved bs sent : List ℕ) (k : Copy) (c b : List ℕ) → Keeps L reserved bs (sent ++ take (k .pos) b) k → k .pos ≤ length b → Takes k b
     → Later L n reserved (2 * length c + weight (k .reader)) → Kept L reserved bs sent k c b (copies L (suc n) k c b)
-kept-turn L n reserved bs sent k c b q p t later = go (leb (length (rest (k .owed))) (length b - k .pos)) refl
+kept-turn L n reserved bs sent k c b q p t later = go (fits k b) refl
   where
     plain : Takes k b → length b - k .pos < length (rest (k .owed)) → NoPiece (k .owed)
     plain (inl h) l = h
     plain (inr h) l = absurd (omega arith)
 
-    go : (u : Bool) → leb (length (rest (k .owed))) (length b - k .pos) ≡ u → Kept L reserved bs sent k c b (copies L (suc n) k c b)
+    go : (u : Bool) → fits k b ≡ u → Kept L reserved bs sent k c b (copies L (suc n) k c b)
     go false e =
-        let l = leb-false (length (rest (k .owed))) (length b - k .pos) e in
+        let l = fits-false k b e in
         subst (Kept L reserved bs sent k c b) (sym (turn-full L n k c b l)) (kept-full L reserved bs sent k c b q p (plain t l) l)
     go true e =
-        let l = leb-true (length (rest (k .owed))) (length b - k .pos) e in
+        let l = fits-true k b e in
         let pos = reached b (k .pos) (rest (k .owed)) in
         let d = put b (k .pos) (rest (k .owed)) in
         let m : length d ≡ length b = length-put b (k .pos) (rest (k .owed)) p in
@@ -324,4 +324,4 @@ kept-turns L (suc n) reserved bs sent k c b q p t h =
 pub copy-keeps : (L : Limits) (reserved bs sent : List ℕ) (k : Copy) (c b : List ℕ) → Keeps L reserved bs (sent ++ take (k .pos) b) k → k .pos ≤ length b → NoPiece (k .owed)
     → Kept L reserved bs sent k c b (copy L k c b)
 unfolding copy
-copy-keeps L reserved bs sent k c b q p h = kept-turns L (2 * length c + 2) reserved bs sent k c b q p (inl h) (omega (arith, light (k .reader)))
+copy-keeps L reserved bs sent k c b q p h = kept-turns L (turnsFor c) reserved bs sent k c b q p (inl h) (enough (k .reader) c)

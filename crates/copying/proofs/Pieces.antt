@@ -19,8 +19,8 @@ use Rattle.machine.specs.Machine.{atElement, atArrayWord, atUnsigned, atSigned,
 use Rattle.machine.specs.Call.{State, reading, owing, broke, Pace, byte, bulk, paceOf, Called, piece, scan, scanned, call}
 use Rattle.machine.specs.Call as calls
 use Rattle.copying.specs.Copy.{handed}
-use Rattle.copying.specs.Run.{NotPiece}
-use Rattle.copying.proofs.Turns.{handed-is, paced, bulk-event}
+use Rattle.copying.specs.Run.{Bulk, NotPiece}
+use Rattle.copying.proofs.Turns.{handed-room, bulk-event}
 
 -- ---- a byte that is no payload's raises no piece first, and leads on to another such byte
 
@@ -121,18 +121,19 @@ from-bulk due room n d id r total o k xs e i h =
     let m : length (take k xs) ≡ min k (length xs) = length-take k xs in
     subst (Fitting due room) w (inr (omega arith))
 
-fitting-scan : (L : Limits) (due room d : ℕ) (p : Phase) (xs : List ℕ) (e : Event) (q : Pace) → paceOf p ≡ q → scan L 0 d p (paced q room xs) .answer ≡ calls.event e → Fitting due room e
+fitting-scan : (L : Limits) (due room d : ℕ) (p : Phase) (xs : List ℕ) (e : Event) (q : Pace) → paceOf p ≡ q → (Bulk q → length xs ≤ room) → scan L 0 d p xs .answer ≡ calls.event e
+    → Fitting due room e
 unfolding scan
-fitting-scan L due room d p xs e byte i h = from-byte due room (scan L 0 d p xs .answer) e h (none-scan L 0 d p xs i)
-fitting-scan L due zero d p xs e (bulk id r total o) i h = let w : _≡_ {A = ℕ} 0 1 = cc in absurd (omega arith)
-fitting-scan L due (suc room) d p [] e (bulk id r total o) i h = let w : _≡_ {A = ℕ} 0 1 = cc in absurd (omega arith)
-fitting-scan L due (suc room) d p (x ∷ xs) e (bulk id r total o) i h =
-    let m : length (take room xs) ≡ min room (length xs) = length-take room xs in
-    from-bulk due (suc room) 0 d id r total o (min (total - o) (length (x ∷ take room xs))) (x ∷ take room xs) e (sym (ap (λ (c : Called). c .answer) (bulk-event L 0 d p x (take room xs) id r total o i)) ∙ h) (omega arith)
+fitting-scan L due room d p xs e byte i l h = from-byte due room (scan L 0 d p xs .answer) e h (none-scan L 0 d p xs i)
+fitting-scan L due room d p [] e (bulk id r total o) i l h = let w : _≡_ {A = ℕ} 0 1 = cc in absurd (omega arith)
+fitting-scan L due room d p (x ∷ xs) e (bulk id r total o) i l h =
+    from-bulk due room 0 d id r total o (min (total - o) (length (x ∷ xs))) (x ∷ xs) e
+    (sym (ap (λ (c : Called). c .answer) (bulk-event L 0 d p x xs id r total o i)) ∙ h) (l tt)
 
 -- What the reader gives in a turn is no piece, or a piece that there is room for.
 pub given-fits : (L : Limits) (due : ℕ) (s : State) (room : ℕ) (c : List ℕ) (e : Event) → call L s (handed s room c) .answer ≡ calls.event e → Fitting due room e
 unfolding call handed eventBytes
-given-fits L due (reading d p) room c e h = fitting-scan L due room d p c e (paceOf p) refl (sym (ap (λ (l : List ℕ). scan L 0 d p l .answer) (handed-is d p room c)) ∙ h)
+given-fits L due (reading d p) room c e h =
+    fitting-scan L due room d p (handed (reading d p) room c) e (paceOf p) refl (λ i. handed-room (reading d p) room c i) h
 given-fits L due (owing d id r) room c e h = let w : Piece id r 0 0 [] ≡ e = cc in subst (Fitting due room) w (inr (omega arith))
 given-fits L due broke room c e h = let w : _≡_ {A = ℕ} 0 1 = cc in absurd (omega arith)

@@ -1,17 +1,15 @@
 -- Whatever every call of the reader keeps, a call of the copier keeps: it does nothing else to the reader's state.
-use Prim.Native.Nat.{ℕ, zero, suc, _+_, _-_, _*_}
+use Prim.Native.Nat.{ℕ, zero, suc}
 use mathlib.Core.Path.{sym, subst}
 use mathlib.Core.Bool.{Bool, true, false}
 use mathlib.Core.List.{List, [], _∷_}
-use lib.Dec.{leb}
-use lib.ListN.{length, take, drop}
+use lib.ListN.{take, drop}
 use Rattle.layout.specs.Limits.{Limits}
 use Rattle.layout.specs.Event.{Event}
 use Rattle.layout.specs.Message.{All}
 use Rattle.machine.specs.Call.{State, reading, owing, broke, Pace, byte, bulk, paceOf, call}
 use Rattle.machine.specs.Call as calls
-use Rattle.copying.specs.Owed.{owes, rest, dueIn}
-use Rattle.copying.specs.Copy.{Copy, Copied, gone, handed, stuck, heard, copies, copy}
+use Rattle.copying.specs.Copy.{Copy, Copied, gone, handed, stuck, heard, fits, allOf, copies, turnsFor, copy}
 use Rattle.copying.proofs.Turns.{turned-by, turn-is, goes, goes-on, goes-is, paced, handed-is}
 
 all-take : (Q : ℕ → Type 0) (n : ℕ) (c : List ℕ) → All Q c → All Q (take n c)
@@ -52,7 +50,7 @@ module _ (L : Limits) (P : State → Type 0) (Q : ℕ → Type 0) (keeps : (s : 
       go false =
           let r = call L (k .reader) (handed (k .reader) room c) in
           let q = keeps (k .reader) (handed (k .reader) room c) (all-handed Q (k .reader) room c h) p in
-          heard-keeps k c b (r .read) (r .answer) (r .state) _ q (λ e. later (gone k (r .state) (owes (dueIn (k .reader)) e 0)) (drop (r .read) c) (all-drop Q (r .read) c h) q)
+          heard-keeps k c b (r .read) (r .answer) (r .state) _ q (λ e. later (gone k (r .state) (allOf (k .reader) e)) (drop (r .read) c) (all-drop Q (r .read) c h) q)
 
   turned-keeps : (n : ℕ) (k : Copy) (c b : List ℕ) (t : Bool) → All Q c → P (k .reader)
       → ((k : Copy) (c b : List ℕ) → All Q c → P (k .reader) → P (copies L n k c b .copy .reader)) → P (turned-by L n k c b t .copy .reader)
@@ -65,8 +63,8 @@ module _ (L : Limits) (P : State → Type 0) (Q : ℕ → Type 0) (keeps : (s : 
   turns-keep zero k c b h p = p
   turns-keep (suc n) k c b h p =
       subst (λ (r : Copied). P (r .copy .reader)) (sym (turn-is L n k c b))
-      (turned-keeps n k c b (leb (length (rest (k .owed))) (length b - k .pos)) h p (λ k′ c′ b′ h′ p′. turns-keep n k′ c′ b′ h′ p′))
+      (turned-keeps n k c b (fits k b) h p (λ k′ c′ b′ h′ p′. turns-keep n k′ c′ b′ h′ p′))
 
   pub copy-reader : (k : Copy) (c b : List ℕ) → All Q c → P (k .reader) → P (copy L k c b .copy .reader)
   unfolding copy
-  copy-reader k c b h p = turns-keep (2 * length c + 2) k c b h p
+  copy-reader k c b h p = turns-keep (turnsFor c) k c b h p

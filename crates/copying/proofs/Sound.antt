@@ -7,8 +7,8 @@ use mathlib.Core.Path.{_≡_, refl, sym, ap, _∙_, subst}
 use mathlib.Core.Bool.{Bool, true, false, _&&_}
 use mathlib.Core.Logic.{_⊎_, inl, inr}
 use mathlib.Core.List.{List}
-use lib.Dec.{leb, ltb}
-use borrow.Author.Tests.{leb-true, leb-false, lt-ltb, eqb-true, eq-eqb}
+use lib.Dec.{ltb}
+use borrow.Author.Tests.{lt-ltb, eqb-true, eq-eqb}
 use lib.ListN.{length, drop, length-drop}
 use Rattle.layout.specs.Limits.{Limits}
 use Rattle.layout.specs.Event.{Event, Unsigned, Signed, Float, Piece, Fixlen, Array, Begin, End}
@@ -17,13 +17,13 @@ use Rattle.machine.specs.Machine.{within}
 use Rattle.machine.specs.Call.{State, reading, owing, broke, call}
 use Rattle.machine.specs.Call as calls
 use Rattle.machine.specs.Run.{placeOf}
-use Rattle.machine.proofs.Calls.{FairPlace, weight, light}
+use Rattle.machine.proofs.Calls.{FairPlace, weight}
 use Rattle.emit.specs.Put.{put, reached}
 use Rattle.emit.proofs.Writes.{reached-is, length-put, reached-le}
 use Rattle.copying.specs.Owed.{Owed, nothing, owes, rest, further, depthBy, depthOnce, dueIn, legal, level, agrees, soundOwed}
-use Rattle.copying.specs.Copy.{Copy, Answer, full, verdict, invalid, unfinished, Copied, after, settled, filled, gone, handed, stuck, heard, copies, copy}
+use Rattle.copying.specs.Copy.{Copy, Answer, full, verdict, invalid, unfinished, Copied, after, settled, filled, gone, handed, stuck, heard, fits, allOf, copies, turnsFor, copy}
 use Rattle.copying.specs.Run.{NotPiece, NoPiece}
-use Rattle.copying.proofs.Turns.{goes, goes-on, goes-is, turn-full, turn-goes, turn-heard, nearer}
+use Rattle.copying.proofs.Turns.{goes, goes-on, goes-is, turn-full, turn-goes, fits-false, fits-true, enough, turn-heard, nearer}
 use Rattle.copying.proofs.Pieces.{given-fits}
 use Rattle.copying.proofs.Allowed.{InForce, Gave, Stood, CallOf, all-of, call-sound}
 
@@ -231,11 +231,11 @@ even-depth L broke w o e h = tt
 -- by the reader's answer
 sounds-heard : (L : Limits) (k : Copy) (c b : List ℕ) (s : State) (j : ℕ) (a : calls.Answer) (s′ : State) (f : Event → Copied) → k .pos ≤ length b → k .depth ≤ L .depth → DepthOf s (k .depth)
     → j ≤ length c → FairPlace (placeOf s′) → CallOf L s (record { read = j; answer = a; state = s′ })
-    → ((e : Event) → a ≡ calls.event e → ((due : ℕ) → Mid L (gone k s′ (owes due e 0))) → Sounds L (gone k s′ (owes (dueIn (k .reader)) e 0)) (drop j c) b (f e))
+    → ((e : Event) → a ≡ calls.event e → ((due : ℕ) → Mid L (gone k s′ (owes due e 0))) → Sounds L (gone k s′ (allOf (k .reader) e)) (drop j c) b (f e))
     → Sounds L k c b (heard k c b (record { read = j; answer = a; state = s′ }) f)
 unfolding heard
 sounds-heard L k c b s j (calls.event e) s′ f p l w n fair h go =
-    sounds-after L k (gone k s′ (owes (dueIn (k .reader)) e 0)) c b j (f e) refl n (go e refl (gave-by s w h))
+    sounds-after L k (gone k s′ (allOf (k .reader) e)) c b j (f e) refl n (go e refl (gave-by s w h))
   where
     gave-by : (s : State) → DepthOf s (k .depth) → CallOf L s (record { read = j; answer = calls.event e; state = s′ }) → (due : ℕ) → Mid L (gone k s′ (owes due e 0))
     gave-by (reading d p) w h due = mid-gave L k d due e s′ w l fair h
@@ -293,23 +293,23 @@ sounds-goes L n k c b m p o later = subst (Sounds L k c b) (sym (goes-is L n (le
         (call-sound L (k .reader) h (m .reader))
         (λ x i y.
         let z = nearer (k .reader) (r .state) (r .answer) (r .read) (length c) x i (v .closes) in
-        later (gone k (r .state) (owes (dueIn (k .reader)) x 0)) (drop (r .read) c) b (y (dueIn (k .reader))) p
+        later (gone k (r .state) (allOf (k .reader) x)) (drop (r .read) c) b (y (dueIn (k .reader))) p
         (given-fits L (dueIn (k .reader)) (k .reader) (length b - k .pos) c x i) (omega (arith, length-drop (r .read) c)))
 
 -- one turn, and those after it
 sounds-turn : (L : Limits) (n : ℕ) (k : Copy) (c b : List ℕ) → Mid L k → k .pos ≤ length b → Takes k b → Later L n (2 * length c + weight (k .reader)) → Sounds L k c b (copies L (suc n) k c b)
-sounds-turn L n k c b m p t later = go (leb (length (rest (k .owed))) (length b - k .pos)) refl
+sounds-turn L n k c b m p t later = go (fits k b) refl
   where
     plain : Takes k b → length b - k .pos < length (rest (k .owed)) → NoPiece (k .owed)
     plain (inl h) l = h
     plain (inr h) l = absurd (omega arith)
 
-    go : (u : Bool) → leb (length (rest (k .owed))) (length b - k .pos) ≡ u → Sounds L k c b (copies L (suc n) k c b)
+    go : (u : Bool) → fits k b ≡ u → Sounds L k c b (copies L (suc n) k c b)
     go false e =
-        let l = leb-false (length (rest (k .owed))) (length b - k .pos) e in
+        let l = fits-false k b e in
         subst (Sounds L k c b) (sym (turn-full L n k c b l)) (sounds-full L k c b m p (plain t l) l)
     go true e =
-        let l = leb-true (length (rest (k .owed))) (length b - k .pos) e in
+        let l = fits-true k b e in
         let pos = reached b (k .pos) (rest (k .owed)) in
         let d = put b (k .pos) (rest (k .owed)) in
         let z : length d ≡ length b = length-put b (k .pos) (rest (k .owed)) p in
@@ -329,6 +329,6 @@ sounds-turns L (suc n) k c b m p t h = sounds-turn L n k c b m p t (λ k′ c′
 pub copy-sound : (L : Limits) (k : Copy) (c b : List ℕ) → Sound L k → k .pos ≤ length b → Sounds L k c b (copy L k c b)
 unfolding copy
 copy-sound L k c b s p =
-    sounds-turns L (2 * length c + 2) k c b
+    sounds-turns L (turnsFor c) k c b
     (record { reader = s .reader; fair = s .fair; depth = s .depth; even = sound-even L (k .reader) (k .depth) (k .owed) (s .owed) }) p
-    (inl (sound-plain L (k .reader) (k .depth) (k .owed) (s .owed))) (omega (arith, light (k .reader)))
+    (inl (sound-plain L (k .reader) (k .depth) (k .owed) (s .owed))) (enough (k .reader) c)

@@ -6,24 +6,46 @@ use native.Mathlib.Omega.{arith}
 use mathlib.Core.Path.{_≡_, refl, sym, ap, _∙_, subst}
 use mathlib.Core.Bool.{Bool, true, false}
 use mathlib.Core.List.{List, [], _∷_}
-use lib.Dec.{leb}
 use lib.ListN.{length, take, drop, length-take, length-drop}
-use borrow.Author.Tests.{le-leb, lt-leb}
+use borrow.Author.Tests.{leb-true, leb-false}
 use Rattle.layout.specs.Limits.{Limits}
 use Rattle.layout.specs.Field.{Raw}
 use Rattle.layout.specs.Event.{Event}
 use Rattle.layout.specs.Message.{Verdict}
-use Rattle.machine.specs.Machine.{Phase, step}
+use Rattle.machine.specs.Machine.{Phase, inHeader, inUnsigned, inSigned, inWord, inUnsignedCount, inSignedCount, inFloatCount, inArrayWord, inFloat, inPayload, step}
+use Rattle.copying.specs.Run.{InPayload}
 use Rattle.machine.specs.Call.{State, reading, owing, broke, Pace, byte, bulk, paceOf, Called, piece, scan, scanned, call}
 use Rattle.machine.specs.Call as calls
 use Rattle.machine.specs.Run.{placeOf}
 use Rattle.machine.proofs.Calls.{FairPlace, fair-walk, weight, light, Closes, closes, scan-is}
 use Rattle.emit.specs.Put.{put, reached}
 use Rattle.emit.proofs.Writes.{length-put, put-none, reached-is}
-use Rattle.copying.specs.Owed.{Owed, nothing, owes, rest, depthOnce, dueIn}
-use Rattle.copying.specs.Copy.{Copy, full, Copied, after, settled, filled, gone, handed, stuck, heard, copies, copy}
+use Rattle.copying.specs.Owed.{Owed, nothing, rest, depthOnce}
+use Rattle.copying.specs.Copy.{Copy, full, Copied, after, settled, filled, gone, handed, stuck, heard, fits, allOf, copies, turnsFor, copy}
 
 -- ---- the turn in two halves
+
+-- "Full" comes only where more is owed than there is room for,
+pub fits-false : (k : Copy) (b : List ℕ) → fits k b ≡ false → length b - k .pos < length (rest (k .owed))
+fits-false k b e = leb-false (length (rest (k .owed))) (length b - k .pos) e
+
+-- and the call goes on only where all of it goes out.
+pub fits-true : (k : Copy) (b : List ℕ) → fits k b ≡ true → length (rest (k .owed)) ≤ length b - k .pos
+fits-true k b e = leb-true (length (rest (k .owed))) (length b - k .pos) e
+
+fits-not : (k : Copy) (b : List ℕ) → length b - k .pos < length (rest (k .owed)) → fits k b ≡ false
+fits-not k b h = go (fits k b) refl
+  where
+    go : (t : Bool) → fits k b ≡ t → t ≡ false
+    go true e = let l = fits-true k b e in absurd (omega arith)
+    go false e = refl
+
+fits-is : (k : Copy) (b : List ℕ) → length (rest (k .owed)) ≤ length b - k .pos → fits k b ≡ true
+fits-is k b h = go (fits k b) refl
+  where
+    go : (t : Bool) → fits k b ≡ t → t ≡ true
+    go true e = refl
+    go false e = let l = fits-false k b e in absurd (omega arith)
 
 -- the half after what is owed is out
 unfoldable pub goes : Limits → ℕ → ℕ → Copy → List ℕ → List ℕ → Copied
@@ -32,9 +54,10 @@ goes L n room k c b =
       | true ↦ record { used = 0; answer = full; copy = k; buf = b }
       | false ↦
           (let r = call L (k .reader) (handed (k .reader) room c) in
-          heard k c b r (λ e. copies L n (gone k (r .state) (owes (dueIn (k .reader)) e 0)) (drop (r .read) c) b))
+          heard k c b r (λ e. copies L n (gone k (r .state) (allOf (k .reader) e)) (drop (r .read) c) b))
     ]
 
+-- the whole, where there is room for what is owed and where there isn't
 unfoldable pub turned-by : Limits → ℕ → Copy → List ℕ → List ℕ → Bool → Copied
 turned-by L n k c b t =
     let pos = reached b (k .pos) (rest (k .owed)) in
@@ -44,7 +67,7 @@ turned-by L n k c b t =
       | true ↦ goes L n (length b - pos) (settled k pos) c b′
     ]
 
-pub turn-is : (L : Limits) (n : ℕ) (k : Copy) (c b : List ℕ) → copies L (suc n) k c b ≡ turned-by L n k c b (leb (length (rest (k .owed))) (length b - k .pos))
+pub turn-is : (L : Limits) (n : ℕ) (k : Copy) (c b : List ℕ) → copies L (suc n) k c b ≡ turned-by L n k c b (fits k b)
 unfolding copies turned-by goes
 turn-is L n k c b = refl
 
@@ -52,13 +75,13 @@ pub turn-full : (L : Limits) (n : ℕ) (k : Copy) (c b : List ℕ) → length b 
     → copies L (suc n) k c b
     ≡ record { used = 0; answer = full; copy = filled k (reached b (k .pos) (rest (k .owed))); buf = put b (k .pos) (rest (k .owed)) }
 unfolding turned-by
-turn-full L n k c b h = turn-is L n k c b ∙ ap (turned-by L n k c b) (lt-leb (length (rest (k .owed))) (length b - k .pos) h)
+turn-full L n k c b h = turn-is L n k c b ∙ ap (turned-by L n k c b) (fits-not k b h)
 
 pub turn-goes : (L : Limits) (n : ℕ) (k : Copy) (c b : List ℕ) → length (rest (k .owed)) ≤ length b - k .pos
     → copies L (suc n) k c b
     ≡ goes L n (length b - reached b (k .pos) (rest (k .owed))) (settled k (reached b (k .pos) (rest (k .owed)))) c (put b (k .pos) (rest (k .owed)))
 unfolding turned-by
-turn-goes L n k c b h = turn-is L n k c b ∙ ap (turned-by L n k c b) (le-leb (length (rest (k .owed))) (length b - k .pos) h)
+turn-goes L n k c b h = turn-is L n k c b ∙ ap (turned-by L n k c b) (fits-is k b h)
 
 -- nothing owed
 turn-free : (L : Limits) (n : ℕ) (k : Copy) (c b : List ℕ) → k .owed ≡ nothing → copies L (suc n) k c b ≡ goes L n (length b - k .pos) k c b
@@ -89,6 +112,22 @@ unfolding heard
 heard-ext k c b j (calls.event e) s f g h = ap (after j) (h e refl)
 heard-ext k c b j (calls.verdict v) s f g h = refl
 heard-ext k c b j calls.invalid s f g h = refl
+
+-- "A payload piece counts as read only as far as it is out": within a payload it is handed no more than there is room for.
+pub handed-room : (s : State) (room : ℕ) (c : List ℕ) → InPayload s → length (handed s room c) ≤ room
+unfolding handed
+handed-room (reading d (inHeader k v)) room c i = absurd i
+handed-room (reading d (inUnsigned id left k v)) room c i = absurd i
+handed-room (reading d (inSigned id left k v)) room c i = absurd i
+handed-room (reading d (inWord id k v)) room c i = absurd i
+handed-room (reading d (inUnsignedCount id k v)) room c i = absurd i
+handed-room (reading d (inSignedCount id k v)) room c i = absurd i
+handed-room (reading d (inFloatCount id k v)) room c i = absurd i
+handed-room (reading d (inArrayWord id n k v)) room c i = absurd i
+handed-room (reading d (inFloat id w left k v)) room c i = absurd i
+handed-room (reading d (inPayload id r total o)) room c i = omega (arith, length-take room c)
+handed-room (owing d id r) room c i = absurd i
+handed-room broke room c i = absurd i
 
 -- the bytes that it is handed are the chunk's first
 abbrev pub paced : Pace → ℕ → List ℕ → List ℕ
@@ -213,7 +252,7 @@ goes-on L n room k c b t =
     let r = call L (k .reader) (handed (k .reader) room c) in
     elim t [
       | true ↦ record { used = 0; answer = full; copy = k; buf = b }
-      | false ↦ heard k c b r (λ e. copies L n (gone k (r .state) (owes (dueIn (k .reader)) e 0)) (drop (r .read) c) b)
+      | false ↦ heard k c b r (λ e. copies L n (gone k (r .state) (allOf (k .reader) e)) (drop (r .read) c) b)
     ]
 
 pub goes-is : (L : Limits) (n room : ℕ) (k : Copy) (c b : List ℕ) → goes L n room k c b ≡ goes-on L n room k c b (stuck (k .reader) room c)
@@ -223,7 +262,7 @@ goes-is L n room k c b = refl
 -- the same half turn, where the turns after it are the same
 same-goes : (L : Limits) (n m room : ℕ) (k : Copy) (c b : List ℕ) → FairPlace (placeOf (k .reader))
     → ((s : State) (e : Event) (j : ℕ) → FairPlace (placeOf s) → j ≤ length c → 2 * (length c - j) + weight s < 2 * length c + weight (k .reader)
-    → copies L n (gone k s (owes (dueIn (k .reader)) e 0)) (drop j c) b ≡ copies L m (gone k s (owes (dueIn (k .reader)) e 0)) (drop j c) b)
+    → copies L n (gone k s (allOf (k .reader) e)) (drop j c) b ≡ copies L m (gone k s (allOf (k .reader) e)) (drop j c) b)
     → goes L n room k c b ≡ goes L m room k c b
 unfolding goes-on
 same-goes L n m room k c b f h = goes-is L n room k c b ∙ go (stuck (k .reader) room c) refl ∙ sym (goes-is L m room k c b)
@@ -249,29 +288,30 @@ same-turns L zero m k c b f h i = absurd (not-suc-le-zero h)
 same-turns L (suc n) zero k c b f h i = absurd (not-suc-le-zero i)
 same-turns L (suc n) (suc m) k c b f h i =
     turn-is L n k c b
-    ∙ same-by L n m k c b (leb (length (rest (k .owed))) (length b - k .pos))
+    ∙ same-by L n m k c b (fits k b)
     (λ room j d w.
     same-goes L n m room j c d (subst (λ (s : State). FairPlace (placeOf s)) (sym w) f)
     (λ s e x g l y.
     let u : weight (j .reader) ≡ weight (k .reader) = ap weight w in
     let z : length (drop x c) ≡ length c - x = length-drop x c in
-    same-turns L n m (gone j s (owes (dueIn (j .reader)) e 0)) (drop x c) d g (omega arith) (omega arith)))
+    same-turns L n m (gone j s (allOf (j .reader) e)) (drop x c) d g (omega arith) (omega arith)))
     ∙ sym (turn-is L m k c b)
 
 -- ---- the laws of a call
 
-enough : (n : ℕ) → suc (2 * n + 1) ≡ 2 * n + 2
-enough n = omega arith
+-- a call has turns enough, whatever the chunk and the reader's state
+pub enough : (s : State) (c : List ℕ) → 2 * length c + weight s < turnsFor c
+enough s c = let l = light s in omega arith
 
-copy-is : (L : Limits) (k : Copy) (c b : List ℕ) → copy L k c b ≡ copies L (suc (2 * length c + 1)) k c b
+copy-is : (L : Limits) (k : Copy) (c b : List ℕ) → copy L k c b ≡ copies L (suc (turnsFor c - 1)) k c b
 unfolding copy
-copy-is L k c b = ap (λ (n : ℕ). copies L n k c b) (sym (enough (length c)))
+copy-is L k c b = let l = enough broke c in let e : turnsFor c ≡ suc (turnsFor c - 1) = omega arith in ap (λ (n : ℕ). copies L n k c b) e
 
 -- What is owed doesn't fit: "full", with the buffer written to its end and the place reached kept.
 pub copy-full : (L : Limits) (k : Copy) (c b : List ℕ) → length b - k .pos < length (rest (k .owed))
     → copy L k c b
     ≡ record { used = 0; answer = full; copy = filled k (reached b (k .pos) (rest (k .owed))); buf = put b (k .pos) (rest (k .owed)) }
-copy-full L k c b h = copy-is L k c b ∙ turn-full L (2 * length c + 1) k c b h
+copy-full L k c b h = copy-is L k c b ∙ turn-full L (turnsFor c - 1) k c b h
 
 -- What is owed fits: the call goes on as one that finds it out.
 pub copy-settles : (L : Limits) (k : Copy) (c b : List ℕ) → k .pos ≤ length b → length (rest (k .owed)) ≤ length b - k .pos
@@ -280,9 +320,9 @@ copy-settles L k c b p h =
     let pos = reached b (k .pos) (rest (k .owed)) in
     let d = put b (k .pos) (rest (k .owed)) in
     let n : length d ≡ length b = length-put b (k .pos) (rest (k .owed)) p in
-    copy-is L k c b ∙ turn-goes L (2 * length c + 1) k c b h
-    ∙ ap (λ (m : ℕ). goes L (2 * length c + 1) (m - pos) (settled k pos) c d) (sym n)
-    ∙ sym (turn-free L (2 * length c + 1) (settled k pos) c d refl)
+    copy-is L k c b ∙ turn-goes L (turnsFor c - 1) k c b h
+    ∙ ap (λ (m : ℕ). goes L (turnsFor c - 1) (m - pos) (settled k pos) c d) (sym n)
+    ∙ sym (turn-free L (turnsFor c - 1) (settled k pos) c d refl)
     ∙ sym (copy-is L (settled k pos) c d)
 
 -- A payload byte is there and no place is free: "full", and nothing alters.
@@ -290,31 +330,30 @@ pub copy-stuck : (L : Limits) (k : Copy) (c b : List ℕ) → k .owed ≡ nothin
     → copy L k c b ≡ record { used = 0; answer = full; copy = k; buf = b }
 unfolding goes-on
 copy-stuck L k c b o t =
-    copy-is L k c b ∙ turn-free L (2 * length c + 1) k c b o ∙ goes-is L (2 * length c + 1) (length b - k .pos) k c b
-    ∙ ap (goes-on L (2 * length c + 1) (length b - k .pos) k c b) t
+    copy-is L k c b ∙ turn-free L (turnsFor c - 1) k c b o ∙ goes-is L (turnsFor c - 1) (length b - k .pos) k c b
+    ∙ ap (goes-on L (turnsFor c - 1) (length b - k .pos) k c b) t
 
 turn-after : (L : Limits) (k : Copy) (c b : List ℕ) → FairPlace (placeOf (k .reader)) → stuck (k .reader) (length b - k .pos) c ≡ false
     → let r = call L (k .reader) (handed (k .reader) (length b - k .pos) c) in
     (e : Event) → r .answer ≡ calls.event e
-    → copies L (2 * length c + 1) (gone k (r .state) (owes (dueIn (k .reader)) e 0)) (drop (r .read) c) b
-    ≡ copy L (gone k (r .state) (owes (dueIn (k .reader)) e 0)) (drop (r .read) c) b
+    → copies L (turnsFor c - 1) (gone k (r .state) (allOf (k .reader) e)) (drop (r .read) c) b
+    ≡ copy L (gone k (r .state) (allOf (k .reader) e)) (drop (r .read) c) b
 unfolding copy
 turn-after L k c b f t e i =
     let r = call L (k .reader) (handed (k .reader) (length b - k .pos) c) in
     let q = turn-heard L (k .reader) (length b - k .pos) c f t in
     let x = nearer (k .reader) (r .state) (r .answer) (r .read) (length c) e i (q .closes) in
     let y : length (drop (r .read) c) ≡ length c - r .read = length-drop (r .read) c in
-    let z = light (k .reader) in
-    let z′ = light (r .state) in
-    same-turns L (2 * length c + 1) (2 * length (drop (r .read) c) + 2) (gone k (r .state) (owes (dueIn (k .reader)) e 0)) (drop (r .read) c) b (q .fair) (omega arith) (omega arith)
+    let z = enough (k .reader) c in
+    same-turns L (turnsFor c - 1) (turnsFor (drop (r .read) c)) (gone k (r .state) (allOf (k .reader) e)) (drop (r .read) c) b (q .fair) (omega arith) (enough (r .state) (drop (r .read) c))
 
 -- Nothing is owed: the reader is called, and what it gives is owed.
 pub copy-turn : (L : Limits) (k : Copy) (c b : List ℕ) → FairPlace (placeOf (k .reader)) → k .owed ≡ nothing → stuck (k .reader) (length b - k .pos) c ≡ false
     → let r = call L (k .reader) (handed (k .reader) (length b - k .pos) c) in
-    copy L k c b ≡ heard k c b r (λ e. copy L (gone k (r .state) (owes (dueIn (k .reader)) e 0)) (drop (r .read) c) b)
+    copy L k c b ≡ heard k c b r (λ e. copy L (gone k (r .state) (allOf (k .reader) e)) (drop (r .read) c) b)
 unfolding goes-on
 copy-turn L k c b f o t =
     let r = call L (k .reader) (handed (k .reader) (length b - k .pos) c) in
-    copy-is L k c b ∙ turn-free L (2 * length c + 1) k c b o ∙ goes-is L (2 * length c + 1) (length b - k .pos) k c b
-    ∙ ap (goes-on L (2 * length c + 1) (length b - k .pos) k c b) t
+    copy-is L k c b ∙ turn-free L (turnsFor c - 1) k c b o ∙ goes-is L (turnsFor c - 1) (length b - k .pos) k c b
+    ∙ ap (goes-on L (turnsFor c - 1) (length b - k .pos) k c b) t
     ∙ heard-ext k c b (r .read) (r .answer) (r .state) _ _ (turn-after L k c b f t)

@@ -76,6 +76,14 @@ heard k c b r f =
       | calls.invalid ↦ record { used = r .read; answer = invalid; copy = gone k (r .state) nothing; buf = b }
     ]
 
+-- there is room for what is owed
+abbrev pub fits : Copy → List ℕ → Bool
+fits k b = leb (length (rest (k .owed))) (length b - k .pos)
+
+-- all of an event that the reader gave in this state, an element where one was due
+abbrev pub allOf : State → Event → Owed
+allOf s e = owes (dueIn s) e 0
+
 -- At most n turns. A turn: what is owed goes out, as far as there is room; then the reader is called.
 -- "Full" only where a byte is owed and none is free.
 unfoldable pub copies : Limits → ℕ → Copy → List ℕ → List ℕ → Copied
@@ -86,17 +94,21 @@ copies L (suc n) k c b =
     let b′ = put b (k .pos) o in
     let k′ = settled k pos in
     let room = length b - pos in
-    elim (leb (length o) (length b - k .pos)) [
+    elim (fits k b) [
       | false ↦ record { used = 0; answer = full; copy = filled k pos; buf = b′ }
       | true ↦
           elim (stuck (k .reader) room c) [
             | true ↦ record { used = 0; answer = full; copy = k′; buf = b′ }
             | false ↦
                 (let r = call L (k .reader) (handed (k .reader) room c) in
-                heard k′ c b′ r (λ e. copies L n (gone k′ (r .state) (owes (dueIn (k .reader)) e 0)) (drop (r .read) c) b′))
+                heard k′ c b′ r (λ e. copies L n (gone k′ (r .state) (allOf (k .reader) e)) (drop (r .read) c) b′))
           ]
     ]
 
--- A call: two turns a byte, and two more, are enough.
+-- two turns a byte, and two more, are enough
+abbrev pub turnsFor : List ℕ → ℕ
+turnsFor c = 2 * length c + 2
+
+-- A call.
 unfoldable pub copy : Limits → Copy → List ℕ → List ℕ → Copied
-copy L k c b = copies L (2 * length c + 2) k c b
+copy L k c b = copies L (turnsFor c) k c b

@@ -4,3 +4,4 @@ pub mod Sound
 pub mod Runs
 pub mod Sent
 pub mod Ends
+pub mod Demand

@@ -296,11 +296,26 @@ module _ (reserved : List ℕ) (cs : List (List ℕ)) (d : Desk) (c : List ℕ) 
   feed-moves : Moves (fed d c later (copied k c b .said) (copied k c b))
   feed-moves = by-feed Moves (λ h. (omega arith, inl refl)) (λ a n h. move a h)
 
+  -- the buffer stays as long as it was
+  size-by : (a : copying.Answer) → Final a (r .copy) (r .used) c (length b) → length (fed d c later (saidIn a) (record { used = r .used; said = saidIn a; copier = k′; buf = r .buf }) .buf) ≡ length b
+  size-by copying.full h = called .size
+  size-by (copying.verdict v) h = called .size
+  size-by copying.invalid h = called .size
+  size-by copying.unfinished h = absurd h
+
+  feed-size : length (fed d c later (copied k c b .said) (copied k c b) .buf) ≡ length b
+  feed-size = by-feed (λ x. length (x .buf) ≡ length b) (λ h. refl) (λ a n h. size-by a h)
+
 fine-feeding : (reserved : List ℕ) (cs : List (List ℕ)) (d : Desk) (l : List (List ℕ)) → Fine reserved cs d → d .chunks ≡ l → Fine reserved cs (feeding d l)
 unfolding feeding
 fine-feeding reserved cs d [] f e = f
 fine-feeding reserved cs d (c ∷ later) f e =
     by-feed reserved cs d c later f e (Fine reserved cs) (again reserved cs d c later f e) (λ a n h. by-answer reserved cs d c later f e a (f .stands .live n) h)
+
+pub same-size : (reserved : List ℕ) (cs : List (List ℕ)) (d : Desk) (l : List (List ℕ)) → Fine reserved cs d → d .chunks ≡ l → length (feeding d l .buf) ≡ length (d .buf)
+unfolding feeding
+same-size reserved cs d [] f e = refl
+same-size reserved cs d (c ∷ later) f e = feed-size reserved cs d c later f e
 
 pub moves : (reserved : List ℕ) (cs : List (List ℕ)) (d : Desk) (c : List ℕ) (later : List (List ℕ)) → (f : Fine reserved cs d) → (e : d .chunks ≡ c ∷ later)
     → Moves reserved cs d c later f e (act feed d)

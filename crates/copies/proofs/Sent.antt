@@ -22,10 +22,10 @@ use Rattle.ostream.specs.Stream.{at}
 use Rattle.copying.specs.Owed.{rest, soundOwed}
 use Rattle.copier.specs.Copier.{copyOf}
 use Rattle.copier.specs.Calls.{bytes, Started, started, Sent, over}
-use Rattle.copies.specs.Desk.{Desk, openedAt, start, Act, drain, sending, act, acts, Allowed}
+use Rattle.copies.specs.Desk.{Desk, openedAt, Act, feed, drain, change, stray, sending, act, acts, MayStand, Allowed}
 use Rattle.copies.specs.Stands.{out, whole, Stands}
 use Rattle.copies.proofs.Sound.{is-sound, drain-is, start-is, started-sound}
-use Rattle.copies.proofs.Runs.{Fine, fine-fresh, fine-acts, broken-owes}
+use Rattle.copies.proofs.Runs.{Fine, fine-fresh, fine-act, fine-acts, broken-owes, same-size}
 
 -- ---- from the start
 
@@ -132,6 +132,28 @@ up-to reserved cs d s =
     let h = ap (λ (l : List Event). length (encodeEvents 0 l)) e ∙ ap length (encode-append 0 (eventsOf base (s .read)) zs)
     ∙ length-append (encodeEvents 0 (eventsOf base (s .read))) (encodeEvents (dueAfterAll 0 (eventsOf base (s .read))) zs) in
     omega arith
+
+-- ---- the buffer's length
+
+abbrev pub OneBuffer : Act → Type 0
+OneBuffer feed = Unit {0}
+OneBuffer drain = Unit {0}
+OneBuffer (change b) = ⊥
+OneBuffer (stray x) = Unit {0}
+
+size-act : (reserved : List ℕ) (cs : List (List ℕ)) (a : Act) (d : Desk) → MayStand a d → OneBuffer a → Fine reserved cs d → length (act a d .buf) ≡ length (d .buf)
+unfolding act
+size-act reserved cs feed d h o f = same-size reserved cs d (d .chunks) f refl
+size-act reserved cs drain d h o f = ap (λ (r : Sent). length (sending d (r .sends) (r .copier) (d .buf) .buf)) (drain-is (d .copier) (length (d .buf)) (f .sound .writer))
+size-act reserved cs (change b) d h o f = absurd o
+size-act reserved cs (stray x) d h o f = refl
+
+-- Where no other buffer is lent, the buffer stays as long as it was.
+pub same-length : (reserved : List ℕ) (cs : List (List ℕ)) (as′ : List Act) (d : Desk) → Allowed as′ d → All OneBuffer as′ → Fine reserved cs d → length (acts as′ d .buf) ≡ length (d .buf)
+unfolding acts
+same-length reserved cs [] d h o f = refl
+same-length reserved cs (a ∷ as′) d h o f =
+    same-length reserved cs as′ (act a d) (h .1) (o .1) (fine-act reserved cs a d (h .0) f) ∙ size-act reserved cs a d (h .0) (o .0) f
 
 -- ---- for a run
 

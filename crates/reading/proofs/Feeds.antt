@@ -27,11 +27,12 @@ use Rattle.istream.specs.declared.Answer.the-variants as Answers
 use Rattle.istream.specs.declared.Status.the-variants.{Complete, Incomplete}
 use Rattle.istream.specs.declared.Fed as Given
 use Rattle.types.specs.declared.Error.the-variants.{InvalidMsg}
-use Rattle.istream.specs.Stream.{stateOf, streamIn, soundStream, covered, statusIn, answerIn, fedIn, still, fedOf}
-use Rattle.istream.specs.Sound.{SoundAt, SoundState, AtBytes, Kept}
-use Rattle.istream.proofs.Steps.{byte-below}
-use Rattle.istream.proofs.Keeps.{step-keeps}
-use Rattle.istream.proofs.Calls.{Live, state-of-stream}
+use Rattle.istream.specs.Stream.{stateOf, streamIn, soundStream, statusIn, answerIn, fedIn, still, fedOf}
+use Rattle.field.specs.Steps.{covered}
+use Rattle.phase.specs.Sound.{SoundAt, SoundState, AtBytes, Kept}
+use Rattle.phase.proofs.Phases.{Live, byte-below}
+use Rattle.phase.proofs.Keeps.{step-keeps}
+use Rattle.istream.proofs.Calls.{state-of-stream}
 use Rattle.istream.proofs.Laws.{is-sound, sound-is, fresh-sound, fed-sound, fed-broken, feed-keeps}
 use Rattle.reading.specs.Feeds.{Fed, feeds, feed, told, Run, feedAll}
 

@@ -79,6 +79,10 @@ reached-take d at s =
 pub length-put : (d : List ℕ) (at : ℕ) (s : List ℕ) → at ≤ length d → length (put d at s) ≡ length d
 length-put d at s h = ap length (put-is d at s) ∙ length-over d at _ (simp length-take (omega arith))
 
+-- what stands below the end of such a write
+pub below : (d : List ℕ) (at : ℕ) (s : List ℕ) → at ≤ length d → take (at + length (take (length d - at) s)) (put d at s) ≡ take at d ++ take (length d - at) s
+below d at s h = ap (take (at + length (take (length d - at) s))) (put-is d at s) ∙ take-over d at (take (length d - at) s) h
+
 -- the room that is left, filled from a list that goes on
 take-more : (n : ℕ) (s t : List ℕ) → take n s ++ take (n - length (take n s)) t ≡ take n (s ++ t)
 take-more n s t = go (leb n (length s)) refl

@@ -6,7 +6,7 @@ use lib.Dec.{leb, ltb}
 use lib.ListN.{length, take}
 use Rattle.layout.specs.Limits.{pick}
 use Rattle.types.specs.declared.Error.{Error}
-use Rattle.types.specs.declared.Error.the-variants.{BadBuffer}
+use Rattle.types.specs.Types.{refusal}
 use Rattle.ostream.specs.declared.OStream.{OStream}
 use Rattle.ostream.specs.declared.Answer.the-variants.{Done}
 use Rattle.ostream.specs.declared.Written.{Written}
@@ -18,7 +18,7 @@ use Rattle.ostream.specs.Calls.{unsound}
 
 -- "Number 5: an opening offset exceeds the buffer, or a writer to be drained would have no byte free."
 abbrev pub badBuffer : ℕ → ℕ → Bool → Test
-badBuffer size offset drained = record { fails = pick drained (leb size offset) (ltb size offset); error = BadBuffer }
+badBuffer size offset drained = record { fails = pick drained (leb size offset) (ltb size offset); error = refusal 5 }
 
 -- "Opening at offset o leaves the buffer's first o bytes as they came." Where it is refused the state is that of a writer at 0.
 abbrev pub openedBy : Verdict → ℕ → Written

@@ -10,9 +10,8 @@ use Rattle.layout.specs.Varint.{shortest}
 use Rattle.layout.specs.Field.{Field, Width, Raw, Subtype, header, word, float, raw, string, blob, unsigned, signed, payload, unsignedArray, signedArray, floatArray, begin, end, T-fixlen}
 use Rattle.layout.specs.Copy.{fieldBytes}
 use Rattle.types.specs.declared.FixlenType.{FixlenType}
-use Rattle.types.specs.Types.{subtype}
 use Rattle.types.specs.declared.Error.{Error}
-use Rattle.types.specs.declared.Error.the-variants.{UnsoundWriter, StringSubtype, Nesting, IdTooLarge, TooLong, PlaceBeyond}
+use Rattle.types.specs.Types.{subtype, refusal}
 use Rattle.ostream.specs.declared.OStream.{OStream}
 use Rattle.ostream.specs.declared.Check.{Check}
 use Rattle.ostream.specs.Stream.{soundStream, lazyDepth, heldBytes, committed, holding, dropped}
@@ -27,36 +26,36 @@ isString (raw blob) = false
 
 -- "Number 6: the writer state isn't sound for the lent buffer."
 abbrev pub unsound : OStream → ℕ → Test
-unsound s size = record { fails = not (soundStream s size); error = UnsoundWriter }
+unsound s size = record { fails = not (soundStream s size); error = refusal 6 }
 
 -- "Number 9: an id exceeds `ID_MAX`."
 abbrev pub idTooLarge : ℕ → Test
-idTooLarge id = record { fails = ltb (base .id) id; error = IdTooLarge }
+idTooLarge id = record { fails = ltb (base .id) id; error = refusal 9 }
 
 -- "Number 8: a sequence is opened at depth 255 or closed at depth 0."
 abbrev pub tooDeep : OStream → Test
-tooDeep s = record { fails = leb (base .depth) (s .depth); error = Nesting }
+tooDeep s = record { fails = leb (base .depth) (s .depth); error = refusal 8 }
 
 abbrev pub noneOpen : OStream → Test
-noneOpen s = record { fails = eqb (s .depth) 0; error = Nesting }
+noneOpen s = record { fails = eqb (s .depth) 0; error = refusal 8 }
 
 -- "Number 7: the general fixed-length writer is given the string subtype."
 abbrev pub stringSubtype : FixlenType → Test
-stringSubtype t = record { fails = isString (subtype t); error = StringSubtype }
+stringSubtype t = record { fails = isString (subtype t); error = refusal 7 }
 
 -- "Number 10: a payload or array is longer than 2,147,483,647."
 abbrev pub payloadTooLong : ℕ → Test
-payloadTooLong n = record { fails = ltb (base .size) n; error = TooLong }
+payloadTooLong n = record { fails = ltb (base .size) n; error = refusal 10 }
 
 abbrev pub arrayTooLong : ℕ → Test
-arrayTooLong n = record { fails = ltb (base .count) n; error = TooLong }
+arrayTooLong n = record { fails = ltb (base .count) n; error = refusal 10 }
 
 -- The tests that a field with a payload or array of n begins with, and how the code says what they come to.
 abbrev pub fieldTests : OStream → ℕ → ℕ → ℕ → List Test
 fieldTests s size id n = unsound s size ∷ idTooLarge id ∷ payloadTooLong n ∷ []
 
 abbrev pub checkOf : Verdict → Check
-checkOf accepted = record { ok = true; error = PlaceBeyond }
+checkOf accepted = record { ok = true; error = refusal 11 }
 checkOf (refusedWith e) = record { ok = false; error = e }
 
 -- ---- a field

@@ -9,7 +9,7 @@ use Rattle.layout.specs.Limits.{pick}
 use Rattle.emit.specs.Put.{put}
 use Rattle.emit.specs.declared.Cursor.{Cursor}
 use Rattle.types.specs.declared.Error.{Error}
-use Rattle.types.specs.declared.Error.the-variants.{PlaceBeyond}
+use Rattle.types.specs.Types.{refusal}
 use Rattle.ostream.specs.declared.OStream.{OStream}
 use Rattle.ostream.specs.declared.Answer.the-variants.{Done, Full, Refused}
 use Rattle.ostream.specs.declared.Written.{Written}
@@ -42,7 +42,7 @@ refused s e = record { answer = Refused e; stream = s }
 -- state differs only in position, and the answer is the count of this call's bytes now out, counted from its first byte."
 unfoldable pub answered : OStream → ℕ → ℕ → ℕ → OStream → Written
 answered s size total place next =
-    pick (ltb total place) (refused s PlaceBeyond)
+    pick (ltb total place) (refused s (refusal 11))
     (pick (leb (total - place) (size - s .offset))
     (record { answer = Done; stream = at next (s .offset + (total - place)) })
     (record { answer = Full (place + (size - s .offset)); stream = at s size }))

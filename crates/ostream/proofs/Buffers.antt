@@ -1,0 +1,105 @@
+-- For those who run a writer through drains and buffer changes: what the calls about buffers come to, taken and refused, and which states
+-- stay sound.
+use mathlib.Core.Path.{_≡_, refl, sym, ap, _∙_}
+use mathlib.Core.Bool.{Bool, true, false, _&&_}
+use mathlib.Core.List.{List, [], _∷_}
+use Prim.Native.Nat.{ℕ, _+_, _≤_, _<_}
+use native.Mathlib.Omega.{arith}
+use lib.Dec.{leb, ltb, eqb}
+use lib.ListN.{length, take, drop, replicate}
+use borrow.Author.Tests.{leb-false, ltb-false, eqb-true, le-leb, lt-leb, le-ltb}
+use Rattle.types.specs.Types.{refusal}
+use Rattle.ostream.specs.declared.OStream.{OStream}
+use Rattle.ostream.specs.declared.Answer.the-variants.{Done}
+use Rattle.ostream.specs.declared.Written.{Written}
+use Rattle.ostream.specs.declared.Count.the-variants.{Bytes, Refused}
+use Rattle.ostream.specs.declared.Counted.{Counted}
+use Rattle.ostream.specs.Stream.{every, lazyDepth, soundStream, at, opened}
+use Rattle.ostream.specs.Straight.{clean}
+use Rattle.ostream.specs.Emission.{refused}
+use Rattle.ostream.specs.Buffer.{badBuffer, opening, draining, changing}
+use Rattle.ostream.proofs.Called.{both, is-sound}
+use Rattle.ostream.proofs.Straight.{quiet, clean-zeros}
+
+-- ---- sound states
+
+-- at another position, over another buffer
+pub sound-at : (s : OStream) (size p q : ℕ) → soundStream s size ≡ true → p ≤ q → soundStream (at s p) q ≡ true
+unfolding soundStream
+sound-at s size p q h l = simp (le-leb p q l) (both (leb (s .offset) size) _ h .1)
+
+pub opened-sound : (offset size : ℕ) → offset ≤ size → soundStream (opened offset) size ≡ true
+unfolding opened
+opened-sound offset size h = quiet (opened offset) size h refl (omega arith) clean-zeros
+
+-- where no id is held, every place is zero
+zeros : (l : List ℕ) → clean l ≡ true → l ≡ replicate (length l) 0
+unfolding every
+zeros [] h = refl
+zeros (x ∷ xs) h =
+    let (a, b) = both (eqb x 0) (every (λ x. eqb x 0) xs) h in
+    ap (λ (y : ℕ). y ∷ xs) (eqb-true x 0 a) ∙ ap (λ (t : List ℕ). 0 ∷ t) (zeros xs b)
+
+pub unheld-clean : (s : OStream) (size : ℕ) → soundStream s size ≡ true → s .npending ≡ 0 → clean (s .pending) ≡ true
+unheld-clean s size h e = sym (ap (λ (n : ℕ). every (λ x. eqb x 0) (drop n (s .pending))) e) ∙ is-sound s size h .zeros
+
+pub unheld-zeros : (s : OStream) (size : ℕ) → soundStream s size ≡ true → s .npending ≡ 0 → length (s .pending) ≡ lazyDepth → s .pending ≡ replicate lazyDepth 0
+unheld-zeros s size h e n = zeros (s .pending) (unheld-clean s size h e) ∙ ap (λ (k : ℕ). replicate k 0) n
+
+-- such a state is its position and its depth
+pub unheld-is : (s : OStream) (size : ℕ) → soundStream s size ≡ true → s .npending ≡ 0 → length (s .pending) ≡ lazyDepth
+    → s ≡ record { offset = s .offset; depth = s .depth; pending = replicate lazyDepth 0; npending = 0 }
+unheld-is s size h e n =
+    ap (λ (l : List ℕ). record { offset = s .offset; depth = s .depth; pending = l; npending = s .npending }) (unheld-zeros s size h e n)
+    ∙ ap (λ (k : ℕ). record { offset = s .offset; depth = s .depth; pending = replicate lazyDepth 0; npending = k }) e
+
+-- ---- a drain
+
+pub drained-is : (s : OStream) (size : ℕ) → soundStream s size ≡ true → draining s size ≡ record { answer = Bytes (s .offset); stream = at s 0 }
+unfolding draining
+drained-is s size h = simp h
+
+pub drain-refused : (s : OStream) (size : ℕ) → soundStream s size ≡ false → draining s size ≡ record { answer = Refused (refusal 6); stream = s }
+unfolding draining
+drain-refused s size h = simp h
+
+-- ---- an offset in a buffer
+
+pub fit : (size offset : ℕ) (drained : Bool) → badBuffer size offset drained .fails ≡ false → offset ≤ size
+fit size offset true h = omega (arith, leb-false size offset h)
+fit size offset false h = ltb-false size offset h
+
+-- one that is drained has a byte free
+pub fit-drained : (size offset : ℕ) → badBuffer size offset true .fails ≡ false → offset < size
+fit-drained size offset h = leb-false size offset h
+
+pub fits : (size offset : ℕ) (drained : Bool) → offset < size → badBuffer size offset drained .fails ≡ false
+fits size offset true h = lt-leb size offset h
+fits size offset false h = le-ltb size offset (omega arith)
+
+-- ---- opening
+
+pub open-taken : (size offset : ℕ) (drained : Bool) → badBuffer size offset drained .fails ≡ false → opening size offset drained ≡ record { answer = Done; stream = opened offset }
+unfolding opening
+open-taken size offset drained h = simp h
+
+pub open-refused : (size offset : ℕ) (drained : Bool) → badBuffer size offset drained .fails ≡ true → opening size offset drained ≡ refused (opened 0) (refusal 5)
+unfolding opening
+open-refused size offset drained h = simp h
+
+-- ---- another buffer
+
+module _ (s : OStream) (old new offset : ℕ) (drained : Bool) where
+  -- 5 by the new buffer, whatever the state
+  pub change-refused : badBuffer new offset drained .fails ≡ true → changing s old new offset drained ≡ record { answer = Refused (refusal 5); stream = s }
+  unfolding changing
+  change-refused t = simp t
+
+  -- 6 by the old one
+  pub change-unsound : badBuffer new offset drained .fails ≡ false → soundStream s old ≡ false → changing s old new offset drained ≡ record { answer = Refused (refusal 6); stream = s }
+  unfolding changing
+  change-unsound t h = simp (t, h)
+
+  pub change-taken : badBuffer new offset drained .fails ≡ false → soundStream s old ≡ true → changing s old new offset drained ≡ record { answer = Bytes (s .offset); stream = at s offset }
+  unfolding changing
+  change-taken t h = simp (t, h)

@@ -4,18 +4,21 @@ use Prim.Native.Nat.{ℕ, zero, suc, _+_, _-_, _*_, _<_, _≤_, min}
 use native.Mathlib.Nat.{not-suc-le-zero}
 use native.Mathlib.Omega.{arith}
 use mathlib.Core.Path.{_≡_, refl, sym, ap, _∙_, subst}
+use mathlib.Core.Bool.{Bool, true, false}
 use mathlib.Core.List.{List, [], _∷_, _++_, append-assoc, append-nil}
+use lib.Dec.{eqb}
 use lib.ListN.{length, take, drop, length-append, length-take, length-drop, take-append-drop}
 use lib.Seq.{take-add, take-length}
-use Rattle.layout.specs.Limits.{Limits}
+use Rattle.layout.specs.Limits.{Limits, pick}
 use Rattle.layout.specs.Field.{Raw}
 use Rattle.layout.specs.Event.{Event, Unsigned, Signed, Float, Piece, Fixlen, Array, Begin, End, cutFrom, cutPiece, cut, bytewise}
 use Rattle.layout.specs.Varint.{Outcome, whole, short, broken}
-use Rattle.layout.specs.Message.{Verdict, incomplete, brokenAt, verdictOf, eventsOf}
+use Rattle.layout.specs.Message.{Verdict, complete, incomplete, brokenAt, verdictOf, eventsOf, message, fieldsFrom, judged}
 use Rattle.machine.specs.Machine.{Phase, idle, inHeader, inUnsigned, inSigned, inWord, inUnsignedCount, inSignedCount, inFloatCount, inArrayWord, inFloat, inPayload}
 use Rattle.machine.specs.Machine.{Place, at, brokenBefore, walk, ending, endOf, judge}
-use Rattle.machine.specs.Call.{State, reading, owing, broke, fresh, Answer, event, verdict, invalid, Called, verdictAt, call}
-use Rattle.machine.specs.Run.{given, due, Follows, Chunk, more, calls, chunk, seen, Read, chunks, verdictsOf, join}
+use Rattle.machine.specs.Call.{State, reading, owing, broke, fresh, Answer, event, verdict, invalid, Called, verdictAt, verdictSo, Standing, standingOf, standing, call}
+use Rattle.machine.specs.Call as Call
+use Rattle.machine.specs.Run.{given, due, Follows, Ending, ended, unfinished, Chunk, more, calls, chunk, Heard, status, refused, heardOf, seen, Read, chunks, verdictsOf, heardAll, join}
 use Rattle.machine.proofs.Bridge.{events-walk, verdict-walk}
 use Rattle.machine.proofs.Prefix.{broken-stays}
 use Rattle.machine.proofs.Calls.{Judged, Closes, weight, Answered, bytewise-append, call-follows, fresh-follows}
@@ -23,15 +26,16 @@ use Rattle.machine.proofs.Calls.{Judged, Closes, weight, Answered, byte
 -- ---- a chunk
 
 -- how a chunk's calls end
-abbrev Final : Answer → State → ℕ → ℕ → Type 0
-Final (event e) s k m = ⊥
-Final (verdict v) s k m = (k ≡ m) × Judged s v
-Final invalid s k m = s ≡ broke
+abbrev EndsAt : Ending Answer → State → ℕ → ℕ → Type 0
+EndsAt (ended (event e)) s k m = ⊥
+EndsAt (ended (verdict v)) s k m = (k ≡ m) × Judged s v
+EndsAt (ended invalid) s k m = s ≡ broke
+EndsAt unfinished s k m = ⊥
 
 record Ran (L : Limits) (bs : List ℕ) (es : List Event) (c : List ℕ) (r : Chunk) : Type 0 where
   few : r .read ≤ length c
   follows : Follows L (bs ++ take (r .read) c) (es ++ r .events) (r .state)
-  final : Final (r .answer) (r .state) (r .read) (length c)
+  final : EndsAt (r .answer) (r .state) (r .read) (length c)
 
 -- one call, and the calls after it
 later : (L : Limits) (bs : List ℕ) (es : List Event) (c : List ℕ) (e : Event) (k : ℕ) (q : Chunk) → k ≤ length c
@@ -49,10 +53,11 @@ later L bs es c e k q l h =
       final = final-later (q .answer) (q .state) (q .read) (omega (arith, h .few)) (h .final);
     }
   where
-    final-later : (a : Answer) (s : State) (j : ℕ) → j + k ≤ length c → Final a s j (length (drop k c)) → Final a s (k + j) (length c)
-    final-later (event e) s j g f = f
-    final-later (verdict v) s j g f = let z : k + j ≡ length c = omega (arith, f .0, length-drop k c) in (z, f .1)
-    final-later invalid s j g f = f
+    final-later : (a : Ending Answer) (s : State) (j : ℕ) → j + k ≤ length c → EndsAt a s j (length (drop k c)) → EndsAt a s (k + j) (length c)
+    final-later (ended (event e)) s j g f = f
+    final-later (ended (verdict v)) s j g f = let z : k + j ≡ length c = omega (arith, f .0, length-drop k c) in (z, f .1)
+    final-later (ended invalid) s j g f = f
+    final-later unfinished s j g f = f
 
 -- by the answer of the first call
 by-answer : (L : Limits) (n : ℕ) (bs : List ℕ) (es : List Event) (s : State) (c : List ℕ) (k : ℕ) (s′ : State) (a : Answer)
@@ -61,8 +66,8 @@ by-answer : (L : Limits) (n : ℕ) (bs : List ℕ) (es : List Event) (s : State)
     → Ran L bs es c
     (elim a [
       | event e ↦ more e k (calls L n s′ (drop k c))
-      | verdict v ↦ record { events = []; read = k; answer = verdict v; state = s′ }
-      | invalid ↦ record { events = []; read = k; answer = invalid; state = s′ }
+      | verdict v ↦ record { events = []; read = k; answer = ended (verdict v); state = s′ }
+      | invalid ↦ record { events = []; read = k; answer = ended invalid; state = s′ }
     ])
 by-answer L n bs es s c k s′ (event e) l h f go = later L bs es c e k (calls L n s′ (drop k c)) l (go e f h)
 by-answer L n bs es s c k s′ (verdict v) l h f go = record { few = l; follows = f; final = h }
@@ -82,7 +87,13 @@ ran L (suc n) bs es s c f h =
 -- All the bytes bs were handed, n of them read, and the events es given: the reader goes on from there, or stands broken.
 data Stands (L : Limits) (bs : List ℕ) (es : List Event) (n : ℕ) : State → Type 0 where
   clear : {d : ℕ} {p : Phase} → Follows L bs es (reading d p) → n ≡ length bs → Stands L bs es n (reading d p)
-  ended : verdictOf L bs ≡ brokenAt n → eventsOf L bs ≡ bytewise es → Stands L bs es n broke
+  gone : verdictOf L bs ≡ brokenAt n → eventsOf L bs ≡ bytewise es → Stands L bs es n broke
+
+-- a verdict has no word for a broken reader, which is refused
+abbrev unbroken : Standing → Standing
+unbroken Call.complete = Call.complete
+unbroken Call.incomplete = Call.incomplete
+unbroken Call.broken = Call.incomplete
 
 -- a place that is not broken has its verdict whatever was read
 same-verdict : (m : ℕ) (d : ℕ) (p : Phase) → judge m (ending d p) ≡ verdictAt d p
@@ -99,6 +110,28 @@ same-verdict m d (inArrayWord id c k v) = refl
 same-verdict m d (inFloat id w left k v) = refl
 same-verdict m d (inPayload id r total o) = refl
 
+-- and that is complete or incomplete
+abbrev Plain : Verdict → Type 0
+Plain v = (heardOf v ≡ status v) × (standingOf v ≡ unbroken (standingOf v))
+
+plain-pick : (t : Bool) → Plain (pick t complete incomplete)
+plain-pick true = (refl, refl)
+plain-pick false = (refl, refl)
+
+plain-at : (d : ℕ) (p : Phase) → Plain (verdictAt d p)
+unfolding judge ending
+plain-at d (inHeader zero v) = plain-pick (eqb d 0)
+plain-at d (inHeader (suc k) v) = (refl, refl)
+plain-at d (inUnsigned id left k v) = (refl, refl)
+plain-at d (inSigned id left k v) = (refl, refl)
+plain-at d (inWord id k v) = (refl, refl)
+plain-at d (inUnsignedCount id k v) = (refl, refl)
+plain-at d (inSignedCount id k v) = (refl, refl)
+plain-at d (inFloatCount id k v) = (refl, refl)
+plain-at d (inArrayWord id c k v) = (refl, refl)
+plain-at d (inFloat id w left k v) = (refl, refl)
+plain-at d (inPayload id r total o) = (refl, refl)
+
 verdict-at : (L : Limits) (bs : List ℕ) (d : ℕ) (p : Phase) → walk L 0 idle bs .place ≡ at d p → verdictOf L bs ≡ verdictAt d p
 unfolding endOf
 verdict-at L bs d p e = verdict-walk L bs ∙ ap (λ (q : Place). judge (length bs) (endOf q)) e ∙ same-verdict (length bs) d p
@@ -111,20 +144,21 @@ verdict-broken L bs e =
 
 -- one chunk more
 record Chunked (L : Limits) (bs : List ℕ) (es : List Event) (n : ℕ) (c : List ℕ) (r : Chunk) : Type 0 where
-  sees : seen (n + r .read) (r .answer) ≡ verdictOf L (bs ++ c)
+  sees : seen (n + r .read) (r .answer) ≡ heardOf (verdictOf L (bs ++ c))
   stands : Stands L (bs ++ c) (es ++ r .events) (n + r .read) (r .state)
 
-chunked-from : (L : Limits) (bs : List ℕ) (es : List Event) (n : ℕ) (c : List ℕ) (fs : List Event) (k : ℕ) (a : Answer) (s : State) → n ≡ length bs → k ≤ length c
-    → Follows L (bs ++ take k c) (es ++ fs) s → Final a s k (length c) → Chunked L bs es n c (record { events = fs; read = k; answer = a; state = s })
-chunked-from L bs es n c fs k (event e) s m l f h = absurd h
-chunked-from L bs es n c fs k (verdict v) (reading d p) m l f h =
+chunked-from : (L : Limits) (bs : List ℕ) (es : List Event) (n : ℕ) (c : List ℕ) (fs : List Event) (k : ℕ) (a : Ending Answer) (s : State) → n ≡ length bs → k ≤ length c
+    → Follows L (bs ++ take k c) (es ++ fs) s → EndsAt a s k (length c) → Chunked L bs es n c (record { events = fs; read = k; answer = a; state = s })
+chunked-from L bs es n c fs k (ended (event e)) s m l f h = absurd h
+chunked-from L bs es n c fs k unfinished s m l f h = absurd h
+chunked-from L bs es n c fs k (ended (verdict v)) (reading d p) m l f h =
     let w : take k c ≡ c = ap (λ (j : ℕ). take j c) (h .0) ∙ take-length c in
     let g : Follows L (bs ++ c) (es ++ fs) (reading d p) = subst (λ (l : List ℕ). Follows L (bs ++ l) (es ++ fs) (reading d p)) w f in
     let z : n + k ≡ length (bs ++ c) = ap (λ (x : ℕ). x + k) m ∙ ap (λ (x : ℕ). length bs + x) (h .0) ∙ sym (length-append bs c) in
-    record { sees = h .1 ∙ sym (verdict-at L (bs ++ c) d p (g .place)); stands = clear g z }
-chunked-from L bs es n c fs k (verdict v) (owing d id r) m l f h = absurd (h .1)
-chunked-from L bs es n c fs k (verdict v) broke m l f h = absurd (h .1)
-chunked-from L bs es n c fs k invalid s m l f h =
+    record { sees = ap status (h .1) ∙ sym (ap heardOf (verdict-at L (bs ++ c) d p (g .place)) ∙ plain-at d p .0); stands = clear g z }
+chunked-from L bs es n c fs k (ended (verdict v)) (owing d id r) m l f h = absurd (h .1)
+chunked-from L bs es n c fs k (ended (verdict v)) broke m l f h = absurd (h .1)
+chunked-from L bs es n c fs k (ended invalid) s m l f h =
     let g : Follows L (bs ++ take k c) (es ++ fs) broke = subst (λ (s : State). Follows L (bs ++ take k c) (es ++ fs) s) h f in
     let z : length (bs ++ take k c) ≡ n + k = length-append bs (take k c) ∙ ap (λ (x : ℕ). length bs + x) (length-take k c ∙ low k (length c) l) ∙ ap (λ (x : ℕ). x + k) (sym m) in
     let v : verdictOf L (bs ++ take k c) ≡ brokenAt (n + k) = verdict-broken L (bs ++ take k c) (g .place) ∙ ap brokenAt z in
@@ -133,7 +167,7 @@ chunked-from L bs es n c fs k invalid s m l f h =
     let v′ : verdictOf L (bs ++ c) ≡ brokenAt (n + k) = subst (λ (l : List ℕ). verdictOf L l ≡ brokenAt (n + k)) w (b .0) in
     let e′ : eventsOf L (bs ++ c) ≡ bytewise (es ++ fs) =
     subst (λ (l : List ℕ). eventsOf L l ≡ eventsOf L (bs ++ take k c)) w (b .1) ∙ events-walk L (bs ++ take k c) ∙ g .events ∙ append-nil _ in
-    record { sees = sym v′; stands = subst (λ (s : State). Stands L (bs ++ c) (es ++ fs) (n + k) s) (sym h) (ended v′ e′) }
+    record { sees = sym (ap heardOf v′); stands = subst (λ (s : State). Stands L (bs ++ c) (es ++ fs) (n + k) s) (sym h) (gone v′ e′) }
   where
     low : (a b : ℕ) → a ≤ b → min a b ≡ a
     low a b h = omega arith
@@ -145,47 +179,74 @@ broken-chunk L bs es n c v e m =
     let z : n + 0 ≡ n = omega arith in
     let b = broken-stays L bs c n v in
     let v′ : verdictOf L (bs ++ c) ≡ brokenAt (n + 0) = b .0 ∙ ap brokenAt (sym z) in
-    record { sees = sym v′; stands = ended v′ (b .1 ∙ e ∙ ap bytewise (sym (append-nil es))) }
+    record { sees = sym (ap heardOf v′); stands = gone v′ (b .1 ∙ e ∙ ap bytewise (sym (append-nil es))) }
 
 chunked : (L : Limits) (bs : List ℕ) (es : List Event) (n : ℕ) (s : State) (c : List ℕ) → Stands L bs es n s → Chunked L bs es n c (chunk L s c)
 chunked L bs es n (reading d p) c (clear f m) =
     let r = chunk L (reading d p) c in
     let h = ran L (2 * length c + 2) bs es (reading d p) c f (omega arith) in
     chunked-from L bs es n c (r .events) (r .read) (r .answer) (r .state) m (h .few) (h .follows) (h .final)
-chunked L bs es n broke c (ended v e) =
+chunked L bs es n broke c (gone v e) =
     let m : suc (2 * length c + 1) ≡ 2 * length c + 2 = omega arith in
     subst (λ (m : ℕ). Chunked L bs es n c (calls L m broke c)) m (broken-chunk L bs es n c v e (2 * length c + 1))
 
 stands-events : (L : Limits) (bs : List ℕ) (es : List Event) (n : ℕ) (s : State) → Stands L bs es n s → bytewise es ≡ eventsOf L bs
 stands-events L bs es n (reading d p) (clear f m) = sym (events-walk L bs ∙ f .events ∙ append-nil (bytewise es))
-stands-events L bs es n broke (ended v e) = sym e
+stands-events L bs es n broke (gone v e) = sym e
+
+stands-standing : (L : Limits) (bs : List ℕ) (es : List Event) (n : ℕ) (s : State) → Stands L bs es n s → standing s ≡ standingOf (verdictOf L bs)
+unfolding standing
+stands-standing L bs es n (reading d p) (clear f m) = ap standingOf (sym (verdict-at L bs d p (f .place)))
+stands-standing L bs es n broke (gone v e) = ap standingOf (sym v)
 
 -- For every list of chunks: the events given, bytewise, are the layout's for the bytes handed, and so is the verdict after each chunk.
 reads-from : (L : Limits) (bs : List ℕ) (es : List Event) (n : ℕ) (s : State) (cs : List (List ℕ)) → Stands L bs es n s
-    → (bytewise (es ++ chunks L s n cs .events) ≡ eventsOf L (bs ++ join cs)) × (chunks L s n cs .verdicts ≡ verdictsOf L bs cs)
+    → (bytewise (es ++ chunks L s n cs .events) ≡ eventsOf L (bs ++ join cs)) × (chunks L s n cs .verdicts ≡ heardAll (verdictsOf L bs cs))
+    × (standing (chunks L s n cs .state) ≡ standingOf (verdictOf L (bs ++ join cs)))
 unfolding chunks verdictsOf join
-reads-from L bs es n s [] h = (ap bytewise (append-nil es) ∙ stands-events L bs es n s h ∙ ap (eventsOf L) (sym (append-nil bs)), refl)
+reads-from L bs es n s [] h = (ap bytewise (append-nil es) ∙ stands-events L bs es n s h ∙ ap (eventsOf L) (sym (append-nil bs)), refl, stands-standing L bs es n s h ∙ ap (λ (l : List ℕ). standingOf (verdictOf L l)) (sym (append-nil bs)))
 reads-from L bs es n s (c ∷ cs) h =
     let r = chunk L s c in
     let q = chunked L bs es n s c h in
     let i = reads-from L (bs ++ c) (es ++ r .events) (n + r .read) (r .state) cs (q .stands) in (
       ap bytewise (sym (append-assoc es (r .events) _)) ∙ i .0 ∙ ap (eventsOf L) (append-assoc bs c (join cs)),
-      ap (λ (v : Verdict). v ∷ chunks L (r .state) (n + r .read) cs .verdicts) (q .sees) ∙ ap (λ (l : List Verdict). verdictOf L (bs ++ c) ∷ l) (i .1),
+      ap (λ (v : Heard). v ∷ chunks L (r .state) (n + r .read) cs .verdicts) (q .sees) ∙ ap (λ (l : List Heard). heardOf (verdictOf L (bs ++ c)) ∷ l) (i .1),
+      i .2 ∙ ap (λ (l : List ℕ). standingOf (verdictOf L l)) (append-assoc bs c (join cs)),
     )
 
 -- THE RUN THEOREM. A fresh reader that is handed the chunks in order, each to its end: the events given, payload pieces joined, are the
--- layout's; the verdict after each chunk is the layout's for the bytes so far, and a refusal 2 comes at the layout's byte.
-pub reads : (L : Limits) (cs : List (List ℕ)) → (bytewise (chunks L fresh 0 cs .events) ≡ eventsOf L (join cs)) × (chunks L fresh 0 cs .verdicts ≡ verdictsOf L [] cs)
+-- layout's; what is heard after each chunk is the layout's verdict for the bytes so far, number 2 coming at the layout's byte; and the
+-- reader stands at the end as the layout's verdict for all the bytes, after no chunk at all too.
+pub reads : (L : Limits) (cs : List (List ℕ))
+    → (bytewise (chunks L fresh 0 cs .events) ≡ eventsOf L (join cs)) × (chunks L fresh 0 cs .verdicts ≡ heardAll (verdictsOf L [] cs))
+    × (standing (chunks L fresh 0 cs .state) ≡ standingOf (verdictOf L (join cs)))
 reads L cs = reads-from L [] [] 0 fresh cs (clear (fresh-follows L) refl)
 
--- Calling on ends: after at most two calls a byte and two more the answer is no event.
-pub calling-ends : (L : Limits) (bs : List ℕ) (es : List Event) (s : State) (c : List ℕ) (e : Event) → Follows L bs es s → chunk L s c .answer ≡ event e → ⊥
-calling-ends L bs es s c e f h = subst (λ (a : Answer). Final a (chunk L s c .state) (chunk L s c .read) (length c)) h (ran L (2 * length c + 2) bs es s c f (enough s) .final)
-  where
-    enough : (s : State) → 2 * length c + weight s < 2 * length c + 2
-    enough (reading d p) = omega arith
-    enough (owing d id r) = omega arith
-    enough broke = omega arith
+-- "Empty input to a fresh reader, or no chunk at all, is complete."
+pub no-chunk-complete : (L : Limits) → (standing (chunks L fresh 0 [] .state) ≡ Call.complete) × (verdictOf L [] ≡ complete)
+unfolding chunks standing ending judge verdictOf message fieldsFrom judged
+no-chunk-complete L = (refl, refl)
+
+-- ---- the verdict so far
+
+-- After any series of calls, whole chunks or not: where no event is due, the reader stands as the layout's verdict for the bytes read;
+-- where one is, its field is under way.
+abbrev pub standingWith : List Event → Verdict → Standing
+standingWith [] v = standingOf v
+standingWith (e ∷ es) v = standingOf incomplete
+
+pub standing-is : (L : Limits) (bs : List ℕ) (es : List Event) (s : State) → Follows L bs es s → standing s ≡ standingWith (due s) (verdictOf L bs)
+unfolding standing
+standing-is L bs es (reading d p) f = ap standingOf (sym (verdict-at L bs d p (f .place)))
+standing-is L bs es (owing d id r) f = refl
+standing-is L bs es broke f = ap standingOf (sym (verdict-broken L bs (f .place)))
+
+-- The verdict so far says the same of a reader that is not broken.
+pub verdict-so : (s : State) → standingOf (verdictSo s) ≡ unbroken (standing s)
+unfolding standing verdictSo
+verdict-so (reading d p) = plain-at d p .1
+verdict-so (owing d id r) = refl
+verdict-so broke = refl
 
 -- ---- joined
 

@@ -2,11 +2,11 @@
 -- "Reading runs likewise, with an event where "full" stands and no drains."
 use Prim.Native.Nat.{ℕ, zero, suc, _+_, _*_}
 use mathlib.Core.Path.{_≡_}
-use mathlib.Core.List.{List, [], _∷_, _++_}
+use mathlib.Core.List.{List, [], _∷_, _++_, map}
 use lib.ListN.{length, drop}
 use Rattle.layout.specs.Limits.{Limits}
 use Rattle.layout.specs.Event.{Event, Piece, bytewise}
-use Rattle.layout.specs.Message.{Verdict, incomplete, brokenAt, verdictOf}
+use Rattle.layout.specs.Message.{Verdict, complete, incomplete, brokenAt, verdictOf}
 use Rattle.machine.specs.Machine.{idle, Place, at, brokenBefore, walk}
 use Rattle.machine.specs.Call.{State, reading, owing, broke, Answer, event, verdict, invalid, Called, call}
 
@@ -37,11 +37,16 @@ pub record Follows (L : Limits) (bs : List ℕ) (es : List Event) (s : State) : 
 
 -- ---- a chunk
 
--- the events given, the bytes read in all, the answer that was no event, and the state after it
+-- How the calls on a chunk end: with an answer that is no event, or not within the calls that were allowed. No call gives the second.
+pub data Ending (A : Type 0) : Type 0 where
+  ended : A → Ending A
+  unfinished : Ending A
+
+-- the events given, the bytes read in all, how the calls end, and the state after them
 pub record Chunk : Type 0 where
   pub events : List Event
   pub read : ℕ
-  pub answer : Answer
+  pub answer : Ending Answer
   pub state : State
 
 abbrev pub more : Event → ℕ → Chunk → Chunk
@@ -49,43 +54,62 @@ more e n r = record { events = e ∷ r .events; read = n + r .read; answer = r .
 
 -- at most n calls
 unfoldable pub calls : Limits → ℕ → State → List ℕ → Chunk
-calls L zero s bs = record { events = []; read = 0; answer = verdict incomplete; state = s }
+calls L zero s bs = record { events = []; read = 0; answer = unfinished; state = s }
 calls L (suc n) s bs =
     let r = call L s bs in
     elim (r .answer) [
       | event e ↦ more e (r .read) (calls L n (r .state) (drop (r .read) bs))
-      | verdict v ↦ record { events = []; read = r .read; answer = verdict v; state = r .state }
-      | invalid ↦ record { events = []; read = r .read; answer = invalid; state = r .state }
+      | verdict v ↦ record { events = []; read = r .read; answer = ended (verdict v); state = r .state }
+      | invalid ↦ record { events = []; read = r .read; answer = ended invalid; state = r .state }
     ]
 
--- two calls a byte, and two more, are enough
+-- two calls a byte, and two more, are enough (proofs/Ends)
 abbrev pub chunk : Limits → State → List ℕ → Chunk
 chunk L s bs = calls L (2 * length bs + 2) s bs
 
 -- ---- a list of chunks
 
--- what an answer says of the message, n bytes being read in all
-abbrev pub seen : ℕ → Answer → Verdict
-seen n (event e) = incomplete
-seen n (verdict v) = v
-seen n invalid = brokenAt n
+-- What a caller hears of a chunk: the verdict; a refusal by 01's number, so many bytes being read in all; or nothing, where the calls
+-- did not end.
+pub data Heard : Type 0 where
+  status : Verdict → Heard
+  refused : (number read : ℕ) → Heard
+  nothing : Heard
 
--- the events given, and the verdict after each chunk
+-- how the layout's verdict is heard. "Number 2: the message is broken; the count read includes the offending byte."
+abbrev pub heardOf : Verdict → Heard
+heardOf complete = status complete
+heardOf incomplete = status incomplete
+heardOf (brokenAt n) = refused 2 n
+
+-- what is heard of an ending, n bytes being read in all
+abbrev pub seen : ℕ → Ending Answer → Heard
+seen n (ended (event e)) = nothing
+seen n (ended (verdict v)) = status v
+seen n (ended invalid) = refused 2 n
+seen n unfinished = nothing
+
+-- the events given, what was heard after each chunk, and the state after the last
 pub record Read : Type 0 where
   pub events : List Event
-  pub verdicts : List Verdict
+  pub verdicts : List Heard
+  pub state : State
 
 unfoldable pub chunks : Limits → State → ℕ → List (List ℕ) → Read
-chunks L s n [] = record { events = []; verdicts = [] }
+chunks L s n [] = record { events = []; verdicts = []; state = s }
 chunks L s n (c ∷ cs) =
     let r = chunk L s c in
     let q = chunks L (r .state) (n + r .read) cs in
-    record { events = r .events ++ q .events; verdicts = seen (n + r .read) (r .answer) ∷ q .verdicts }
+    record { events = r .events ++ q .events; verdicts = seen (n + r .read) (r .answer) ∷ q .verdicts; state = q .state }
 
 -- the layout's verdict after each chunk, on the bytes so far
 unfoldable pub verdictsOf : Limits → List ℕ → List (List ℕ) → List Verdict
 verdictsOf L bs [] = []
 verdictsOf L bs (c ∷ cs) = verdictOf L (bs ++ c) ∷ verdictsOf L (bs ++ c) cs
+
+-- as they are heard
+abbrev pub heardAll : List Verdict → List Heard
+heardAll vs = map heardOf vs
 
 -- chunks joined
 unfoldable pub join : List (List ℕ) → List ℕ

@@ -13,20 +13,22 @@ use Rattle.layout.specs.Varint.{Push, more, value, overrun, push}
 use Rattle.layout.specs.Field.{Width, fp32, fp64, Raw, Subtyped, Wire, bytesOf, subtypeOf, wireOf, float, raw, known, unknown}
 use Rattle.layout.specs.Field.{T-unsigned, T-signed, T-fixlen, T-unsigneds, T-signeds, T-floats, T-begin, T-end}
 use Rattle.layout.specs.Event.{Event, Unsigned, Signed, Float, Piece, Fixlen, Array, Begin, End, bytewise}
-use Rattle.layout.specs.Message.{All, Bytes, Verdict, complete, incomplete, brokenAt, eventsOf}
+use Rattle.layout.specs.Message.{All, Bytes, Verdict, complete, incomplete, eventsOf, verdictOf}
 use Rattle.machine.specs.Machine.{Phase, inHeader, inUnsigned, inSigned, inWord, inUnsignedCount, inSignedCount, inFloatCount, inArrayWord, inFloat, inPayload}
 use Rattle.machine.specs.Machine.{idle, Stepped, on, bad, nextOr, atWire, atHeader, atPayload, atSubtype, atWord, atUnsignedCount, atSignedCount, atFloatCount}
 use Rattle.machine.specs.Machine.{atElement, atArrayWord, atUnsigned, atSigned, within, atFloat, step, ending, judge}
 use Rattle.machine.specs.Call.{State, reading, owing, broke, fresh, Answer, event, verdict, invalid, Called, verdictAt, Pace, byte, bulk, paceOf, piece, scanned, scan, call}
-use Rattle.machine.specs.Run.{Chunk, calls, seen, chunks, verdictsOf, join}
-use Rattle.machine.proofs.Runs.{reads}
+use Rattle.machine.specs.Call.{Standing, standingOf, standing}
+use Rattle.machine.specs.Run.{given, due, Follows, Ending, ended, unfinished, Chunk, calls, Heard, status, seen, chunks, verdictsOf, heardAll, join}
+use Rattle.machine.proofs.Calls.{call-follows, fresh-follows}
+use Rattle.machine.proofs.Runs.{standingWith, standing-is, reads}
 use Rattle.event.specs.Event.{eventOf, declared}
 use Rattle.event.proofs.Laws.{InRange, declared-back}
 use Rattle.istream.specs.declared.IStream.{IStream}
 use Rattle.istream.specs.declared.Answer.the-variants as Answers
 use Rattle.istream.specs.declared.Status.the-variants.{Complete, Incomplete}
 use Rattle.istream.specs.declared.Fed as Given
-use Rattle.types.specs.declared.Error.the-variants.{InvalidMsg}
+use Rattle.types.specs.Types.{refusal}
 use Rattle.istream.specs.Stream.{stateOf, streamIn, soundStream, statusIn, answerIn, fedIn, still, fedOf}
 use Rattle.field.specs.Steps.{covered}
 use Rattle.phase.specs.Sound.{SoundAt, SoundState, AtBytes, Kept}
@@ -34,7 +36,7 @@ use Rattle.phase.proofs.Phases.{Live, byte-below}
 use Rattle.phase.proofs.Keeps.{step-keeps}
 use Rattle.istream.proofs.Calls.{state-of-stream}
 use Rattle.istream.proofs.Laws.{is-sound, sound-is, fresh-sound, fed-sound, fed-broken, feed-keeps}
-use Rattle.reading.specs.Feeds.{Fed, feeds, feed, told, Run, feedAll}
+use Rattle.reading.specs.Feeds.{Fed, feeds, feed, told, Run, feedAll, givenBy, Reached, start, called}
 
 -- ---- a byte raises no piece, and a float's bits are of its width
 
@@ -208,10 +210,11 @@ bytes-drop (suc k) (b ∷ bs) h = bytes-drop k bs (h .1)
 -- ---- a chunk
 
 -- the machine's last answer as the reader's
-abbrev final : Answer → Rattle.istream.specs.declared.Answer.Answer
-final (event e) = Answers.Status Incomplete
-final (verdict v) = Answers.Status (statusIn v)
-final invalid = Answers.Refused InvalidMsg
+abbrev final : Ending Answer → Ending Rattle.istream.specs.declared.Answer.Answer
+final (ended (event e)) = unfinished
+final (ended (verdict v)) = ended (Answers.Status (statusIn v))
+final (ended invalid) = ended (Answers.Refused (refusal 2))
+final unfinished = unfinished
 
 abbrev image : Chunk → Fed
 image r = record { events = r .events; read = r .read; answer = final (r .answer); stream = streamIn (r .state) }
@@ -221,8 +224,8 @@ after : ℕ → List ℕ → Given.Fed → Fed
 after n c r =
     elim (r .answer) [
       | Answers.Event e ↦ (let q = feeds n (r .stream) (drop (r .read) c) in record { events = eventOf c e ∷ q .events; read = r .read + q .read; answer = q .answer; stream = q .stream })
-      | Answers.Status v ↦ record { events = []; read = r .read; answer = Answers.Status v; stream = r .stream }
-      | Answers.Refused e ↦ record { events = []; read = r .read; answer = Answers.Refused e; stream = r .stream }
+      | Answers.Status v ↦ record { events = []; read = r .read; answer = ended (Answers.Status v); stream = r .stream }
+      | Answers.Refused e ↦ record { events = []; read = r .read; answer = ended (Answers.Refused e); stream = r .stream }
     ]
 
 -- by the machine's answer
@@ -231,8 +234,8 @@ after-is : (n : ℕ) (c : List ℕ) (k : ℕ) (a : Answer) (st : State) → Rang
     ≡ image
     (elim a as (λ x. Chunk) [
       | event e ↦ Rattle.machine.specs.Run.more e k (calls base n st (drop k c))
-      | verdict v ↦ record { events = []; read = k; answer = verdict v; state = st }
-      | invalid ↦ record { events = []; read = k; answer = invalid; state = st }
+      | verdict v ↦ record { events = []; read = k; answer = ended (verdict v); state = st }
+      | invalid ↦ record { events = []; read = k; answer = ended invalid; state = st }
     ])
 unfolding after
 after-is n c k (event e) st g ih =
@@ -261,8 +264,8 @@ calls-sound (suc n) st c h b =
         → SoundState
         ((elim a as (λ x. Chunk) [
           | event e ↦ Rattle.machine.specs.Run.more e (call base st c .read) (calls base n (call base st c .state) (drop (call base st c .read) c))
-          | verdict v ↦ record { events = []; read = call base st c .read; answer = verdict v; state = call base st c .state }
-          | invalid ↦ record { events = []; read = call base st c .read; answer = invalid; state = call base st c .state }
+          | verdict v ↦ record { events = []; read = call base st c .read; answer = ended (verdict v); state = call base st c .state }
+          | invalid ↦ record { events = []; read = call base st c .read; answer = ended invalid; state = call base st c .state }
         ]) .state)
     by-answer (event e) s t = t
     by-answer (verdict v) s t = s
@@ -273,14 +276,14 @@ calls-sound (suc n) st c h b =
 -- a verdict that comes with an answer is complete or incomplete
 abbrev Plain : Answer → Type 0
 Plain (event e) = Unit {0}
-Plain (verdict v) = (n : ℕ) → told n (Answers.Status (statusIn v)) ≡ v
+Plain (verdict v) = (n : ℕ) → told n (ended (Answers.Status (statusIn v))) ≡ status v
 Plain invalid = Unit {0}
 
-plain-pick : (t : Bool) (n : ℕ) → told n (Answers.Status (statusIn (pick t complete incomplete))) ≡ pick t complete incomplete
+plain-pick : (t : Bool) (n : ℕ) → told n (ended (Answers.Status (statusIn (pick t complete incomplete)))) ≡ status (pick t complete incomplete)
 plain-pick true n = refl
 plain-pick false n = refl
 
-plain-at : (d : ℕ) (p : Phase) (n : ℕ) → told n (Answers.Status (statusIn (verdictAt d p))) ≡ verdictAt d p
+plain-at : (d : ℕ) (p : Phase) (n : ℕ) → told n (ended (Answers.Status (statusIn (verdictAt d p)))) ≡ status (verdictAt d p)
 unfolding judge ending
 plain-at d (inHeader zero v) n = plain-pick (eqb d 0) n
 plain-at d (inHeader (suc k) v) n = refl
@@ -316,46 +319,105 @@ plain-call (reading d p) c = plain-scan 0 d p c
 plain-call (owing d id r) c = tt
 plain-call broke c = tt
 
-plain-calls : (n : ℕ) (st : State) (c : List ℕ) → Plain (calls base n st c .answer)
+abbrev PlainEnd : Ending Answer → Type 0
+PlainEnd (ended a) = Plain a
+PlainEnd unfinished = Unit {0}
+
+plain-calls : (n : ℕ) (st : State) (c : List ℕ) → PlainEnd (calls base n st c .answer)
 unfolding calls
-plain-calls zero st c = λ n. refl
+plain-calls zero st c = tt
 plain-calls (suc n) st c = by-answer (call base st c .answer) (plain-call st c) (plain-calls n (call base st c .state) (drop (call base st c .read) c))
   where
-    by-answer : (a : Answer) → Plain a → Plain (calls base n (call base st c .state) (drop (call base st c .read) c) .answer)
-        → Plain
+    by-answer : (a : Answer) → Plain a → PlainEnd (calls base n (call base st c .state) (drop (call base st c .read) c) .answer)
+        → PlainEnd
         ((elim a as (λ x. Chunk) [
           | event e ↦ Rattle.machine.specs.Run.more e (call base st c .read) (calls base n (call base st c .state) (drop (call base st c .read) c))
-          | verdict v ↦ record { events = []; read = call base st c .read; answer = verdict v; state = call base st c .state }
-          | invalid ↦ record { events = []; read = call base st c .read; answer = invalid; state = call base st c .state }
+          | verdict v ↦ record { events = []; read = call base st c .read; answer = ended (verdict v); state = call base st c .state }
+          | invalid ↦ record { events = []; read = call base st c .read; answer = ended invalid; state = call base st c .state }
         ]) .answer)
     by-answer (event e) s t = t
     by-answer (verdict v) s t = s
     by-answer invalid s t = s
 
-told-is : (n : ℕ) (a : Answer) → Plain a → told n (final a) ≡ seen n a
-told-is n (event e) h = refl
-told-is n (verdict v) h = h n
-told-is n invalid h = refl
+told-is : (n : ℕ) (a : Ending Answer) → PlainEnd a → told n (final a) ≡ seen n a
+told-is n (ended (event e)) h = refl
+told-is n (ended (verdict v)) h = h n
+told-is n (ended invalid) h = refl
+told-is n unfinished h = refl
 
 -- ---- a list of chunks
 
-feedAll-is : (st : State) (n : ℕ) (cs : List (List ℕ)) → SoundState st → All Bytes cs → feedAll (streamIn st) n cs ≡ record { events = chunks base st n cs .events; verdicts = chunks base st n cs .verdicts }
+feedAll-is : (st : State) (n : ℕ) (cs : List (List ℕ)) → SoundState st → All Bytes cs
+    → feedAll (streamIn st) n cs ≡ record { events = chunks base st n cs .events; verdicts = chunks base st n cs .verdicts; stream = streamIn (chunks base st n cs .state) }
 unfolding feedAll chunks
 feedAll-is st n [] h b = refl
 feedAll-is st n (c ∷ cs) h b =
     let r : Chunk = calls base (2 * length c + 2) st c in
-    ap (λ (f : Fed). record { events = f .events ++ feedAll (f .stream) (n + f .read) cs .events; verdicts = told (n + f .read) (f .answer) ∷ feedAll (f .stream) (n + f .read) cs .verdicts }) (feeds-is (2 * length c + 2) st c h (b .0))
-    ∙ ap (λ (q : Run). record { events = r .events ++ q .events; verdicts = told (n + r .read) (final (r .answer)) ∷ q .verdicts }) (feedAll-is (r .state) (n + r .read) cs (calls-sound (2 * length c + 2) st c h (b .0)) (b .1))
-    ∙ ap (λ (v : Verdict). record { events = r .events ++ chunks base (r .state) (n + r .read) cs .events; verdicts = v ∷ chunks base (r .state) (n + r .read) cs .verdicts }) (told-is (n + r .read) (r .answer) (plain-calls (2 * length c + 2) st c))
+    let after : Heard → Run → Run = λ v q. record { events = r .events ++ q .events; verdicts = v ∷ q .verdicts; stream = q .stream } in
+    let s = calls-sound (2 * length c + 2) st c h (b .0) in
+    ap (λ (f : Fed). record { events = f .events ++ feedAll (f .stream) (n + f .read) cs .events; verdicts = told (n + f .read) (f .answer) ∷ feedAll (f .stream) (n + f .read) cs .verdicts; stream = feedAll (f .stream) (n + f .read) cs .stream }) (feeds-is (2 * length c + 2) st c h (b .0))
+    ∙ ap (after (told (n + r .read) (final (r .answer)))) (feedAll-is (r .state) (n + r .read) cs s (b .1))
+    ∙ ap (λ (v : Heard). after v (record { events = chunks base (r .state) (n + r .read) cs .events; verdicts = chunks base (r .state) (n + r .read) cs .verdicts; stream = streamIn (chunks base (r .state) (n + r .read) cs .state) })) (told-is (n + r .read) (r .answer) (plain-calls (2 * length c + 2) st c))
+
+sound-start : SoundState fresh
+sound-start = is-sound (streamIn fresh) fresh-sound
 
 -- THE READER'S RUN THEOREM. A fresh reader that is handed chunks in order, each to its end: the events given, payload pieces joined and
--- floats by their bits, are the layout's for the bytes handed, and the verdict after each chunk is the layout's for the bytes so far, a
--- refusal 2 coming at the layout's byte.
+-- floats by their bits, are the layout's for the bytes handed; what is heard after each chunk is the layout's verdict for the bytes so
+-- far, a broken message by number 2 at the layout's byte and by no other number; and the reader stands at the end as the layout's
+-- verdict for all the bytes, after no chunk at all too.
 pub feeds-read : (cs : List (List ℕ)) → All Bytes cs
-    → (bytewise (feedAll (streamIn fresh) 0 cs .events) ≡ eventsOf base (join cs)) × (feedAll (streamIn fresh) 0 cs .verdicts ≡ verdictsOf base [] cs)
+    → (bytewise (feedAll (streamIn fresh) 0 cs .events) ≡ eventsOf base (join cs)) × (feedAll (streamIn fresh) 0 cs .verdicts ≡ heardAll (verdictsOf base [] cs))
+    × (standing (stateOf (feedAll (streamIn fresh) 0 cs .stream)) ≡ standingOf (verdictOf base (join cs)))
 feeds-read cs b =
-    let e = feedAll-is fresh 0 cs (is-sound-fresh) b in
-    (ap (λ (r : Run). bytewise (r .events)) e ∙ reads base cs .0, ap (λ (r : Run). r .verdicts) e ∙ reads base cs .1)
-  where
-    is-sound-fresh : SoundState fresh
-    is-sound-fresh = is-sound (streamIn fresh) fresh-sound
+    let e = feedAll-is fresh 0 cs sound-start b in
+    let m = reads base cs in (
+      ap (λ (r : Run). bytewise (r .events)) e ∙ m .0,
+      ap (λ (r : Run). r .verdicts) e ∙ m .1,
+      ap (λ (r : Run). standing (stateOf (r .stream))) e ∙ ap standing (state-of-stream (chunks base fresh 0 cs .state)) ∙ m .2,
+    )
+
+-- ---- any calls
+
+-- a reader that calls have reached is the machine's state that the same calls reach
+record Follow (bs : List ℕ) (es : List Event) (s : IStream) : Type 0 where
+  state : State
+  is : s ≡ streamIn state
+  sound : SoundState state
+  follows : Follows base bs es state
+
+given-is : (c : List ℕ) (k : ℕ) (a : Answer) → Ranged c k a → givenBy c (answerIn k a) ≡ given a
+given-is c k (event e) g = ap (λ (x : Event). x ∷ []) (declared-back c (k - covered e) e g)
+given-is c k (verdict v) g = refl
+given-is c k invalid g = refl
+
+-- the same after one call more, in whatever words its answer stands
+follow-by : (bs : List ℕ) (es : List Event) (c : List ℕ) (st : State) (f : Given.Fed) → f ≡ fedIn (call base st c) → Bytes c → SoundState st → Follows base bs es st
+    → Follow (bs ++ take (f .read) c) (es ++ givenBy c (f .answer)) (f .stream)
+unfolding fedIn
+follow-by bs es c st f e b h w =
+    let r = call base st c in
+    let g : givenBy c (answerIn (r .read) (r .answer)) ≡ given (r .answer) = given-is c (r .read) (r .answer) (call-range st c h b) in
+    subst (λ (x : Given.Fed). Follow (bs ++ take (x .read) c) (es ++ givenBy c (x .answer)) (x .stream)) (sym e)
+    (record {
+      state = r .state;
+      is = refl;
+      sound = call-sound st c h b;
+      follows = subst (λ (l : List Event). Follows base (bs ++ take (r .read) c) (es ++ l) (r .state)) (sym g) (call-follows base bs es st c w .follows);
+    })
+
+reached-follow : {bs : List ℕ} {es : List Event} {s : IStream} → Reached bs es s → Follow bs es s
+reached-follow start = record { state = fresh; is = refl; sound = sound-start; follows = fresh-follows base }
+reached-follow (called {bs} {es} {s} h c b) =
+    let i = reached-follow h in
+    follow-by bs es c (i .state) (fedOf s c) (ap (λ (x : IStream). fedOf x c) (i .is) ∙ fed-is (i .state) c (i .sound)) b (i .sound) (i .follows)
+
+-- After any calls on any chunks: the events given, with the one due, are the layout's for the bytes read.
+pub reached-follows : {bs : List ℕ} {es : List Event} {s : IStream} → Reached bs es s → Follows base bs es (stateOf s)
+reached-follows {bs} {es} {s} h =
+    let i = reached-follow h in
+    subst (Follows base bs es) (sym (ap stateOf (i .is) ∙ state-of-stream (i .state))) (i .follows)
+
+-- And the reader stands as the layout's verdict for the bytes read, or within a field while an event is due.
+pub reached-standing : {bs : List ℕ} {es : List Event} {s : IStream} → Reached bs es s → standing (stateOf s) ≡ standingWith (due (stateOf s)) (verdictOf base bs)
+reached-standing {bs} {es} {s} h = standing-is base bs es (stateOf s) (reached-follows h)

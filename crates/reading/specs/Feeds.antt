@@ -2,53 +2,76 @@
 -- none; and a list of chunks in order. Events are the layout's, taken from the chunk that the call was lent.
 use Prim.Native.Nat.{ℕ, zero, suc, _+_, _*_}
 use mathlib.Core.List.{List, [], _∷_, _++_}
-use lib.ListN.{length, drop}
+use lib.ListN.{length, take, drop}
 use Rattle.layout.specs.Event as layout
-use Rattle.layout.specs.Message.{Verdict, complete, incomplete, brokenAt}
+use Rattle.layout.specs.Message.{complete, incomplete, Bytes}
+use Rattle.machine.specs.Call.{fresh}
+use Rattle.machine.specs.Run.{Ending, ended, unfinished, Heard, status, refused, nothing}
+use Rattle.types.specs.Types.{numberOf}
 use Rattle.event.specs.Event.{eventOf}
 use Rattle.istream.specs.declared.IStream.{IStream}
 use Rattle.istream.specs.declared.Answer.{Answer}
 use Rattle.istream.specs.declared.Answer.the-variants.{Event, Status, Refused}
 use Rattle.istream.specs.declared.Status.the-variants.{Complete, Incomplete}
-use Rattle.istream.specs.Stream.{fedOf}
+use Rattle.istream.specs.Stream.{streamIn, fedOf}
 
--- the events given, the bytes read in all, the answer that was no event, and the state after it
+-- ---- a chunk
+
+-- the events given, the bytes read in all, how the calls end, and the reader after them
 pub record Fed : Type 0 where
   pub events : List layout.Event
   pub read : ℕ
-  pub answer : Answer
+  pub answer : Ending Answer
   pub stream : IStream
 
 -- at most n calls
 unfoldable pub feeds : ℕ → IStream → List ℕ → Fed
-feeds zero s c = record { events = []; read = 0; answer = Status Incomplete; stream = s }
+feeds zero s c = record { events = []; read = 0; answer = unfinished; stream = s }
 feeds (suc n) s c =
     let r = fedOf s c in
     elim (r .answer) [
       | Event e ↦ (let q = feeds n (r .stream) (drop (r .read) c) in record { events = eventOf c e ∷ q .events; read = r .read + q .read; answer = q .answer; stream = q .stream })
-      | Status v ↦ record { events = []; read = r .read; answer = Status v; stream = r .stream }
-      | Refused e ↦ record { events = []; read = r .read; answer = Refused e; stream = r .stream }
+      | Status v ↦ record { events = []; read = r .read; answer = ended (Status v); stream = r .stream }
+      | Refused e ↦ record { events = []; read = r .read; answer = ended (Refused e); stream = r .stream }
     ]
 
--- two calls a byte, and two more, are enough
+-- two calls a byte, and two more, are enough (proofs/Ends)
 abbrev pub feed : IStream → List ℕ → Fed
 feed s c = feeds (2 * length c + 2) s c
 
--- what an answer says of the message, n bytes being read in all
-abbrev pub told : ℕ → Answer → Verdict
-told n (Event e) = incomplete
-told n (Status Complete) = complete
-told n (Status Incomplete) = incomplete
-told n (Refused e) = brokenAt n
+-- ---- a list of chunks
 
--- the events given, and the verdict after each chunk
+-- what is heard of an ending, n bytes being read in all: a refusal by its number
+abbrev pub told : ℕ → Ending Answer → Heard
+told n (ended (Event e)) = nothing
+told n (ended (Status Complete)) = status complete
+told n (ended (Status Incomplete)) = status incomplete
+told n (ended (Refused e)) = refused (numberOf e) n
+told n unfinished = nothing
+
+-- the events given, what was heard after each chunk, and the reader after the last
 pub record Run : Type 0 where
   pub events : List layout.Event
-  pub verdicts : List Verdict
+  pub verdicts : List Heard
+  pub stream : IStream
 
 unfoldable pub feedAll : IStream → ℕ → List (List ℕ) → Run
-feedAll s n [] = record { events = []; verdicts = [] }
+feedAll s n [] = record { events = []; verdicts = []; stream = s }
 feedAll s n (c ∷ cs) =
     let r = feed s c in
     let q = feedAll (r .stream) (n + r .read) cs in
-    record { events = r .events ++ q .events; verdicts = told (n + r .read) (r .answer) ∷ q .verdicts }
+    record { events = r .events ++ q .events; verdicts = told (n + r .read) (r .answer) ∷ q .verdicts; stream = q .stream }
+
+-- ---- any calls
+
+-- the event that an answer gives, the call being lent this chunk
+abbrev pub givenBy : List ℕ → Answer → List layout.Event
+givenBy c (Event e) = eventOf c e ∷ []
+givenBy c (Status v) = []
+givenBy c (Refused e) = []
+
+-- The reader after calls on any chunks whatever, a chunk's rest handed in or not: the bytes that were read, and the events given.
+pub data Reached : List ℕ → List layout.Event → IStream → Type 0 where
+  start : Reached [] [] (streamIn fresh)
+  called : {bs : List ℕ} {es : List layout.Event} {s : IStream} → Reached bs es s → (c : List ℕ) → Bytes c
+      → Reached (bs ++ take (fedOf s c .read) c) (es ++ givenBy c (fedOf s c .answer)) (fedOf s c .stream)

@@ -279,7 +279,7 @@ scan-is L n d p (b ∷ bs) f = scan-cons L n d p b bs f (λ d′ p′ f′. scan
 
 -- ---- a call
 
-abbrev FairPlace : Place → Type 0
+abbrev pub FairPlace : Place → Type 0
 FairPlace (at d p) = Fair p
 FairPlace (brokenBefore rest) = Unit {0}
 
@@ -288,7 +288,7 @@ unfolding onward
 fair-onward (on es d p) bs f h g = g d p h
 fair-onward bad bs f h g = tt
 
-fair-walk : (L : Limits) (d : ℕ) (p : Phase) (bs : List ℕ) → Fair p → FairPlace (walk L d p bs .place)
+pub fair-walk : (L : Limits) (d : ℕ) (p : Phase) (bs : List ℕ) → Fair p → FairPlace (walk L d p bs .place)
 unfolding walk
 fair-walk L d p [] h = h
 fair-walk L d p (b ∷ bs) h = fair-onward (step L d p b) bs _ (fair-step L d p b h) (λ d′ p′ h′. fair-walk L d′ p′ bs h′)
@@ -314,12 +314,12 @@ Closes (event e) s s′ k m = 2 * (m - k) + weight s′ < 2 * m + weight s
 Closes (verdict v) s s′ k m = (k ≡ m) × Judged s′ v
 Closes invalid s s′ k m = s′ ≡ broke
 
-light : (s : State) → weight s ≤ 1
+pub light : (s : State) → weight s ≤ 1
 light (reading d p) = omega arith
 light (owing d id r) = omega arith
 light broke = omega arith
 
-closes : (a : Answer) (s s′ : State) (k m : ℕ) → k ≤ m → Ends a s′ k m → Closes a s s′ k m
+pub closes : (a : Answer) (s s′ : State) (k m : ℕ) → k ≤ m → Ends a s′ k m → Closes a s s′ k m
 closes (event e) s s′ k m l h = omega (arith, light s′)
 closes (verdict v) s s′ k m l h = h
 closes invalid s s′ k m l h = h .1

@@ -1,4 +1,4 @@
-//! The port's side: the exports of the crate `trace`, which parse a case, make its calls and write the answer, and that of `host`.
+//! The port's side: the exports of the crates `trace` and `trace_writer`, which parse a case, make its calls and write the answer, and that of `host`.
 
 use crate::case::Kind;
 
@@ -6,7 +6,11 @@ use crate::case::Kind;
 extern "C" {
     fn trace_reader(case: *const u8, case_len: usize, out: *mut u8, out_len: usize) -> i64;
     fn trace_gatherer(case: *const u8, case_len: usize, out: *mut u8, out_len: usize) -> i64;
-    fn trace_writer(case: *const u8, case_len: usize, out: *mut u8, out_len: usize) -> i64;
+}
+
+#[link(name = "trace_writer", kind = "static")]
+extern "C" {
+    fn trace_writes(case: *const u8, case_len: usize, out: *mut u8, out_len: usize) -> i64;
 }
 
 #[link(name = "host", kind = "static")]
@@ -25,7 +29,7 @@ pub fn answer(kind: Kind, case: &[u8], out: &mut [u8]) -> usize {
     let export = match kind {
         Kind::Reader => trace_reader,
         Kind::Gatherer => trace_gatherer,
-        Kind::Writer => trace_writer,
+        Kind::Writer => trace_writes,
     };
     // SAFETY: the exports are proved on every pair of slices, and are given just these.
     let n = unsafe { export(case.as_ptr(), case.len(), out.as_mut_ptr(), out.len()) };

@@ -22,7 +22,8 @@ use Rattle.machine.proofs.Calls.{fresh-follows}
 use Rattle.machine.proofs.Prefix.{broken-stays}
 use Rattle.machine.proofs.Runs.{plain-at, verdict-at, verdict-broken}
 use Rattle.istream.specs.Stream.{stateOf, streamIn}
-use Rattle.istream.proofs.Calls.{Live, state-of-stream}
+use Rattle.phase.proofs.Phases.{Live}
+use Rattle.istream.proofs.Calls.{state-of-stream}
 use Rattle.ostream.specs.Stream.{at, opened}
 use Rattle.ostream.proofs.Called as writers
 use Rattle.reading.proofs.Feeds.{bytes-drop}

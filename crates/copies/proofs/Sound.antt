@@ -19,8 +19,9 @@ use Rattle.machine.proofs.Calls.{FairPlace}
 use Rattle.istream.specs.declared.IStream.{IStream}
 use Rattle.istream.specs.Stream as reader
 use Rattle.istream.specs.Stream.{stateOf, streamIn}
-use Rattle.istream.specs.Sound.{SoundState}
-use Rattle.istream.proofs.Calls.{Live, state-of-stream}
+use Rattle.phase.specs.Sound.{SoundState}
+use Rattle.phase.proofs.Phases.{Live}
+use Rattle.istream.proofs.Calls.{state-of-stream}
 use Rattle.istream.proofs.Laws as readers
 use Rattle.ostream.specs.declared.OStream.{OStream}
 use Rattle.ostream.specs.declared.Counted.{Counted}

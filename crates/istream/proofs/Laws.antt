@@ -2,13 +2,11 @@
 use mathlib.Core.Path.{_≡_, refl, sym, ap, _∙_, subst}
 use mathlib.Core.Bool.{Bool, true, false, _&&_, true≢false}
 use mathlib.Core.List.{List, [], _∷_}
-use Prim.Native.Nat.{ℕ, suc, _+_, _-_, _<_, _≤_, min}
+use Prim.Native.Nat.{ℕ, suc, _+_, _-_, _<_, min}
 use native.Mathlib.Omega.{arith}
 use lib.ListN.{length, getD}
 use lib.Dec.{ltb, leb, lit≤}
 use borrow.Author.Tests.{le-leb, lt-ltb, leb-true, ltb-true}
-use types.Run.{OneOf, miss}
-use denote.Enum.Declared.{tagOf}
 use Rattle.layout.specs.Limits.{base, pick}
 use Rattle.layout.specs.Field.{Raw, bytesOf}
 use Rattle.machine.specs.Machine as machine
@@ -16,55 +14,30 @@ use Rattle.machine.specs.Machine.{inHeader, inUnsigned, inSigned, inWord, inUns
 use Rattle.machine.specs.Call.{State, reading, owing, broke, fresh, Called, call, scan, scanned}
 use Rattle.types.specs.declared.RawType.{RawType}
 use Rattle.types.specs.declared.RawType.the-variants as Raws
-use Rattle.types.specs.declared.Error.the-variants.{UnsoundReader}
-use Rattle.types.specs.Types.{rawSort}
-use Rattle.varint.specs.Varint.{Sound, soundAcc}
+use Rattle.types.specs.Types.{rawSort, refusal}
 use Rattle.varint.proofs.Laws as varint
 use Rattle.event.specs.declared.Event as Given
-use Rattle.istream.specs.declared.Phase.{Phase}
-use Rattle.istream.specs.declared.Phase.the-variants.{Header, Unsigned, Signed, Word, UnsignedCount, SignedCount, FloatCount, ArrayWord, Float, Payload, Empty, Broken}
+use Rattle.phase.specs.declared.Phase.{Phase}
+use Rattle.phase.specs.declared.Phase.the-variants.{Header, Unsigned, Signed, Word, UnsignedCount, SignedCount, FloatCount, ArrayWord, Float, Payload, Empty, Broken}
 use Rattle.istream.specs.declared.IStream.{IStream}
 use Rattle.istream.specs.declared.Answer.the-variants as Answers
-use Rattle.istream.specs.Stream.{stateAt, stateOf, streamIn, soundPhase, soundStream, phaseIn, pieceIn, fedIn, still, fedFrom, fedOf}
-use Rattle.istream.specs.Sound.{SoundState, AtBytes, Kept}
-use Rattle.istream.proofs.Steps.{width-back}
-use Rattle.istream.proofs.Keeps.{step-keeps}
-use Rattle.istream.proofs.Calls.{Live, scan-end, scan-byte}
-use Rattle.istream.proofs.Phase.{the-type}
+use Rattle.phase.specs.Phases.{stateAt, soundPhase, phaseIn}
+use Rattle.at_once.specs.declared.Quick.the-variants.{Done}
+use Rattle.at_once.specs.AtOnce.{StopsAt, RightFrom}
+use Rattle.istream.specs.declared.Fed.{Fed}
+use Rattle.istream.specs.Stream.{stateOf, streamIn, soundStream, answerIn, fedIn, still, fedFrom, fedOf}
+use Rattle.field.specs.Steps.{pieceIn}
+use Rattle.phase.specs.Sound.{SoundState, AtBytes, Kept}
+use Rattle.phase.proofs.Phases.{width-back, Live, both, join, phase-is, varint-is, broken-sound}
+use Rattle.phase.proofs.Keeps.{step-keeps}
+use Rattle.phase.proofs.Scans.{scan-end, scan-byte}
+use Rattle.istream.proofs.Tests.{sound-in}
 
 -- ---- the test of a state, and what it says
-
-pub both : (x y : Bool) → (x && y) ≡ true → (x ≡ true) × (y ≡ true)
-both true y e = (refl, e)
-both false y e = let z : _≡_ {A = ℕ} 0 1 = cc in absurd (omega arith)
-
-join : {x y : Bool} → x ≡ true → y ≡ true → (x && y) ≡ true
-join e f = simp (e, f)
-
-pub phase-is : (d : ℕ) (p : Phase) → d ≤ 255 → soundPhase p ≡ true → SoundState (stateAt d p)
-phase-is d (Header a) l e = (l, varint.is-sound a e)
-phase-is d (Unsigned id left a) l e = let (i, f) = both _ _ e in let (c, s) = both _ _ f in (l, (leb-true _ _ i, (leb-true _ _ c, varint.is-sound a s)))
-phase-is d (Signed id left a) l e = let (i, f) = both _ _ e in let (c, s) = both _ _ f in (l, (leb-true _ _ i, (leb-true _ _ c, varint.is-sound a s)))
-phase-is d (Word id a) l e = let (i, s) = both _ _ e in (l, (leb-true _ _ i, varint.is-sound a s))
-phase-is d (UnsignedCount id a) l e = let (i, s) = both _ _ e in (l, (leb-true _ _ i, varint.is-sound a s))
-phase-is d (SignedCount id a) l e = let (i, s) = both _ _ e in (l, (leb-true _ _ i, varint.is-sound a s))
-phase-is d (FloatCount id a) l e = let (i, s) = both _ _ e in (l, (leb-true _ _ i, varint.is-sound a s))
-phase-is d (ArrayWord id count a) l e = let (i, f) = both _ _ e in let (c, s) = both _ _ f in (l, (leb-true _ _ i, (leb-true _ _ c, varint.is-sound a s)))
-phase-is d (Float id w left k v) l e =
-    let (i, f) = both _ _ e in
-    let (c, g) = both _ _ f in
-    let (m, s) = both _ _ g in
-    (l, (leb-true _ _ i, (leb-true _ _ c, (ltb-true _ _ m, ltb-true _ _ s))))
-phase-is d (Payload id r total o) l e = let (i, f) = both _ _ e in let (c, s) = both _ _ f in (l, (leb-true _ _ i, (leb-true _ _ c, ltb-true _ _ s)))
-phase-is d (Empty id r) l e = (l, leb-true _ _ e)
-phase-is d Broken l e = tt
 
 pub is-sound : (s : IStream) → soundStream s ≡ true → SoundState (stateOf s)
 unfolding soundStream
 is-sound s e = let (d, p) = both _ _ e in phase-is (s .depth) (s .phase) (leb-true _ _ d) p
-
-varint-is : (k v : ℕ) → Sound (record { value = v; taken = k }) → soundAcc (record { value = v; taken = k }) ≡ true
-varint-is k v s = varint.sound-is (record { value = v; taken = k }) s
 
 pub sound-is : (st : State) → SoundState st → soundStream (streamIn st) ≡ true
 unfolding soundStream
@@ -88,29 +61,6 @@ fresh-sound = sound-is fresh (lit≤ tt, varint.sound-start)
 
 -- ---- the ways of a call
 
-pub live-bytes : (st : State) → AtBytes st → Live st
-live-bytes (reading d p) a = tt
-live-bytes (owing d id r) a = tt
-live-bytes broke a = a
-
--- the phases that are read byte by byte
-pub at-bytes : (s : IStream) → soundStream s ≡ true → OneOf (0 ∷ 1 ∷ 2 ∷ 3 ∷ 4 ∷ 5 ∷ 6 ∷ 7 ∷ 8 ∷ []) (tagOf the-type (s .phase)) → AtBytes (stateOf s)
-at-bytes s e o = go (s .depth) (s .phase) (is-sound s e) o
-  where
-    go : (d : ℕ) (p : Phase) → SoundState (stateAt d p) → OneOf (0 ∷ 1 ∷ 2 ∷ 3 ∷ 4 ∷ 5 ∷ 6 ∷ 7 ∷ 8 ∷ []) (tagOf the-type p) → AtBytes (stateAt d p)
-    go d (Header a) (l, h) o = (l, (h, refl))
-    go d (Unsigned id left a) (l, h) o = (l, (h, refl))
-    go d (Signed id left a) (l, h) o = (l, (h, refl))
-    go d (Word id a) (l, h) o = (l, (h, refl))
-    go d (UnsignedCount id a) (l, h) o = (l, (h, refl))
-    go d (SignedCount id a) (l, h) o = (l, (h, refl))
-    go d (FloatCount id a) (l, h) o = (l, (h, refl))
-    go d (ArrayWord id count a) (l, h) o = (l, (h, refl))
-    go d (Float id w left k v) (l, h) o = (l, (h, refl))
-    go d (Payload id r total n) h o = absurd (miss (0 ∷ 1 ∷ 2 ∷ 3 ∷ 4 ∷ 5 ∷ 6 ∷ 7 ∷ 8 ∷ []) 9 tt o)
-    go d (Empty id r) h o = absurd (miss (0 ∷ 1 ∷ 2 ∷ 3 ∷ 4 ∷ 5 ∷ 6 ∷ 7 ∷ 8 ∷ []) 10 tt o)
-    go d Broken h o = absurd (miss (0 ∷ 1 ∷ 2 ∷ 3 ∷ 4 ∷ 5 ∷ 6 ∷ 7 ∷ 8 ∷ []) 11 tt o)
-
 pub fed-sound : (s : IStream) (st : State) (c : List ℕ) → stateOf s ≡ st → Live st → soundStream s ≡ true → fedIn (call base st c) ≡ fedOf s c
 unfolding fedOf
 fed-sound s (reading d p) c e l t = ap (λ (x : State). fedIn (call base x c)) (sym e) ∙ sym (ap (λ (x : State). fedFrom x s c) e ∙ simp t)
@@ -125,26 +75,11 @@ test-is : (s : IStream) → soundStream s ≡ (leb (s .depth) 255 && soundPhase 
 unfolding soundStream
 test-is s = refl
 
--- a broken reader passes the test
-broken-sound : (d : ℕ) (p : Phase) → d < 256 → stateAt d p ≡ broke → (leb d 255 && soundPhase p) ≡ true
-broken-sound d (Header a) h e = let z : _≡_ {A = ℕ} 0 1 = cc in absurd (omega arith)
-broken-sound d (Unsigned id left a) h e = let z : _≡_ {A = ℕ} 0 1 = cc in absurd (omega arith)
-broken-sound d (Signed id left a) h e = let z : _≡_ {A = ℕ} 0 1 = cc in absurd (omega arith)
-broken-sound d (Word id a) h e = let z : _≡_ {A = ℕ} 0 1 = cc in absurd (omega arith)
-broken-sound d (UnsignedCount id a) h e = let z : _≡_ {A = ℕ} 0 1 = cc in absurd (omega arith)
-broken-sound d (SignedCount id a) h e = let z : _≡_ {A = ℕ} 0 1 = cc in absurd (omega arith)
-broken-sound d (FloatCount id a) h e = let z : _≡_ {A = ℕ} 0 1 = cc in absurd (omega arith)
-broken-sound d (ArrayWord id count a) h e = let z : _≡_ {A = ℕ} 0 1 = cc in absurd (omega arith)
-broken-sound d (Float id w left k v) h e = let z : _≡_ {A = ℕ} 0 1 = cc in absurd (omega arith)
-broken-sound d (Payload id r total o) h e = let z : _≡_ {A = ℕ} 0 1 = cc in absurd (omega arith)
-broken-sound d (Empty id r) h e = let z : _≡_ {A = ℕ} 0 1 = cc in absurd (omega arith)
-broken-sound d Broken h e = join (le-leb d 255 (omega arith)) refl
-
-pub fed-unsound : (s : IStream) (c : List ℕ) → s .depth < 256 → soundStream s ≡ false → record { read = 0; answer = Answers.Refused UnsoundReader; stream = s } ≡ fedOf s c
+pub fed-unsound : (s : IStream) (c : List ℕ) → s .depth < 256 → soundStream s ≡ false → record { read = 0; answer = Answers.Refused (refusal 1); stream = s } ≡ fedOf s c
 unfolding fedOf
 fed-unsound s c h t = go (stateOf s) refl
   where
-    go : (st : State) → stateOf s ≡ st → record { read = 0; answer = Answers.Refused UnsoundReader; stream = s } ≡ fedFrom (stateOf s) s c
+    go : (st : State) → stateOf s ≡ st → record { read = 0; answer = Answers.Refused (refusal 1); stream = s } ≡ fedFrom (stateOf s) s c
     go (reading d p) e = sym (ap (λ (x : State). fedFrom x s c) e ∙ simp t)
     go (owing d id r) e = sym (ap (λ (x : State). fedFrom x s c) e ∙ simp t)
     go broke e = absurd (true≢false (sym (broken-sound (s .depth) (s .phase) h e) ∙ sym (test-is s) ∙ t))
@@ -154,6 +89,32 @@ pub owed-piece : (d id : ℕ) (r : RawType) (c : List ℕ) (v : Given.Event) (p 
 unfolding call fedIn
 owed-piece d id Raws.Str c v p e f = λ i. record { read = 0; answer = Answers.Event (e i); stream = record { phase = f i; depth = d } }
 owed-piece d id Raws.Blob c v p e f = λ i. record { read = 0; answer = Answers.Event (e i); stream = record { phase = f i; depth = d } }
+
+-- a payload under way
+pub payload-owed : (id : ℕ) (r : RawType) (total o : ℕ) → soundPhase (Payload id r total o) ≡ true → o < total
+payload-owed id r total o t = phase-is 0 (Payload id r total o) (lit≤ tt) t .1 .1 .1
+
+pub from-payload : (s : IStream) (c : List ℕ) (id : ℕ) (r : RawType) (total o : ℕ) (f : Fed) → s .depth < 256 → s .phase ≡ Payload id r total o → soundPhase (Payload id r total o) ≡ true
+    → f ≡ fedIn (call base (reading (s .depth) (inPayload id (rawSort r) total o)) c) → f ≡ fedOf s c
+from-payload s c id r total o f b e t h = h ∙ fed-sound s _ c (ap (stateAt (s .depth)) e) tt (sym (sound-in s (Payload id r total o) b e) ∙ t)
+
+-- a broken reader stops at no event
+broken-live : (st : State) (c : List ℕ) {p : Phase} {d : ℕ} {e : Given.Event} {n : ℕ} → StopsAt p d e n (call base st c) → Live st
+unfolding call
+broken-live (reading d p) c x = tt
+broken-live (owing d id r) c x = tt
+broken-live broke c x = let f = x .answered in let z : _≡_ {A = ℕ} 0 1 = cc in absurd (omega arith)
+
+-- what is read at once
+pub from-once : (s : IStream) (c : List ℕ) (p : Phase) (d : ℕ) (e : Given.Event) (n : ℕ) → s .depth < 256 → RightFrom (s .phase) (Done p d e n) (call base (stateOf s) c)
+    → record { read = n; answer = Answers.Event e; stream = record { phase = p; depth = d } } ≡ fedOf s c
+unfolding fedIn
+from-once s c p d e n b (t, x) =
+    (λ i. record { read = x .read i; answer = answers i; stream = record { phase = x .phase i; depth = x .depth i } })
+    ∙ fed-sound s (stateOf s) c refl (broken-live (stateOf s) c x) (sym (sound-in s (s .phase) b refl) ∙ t)
+  where
+    answers : Answers.Event e ≡ answerIn (call base (stateOf s) c .read) (call base (stateOf s) c .answer)
+    answers = ap Answers.Event (x .raised) ∙ sym (ap (answerIn (call base (stateOf s) c .read)) (x .answered))
 
 -- ---- a call keeps a state sound
 

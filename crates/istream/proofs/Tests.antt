@@ -1,28 +1,24 @@
 -- The tests that the code makes of a state, as the definitions make them: the verdict so far, and soundness.
-use mathlib.Core.Path.{_≡_, refl, sym, ap, _∙_, subst}
-use mathlib.Core.Bool.{Bool, true, false}
+use mathlib.Core.Path.{_≡_, refl, sym, ap, _∙_}
 use mathlib.Core.List.{[], _∷_}
-use Prim.Native.Nat.{ℕ, zero, suc, _*_, _/_, _^_, _<_, _≤_}
-use native.Mathlib.Nat.{div-eq-of-lt, div-lt-iff-lt-mul, one-mul}
+use Prim.Native.Nat.{ℕ, zero, suc, _<_}
 use native.Mathlib.Omega.{arith}
-use lib.Dec.{ltb, eqb}
-use lib.Pow.{pow-pos}
-use borrow.Author.Tests.{le-leb, ltb-true, ltb-false, eq-eqb, ne-eqb}
+use lib.Dec.{eqb}
+use borrow.Author.Tests.{le-leb, eq-eqb, ne-eqb}
 use types.Run.{OneOf, miss}
 use denote.Enum.Declared.{tagOf}
 use Rattle.layout.specs.Limits.{pick}
-use Rattle.layout.specs.Field.{Raw}
-use Rattle.machine.specs.Machine.{inHeader, inPayload, ending, judge}
-use Rattle.machine.specs.Call.{verdictSo, paceOf, byte}
+use Rattle.machine.specs.Machine.{inHeader, ending, judge}
+use Rattle.machine.specs.Call.{verdictSo}
 use Rattle.varint.specs.declared.Acc.{Acc}
-use Rattle.istream.specs.declared.Phase.{Phase}
-use Rattle.istream.specs.declared.Phase.the-variants.{Header, Unsigned, Signed, Word, UnsignedCount, SignedCount, FloatCount, ArrayWord, Float, Payload, Empty, Broken}
+use Rattle.phase.specs.declared.Phase.{Phase}
+use Rattle.phase.specs.declared.Phase.the-variants.{Header, Unsigned, Signed, Word, UnsignedCount, SignedCount, FloatCount, ArrayWord, Float, Payload, Empty, Broken}
 use Rattle.istream.specs.declared.IStream.{IStream}
 use Rattle.istream.specs.declared.Status.{Status}
 use Rattle.istream.specs.declared.Status.the-variants.{Complete, Incomplete}
-use Rattle.istream.specs.Stream.{statusIn, statusOf, soundPhase, soundStream}
-use Rattle.istream.proofs.Steps.{pow256}
-use Rattle.istream.proofs.Phase.{the-type}
+use Rattle.istream.specs.Stream.{statusIn, statusOf, soundStream}
+use Rattle.phase.specs.Phases.{soundPhase}
+use Rattle.phase.proofs.Phase.{the-type}
 
 -- ---- the verdict so far
 
@@ -72,25 +68,6 @@ status-taken d a h = some-taken d (a .taken) (a .value) h ∙ sym (at-header d a
 
 -- ---- soundness
 
--- nothing is left above the first k bytes exactly where the number is below 256 ^ k
-pub below : (v k : ℕ) → eqb (v / 2 ^ (k * 8)) 0 ≡ ltb v (256 ^ k)
-below v k = go (ltb v (256 ^ k)) refl
-  where
-    go : (b : Bool) → ltb v (256 ^ k) ≡ b → eqb (v / 2 ^ (k * 8)) 0 ≡ ltb v (256 ^ k)
-    go true q = eq-eqb _ _ (div-eq-of-lt (subst (λ (p : ℕ). v < p) (pow256 k) (ltb-true _ _ q))) ∙ sym q
-    go false q = ne-eqb _ _ (λ z. no z (ltb-false _ _ q)) ∙ sym q
-      where
-        no : v / 2 ^ (k * 8) ≡ 0 → 256 ^ k ≤ v → ⊥
-        no z h =
-            let l : v / 2 ^ (k * 8) < 1 = omega arith in
-            let m : v < 1 * 2 ^ (k * 8) = div-lt-iff-lt-mul (pow-pos (k * 8)) .0 l in
-            let e : 256 ^ k ≡ 2 ^ (k * 8) = pow256 k in
-            omega (arith, one-mul (2 ^ (k * 8)))
-
 pub sound-in : (s : IStream) (p : Phase) → s .depth < 256 → s .phase ≡ p → soundPhase p ≡ soundStream s
 unfolding soundStream
 sound-in s p h e = simp (le-leb (s .depth) 255 (omega arith)) (sym (ap soundPhase e))
-
--- a payload's phase is not read byte by byte
-pub no-bulk : (id : ℕ) (r : Raw) (total o : ℕ) → paceOf (inPayload id r total o) ≡ byte → ⊥
-no-bulk id r total o e = let z : _≡_ {A = ℕ} 0 1 = cc in absurd (omega arith)

@@ -1,3 +1,1 @@
 pub mod Stream
-pub mod Sound
-pub mod AtOnce

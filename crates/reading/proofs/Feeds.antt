@@ -29,10 +29,11 @@ use Rattle.istream.specs.declared.IStream.{IStream}
 use Rattle.istream.specs.declared.Answer.the-variants as Answers
 use Rattle.istream.specs.declared.Fed as Given
 use Rattle.types.specs.Types.{refusal}
-use Rattle.istream.specs.Stream.{stateOf, streamIn, soundStream, covered, statusIn, answerIn, fedIn, fedOf}
-use Rattle.istream.specs.Sound.{SoundAt, SoundState, AtBytes, Kept}
-use Rattle.istream.proofs.Steps.{byte-below}
-use Rattle.istream.proofs.Keeps.{step-keeps}
+use Rattle.istream.specs.Stream.{stateOf, streamIn, soundStream, statusIn, answerIn, fedIn, fedOf}
+use Rattle.field.specs.Steps.{covered}
+use Rattle.phase.specs.Sound.{SoundAt, SoundState, AtBytes, Kept}
+use Rattle.phase.proofs.Phases.{byte-below}
+use Rattle.phase.proofs.Keeps.{step-keeps}
 use Rattle.istream.proofs.Calls.{state-of-stream}
 use Rattle.istream.proofs.Laws.{is-sound, sound-is, fresh-sound, fed-sound, fed-broken, feed-keeps}
 use Rattle.reading.specs.Feeds.{Fed, feeds, told, Run, feedAll, givenBy, Reached, start, called}

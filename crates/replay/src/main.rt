@@ -48,7 +48,7 @@ fn answer(kind: u8, case: &[u8], out: &mut [u8]) -> usize {
     match kind {
         1 => trace::reader::trace(case, out),
         2 => trace::gatherer::trace(case, out),
-        _ => trace::writer::trace(case, out),
+        _ => trace_writer::writer::trace(case, out),
     }
 }
 

@@ -1,12 +1,12 @@
 // Cases of the gatherer: a capacity, then pieces and resets. After each call: its answer, the state and the whole buffer.
-use crate::bytes::ahead;
-use crate::bytes::get8;
-use crate::bytes::get16;
-use crate::bytes::get64;
-use crate::bytes::part;
-use crate::bytes::put_bytes;
-use crate::bytes::put8;
-use crate::bytes::put16;
+use cases::ahead;
+use cases::get8;
+use cases::get16;
+use cases::get64;
+use cases::part;
+use cases::put_bytes;
+use cases::put8;
+use cases::put16;
 use payload::Answer;
 use payload::Fed;
 use payload::PayloadAcc;

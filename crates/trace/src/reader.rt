@@ -1,14 +1,14 @@
 // Cases of the reader: chunk lengths, then the bytes that the chunks join to. For each event, its values and how many bytes were read so
 // far; after each chunk, the verdict.
-use crate::bytes::ahead;
-use crate::bytes::between;
-use crate::bytes::get16;
-use crate::bytes::part;
-use crate::bytes::put_bytes;
-use crate::bytes::put8;
-use crate::bytes::put16;
-use crate::bytes::put32;
-use crate::bytes::put64;
+use cases::ahead;
+use cases::between;
+use cases::get16;
+use cases::part;
+use cases::put_bytes;
+use cases::put8;
+use cases::put16;
+use cases::put32;
+use cases::put64;
 use event::Bounds;
 use event::Event;
 use event::fp32_bits;

@@ -1,6 +1,6 @@
 -- `istream::again` meets its contract.
 use Rattle.istream.specs.Stream.{fedOf}
-use Rattle.istream.specs.declared.Phase.{Phase}
+use Rattle.phase.specs.declared.Phase.{Phase}
 use mathlib.Core.Path.{ap, _∙_}
 use borrow.Author.Needs.{needs}
 use Rattle.istream.proofs.again.Statement.{statement}

@@ -1,5 +1,5 @@
 -- `istream::fed_anew` meets its contract.
-use Rattle.istream.specs.declared.Phase.{Phase}
+use Rattle.phase.specs.declared.Phase.{Phase}
 use mathlib.Core.Path.{ap}
 use borrow.Author.Needs.{needs}
 use Rattle.istream.proofs.fed_anew.Statement.{statement}

@@ -8,17 +8,18 @@ use mir.Val.{Fits}
 use borrow.Author.Needs.{needs}
 use Rattle.layout.specs.Limits.{base}
 use Rattle.machine.specs.Call.{call}
+use Rattle.phase.specs.Phases.{stateAt}
 use Rattle.istream.specs.Stream.{stateOf}
-use Rattle.istream.specs.Sound.{AtBytes}
+use Rattle.phase.specs.Sound.{AtBytes}
 use Rattle.istream.proofs.Calls.{scanOn, call-scan, turn-ends, turn-goes, turn-last}
 use Rattle.istream.proofs.scan.Statement.{statement}
 use Rattle.istream.proofs.scan.Tie as tie
 
 abbrev Inv-loop : tie.InvT-loop
-Inv-loop chunk at₀ n₀ at n = (n ≤ length chunk) × (AtBytes (stateOf at) × (call base (stateOf at₀) chunk ≡ scanOn n (stateOf at) (drop n chunk)))
+Inv-loop chunk phase₀ depth₀ n₀ phase depth n = (n ≤ length chunk) × (AtBytes (stateAt depth phase) × (call base (stateAt depth₀ phase₀) chunk ≡ scanOn n (stateAt depth phase) (drop n chunk)))
 
 abbrev μ-loop : tie.MeasureT-loop
-μ-loop chunk at₀ n₀ at n = length chunk - n
+μ-loop chunk phase₀ depth₀ n₀ phase depth n = length chunk - n
 
 loop-holds : tie.Need-loop-holds Inv-loop μ-loop
 loop-holds c =
@@ -42,7 +43,7 @@ stop-requires c κs = search needs
 returns : tie.Need-returns Inv-loop μ-loop
 returns c =
     let f : Fits w8 (getD (c .before .before .before .before .before .before .before .args .chunk .now) (c .before .before .before .before .before .loop .n) 0) = c .before .before .before .shared-slice-known2 .given (c .before .before .before .before .before .loop .n) in
-    c .stop .ensures ∙ turn-ends (c .before .before .before .before .before .before .before .args .chunk .now) (stateOf (c .before .before .before .before .before .before .before .args .stream)) (c .before .before .before .before .before .loop .at) (c .before .before .before .before .before .loop .n) (c .before .before .before .before .before .loop .inv .1 .0) (c .before .before .before .before .before .loop .inv .1 .1) (c .before .before .step .result) (c .before .before .before .before .loop-test .taken) (f .fits) (c .before .before .step .ensures) (c .before .match .keys2)
+    c .stop .ensures ∙ turn-ends (c .before .before .before .before .before .before .before .args .chunk .now) (stateOf (c .before .before .before .before .before .before .before .args .stream)) (c .before .before .before .before .before .loop .phase) (c .before .before .before .before .before .loop .depth) (c .before .before .before .before .before .loop .n) (c .before .before .before .before .before .loop .inv .1 .0) (c .before .before .before .before .before .loop .inv .1 .1) (c .before .before .step .result) (c .before .before .before .before .loop-test .taken) (f .fits) (c .before .before .step .ensures) (c .before .match .keys2)
 
 loop-less : tie.Need-loop-less Inv-loop μ-loop
 loop-less c = search needs
@@ -50,14 +51,14 @@ loop-less c = search needs
 loop-again : tie.Need-loop-again Inv-loop μ-loop
 loop-again c =
     let f : Fits w8 (getD (c .before .before .before .before .before .before .before .before .args .chunk .now) (c .before .before .before .before .before .before .loop .n) 0) = c .before .before .before .before .shared-slice-known2 .given (c .before .before .before .before .before .before .loop .n) in
-    turn-goes (c .before .before .before .before .before .before .before .before .args .chunk .now) (stateOf (c .before .before .before .before .before .before .before .before .args .stream)) (c .before .before .before .before .before .before .loop .at) (c .before .before .before .before .before .before .loop .n) (c .before .before .before .before .before .before .loop .inv .1 .0) (c .before .before .before .before .before .before .loop .inv .1 .1) (c .before .before .before .step .result) _ (c .before .before .before .before .before .loop-test .taken) (f .fits) (c .before .before .before .step .ensures) (c .before .s .given .1)
+    turn-goes (c .before .before .before .before .before .before .before .before .args .chunk .now) (stateOf (c .before .before .before .before .before .before .before .before .args .stream)) (c .before .before .before .before .before .before .loop .phase) (c .before .before .before .before .before .before .loop .depth) (c .before .before .before .before .before .before .loop .n) (c .before .before .before .before .before .before .loop .inv .1 .0) (c .before .before .before .before .before .before .loop .inv .1 .1) (c .before .before .before .step .result) _ _ (c .before .before .before .before .before .loop-test .taken) (f .fits) (c .before .before .before .step .ensures) (c .before .s .given .1)
 
 stop-requires-2 : tie.Need-stop-requires-2 Inv-loop μ-loop
 stop-requires-2 c κs = search needs
 
 returns-2 : tie.Need-returns-2 Inv-loop μ-loop
 returns-2 c =
-    c .stop2 .ensures ∙ turn-last (c .before .before .before .before .args .chunk .now) (stateOf (c .before .before .before .before .args .stream)) (c .before .before .loop .at) (c .before .before .loop .n) (c .before .before .loop .inv .1 .0) (c .before .before .loop .inv .1 .1) (c .before .before .loop .inv .0) (c .before .loop-test .left)
+    c .stop2 .ensures ∙ turn-last (c .before .before .before .before .args .chunk .now) (stateOf (c .before .before .before .before .args .stream)) (c .before .before .loop .phase) (c .before .before .loop .depth) (c .before .before .loop .n) (c .before .before .loop .inv .1 .0) (c .before .before .loop .inv .1 .1) (c .before .before .loop .inv .0) (c .before .loop-test .left)
 
 pub scan-spec : {M : Type 1} → statement M
 scan-spec =

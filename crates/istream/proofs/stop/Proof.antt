@@ -21,7 +21,7 @@ enum-told c = search needs
 
 returns : tie.Need-returns
 returns c =
-    ap (λ (t : Status). record { read = c .before .before .before .before .args .n; answer = Answers.Status t; stream = c .before .before .s .given .0 .0 }) (c .status .ensures) ∙ sym (ap (stopped (c .before .before .before .before .args .n)) (c .before .before .s .given .1))
+    ap (λ (t : Status). record { read = c .before .before .before .before .args .n; answer = Answers.Status t; stream = record { phase = c .before .before .s .given .0 .0; depth = c .before .before .s .given .0 .1 .0 } }) (c .status .ensures) ∙ sym (ap (stopped (c .before .before .before .before .args .n)) (c .before .before .s .given .1))
 
 returns-2 : tie.Need-returns-2
 returns-2 c =

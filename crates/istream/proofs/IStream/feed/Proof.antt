@@ -1,8 +1,10 @@
 -- `istream::IStream::feed` meets its contract: a piece, at once, or by the plain call.
-use Rattle.istream.proofs.AtOnce.{payload-owed, from-payload}
-use Rattle.istream.specs.AtOnce.{Right}
-use Rattle.istream.specs.Stream.{fedOf}
-use Rattle.istream.specs.declared.Quick.{Quick}
+use Rattle.layout.specs.Limits.{base}
+use Rattle.machine.specs.Call.{call}
+use Rattle.at_once.specs.declared.Quick.{Quick}
+use Rattle.at_once.specs.AtOnce.{RightFrom}
+use Rattle.istream.specs.Stream.{stateOf}
+use Rattle.istream.proofs.Laws.{payload-owed, from-payload, from-once}
 use mathlib.Core.Path.{sym, _∙_, subst}
 use mir.Val.{Fits}
 use mir.Syntax.{w8}
@@ -25,8 +27,8 @@ returns c =
     let f : Fits w8 (c .before .before .before .before .before .before .before .args .self .depth) = search needs in
     from-payload (c .before .before .before .before .before .before .before .args .self) (c .before .before .before .before .before .before .before .args .chunk .now) _ _ _ _ (c .payload .result) (f .fits) (c .before .before .before .before .phase .given .1) (sym (c .before .before .sound-payload .ensures) ∙ c .before .if1 .taken) (c .payload .ensures)
 
-quick-requires : tie.Need-quick-requires
-quick-requires c κs = search needs
+at-once-requires : tie.Need-at-once-requires
+at-once-requires c κs = search needs
 
 enum-known-q : tie.Need-enum-known-q
 enum-known-q c = search needs
@@ -42,7 +44,8 @@ returns-2 c = search needs
 
 returns-3 : tie.Need-returns-3
 returns-3 c =
-    subst (λ (x : Quick). Right x (fedOf (c .before .before .before .before .before .before .args .self) (c .before .before .before .before .before .before .args .chunk .now))) (c .before .q .given .1) (c .before .before .before .quick .ensures)
+    let f : Fits w8 (c .before .before .before .before .before .before .args .self .depth) = search needs in
+    from-once (c .before .before .before .before .before .before .args .self) (c .before .before .before .before .before .before .args .chunk .now) _ _ _ _ (f .fits) (subst (λ (x : Quick). RightFrom (c .before .before .before .before .before .before .args .self .phase) x (call base (stateOf (c .before .before .before .before .before .before .args .self)) (c .before .before .before .before .before .before .args .chunk .now))) (c .before .q .given .1) (c .before .before .before .at-once .ensures))
 
 pub feed-spec : {M : Type 1} → statement M
 feed-spec =
@@ -52,7 +55,7 @@ feed-spec =
     sound-payload-requires
     payload-requires
     returns
-    quick-requires
+    at-once-requires
     enum-known-q
     enum-told
     again-requires

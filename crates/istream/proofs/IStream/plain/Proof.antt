@@ -3,10 +3,12 @@ use mathlib.Core.Path.{refl, sym, ap, _∙_, subst}
 use mir.Syntax.{w8}
 use mir.Val.{Fits}
 use borrow.Author.Tests.{not-true, not-false}
-use Rattle.istream.specs.declared.Phase.{Phase}
-use Rattle.istream.specs.Stream.{stateAt, stateOf}
-use Rattle.istream.specs.Sound.{SoundState}
-use Rattle.istream.proofs.Laws.{is-sound, at-bytes, fed-sound, fed-broken, fed-unsound, owed-piece, live-bytes}
+use Rattle.phase.specs.declared.Phase.{Phase}
+use Rattle.phase.specs.Phases.{stateAt}
+use Rattle.istream.specs.Stream.{stateOf}
+use Rattle.phase.specs.Sound.{SoundState}
+use Rattle.istream.proofs.Laws.{is-sound, fed-sound, fed-broken, fed-unsound, owed-piece}
+use Rattle.phase.proofs.Phases.{at-bytes, at-bytes-live}
 use borrow.Author.Needs.{needs}
 use Rattle.istream.proofs.IStream.plain.Statement.{statement}
 use Rattle.istream.proofs.IStream.plain.Tie as tie
@@ -40,7 +42,7 @@ enum-told c = search needs
 
 scan-requires : tie.Need-scan-requires
 scan-requires c κs =
-    at-bytes (c .before .before .before .before .args .self) (sym (c .before .before .sound .ensures) ∙ not-false _ (c .before .if1 .left)) (c .match .keys4)
+    at-bytes (c .before .before .before .before .args .self .depth) (c .before .before .before .before .args .self .phase) (is-sound (c .before .before .before .before .args .self) (sym (c .before .before .sound .ensures) ∙ not-false _ (c .before .if1 .left))) (c .match .keys4)
 
 returns-2 : tie.Need-returns-2
 returns-2 c =
@@ -56,8 +58,8 @@ returns-4 c =
 
 returns-5 : tie.Need-returns-5
 returns-5 c =
-    let b = at-bytes (c .before .before .before .before .before .args .self) (sym (c .before .before .before .sound .ensures) ∙ not-false _ (c .before .before .if1 .left)) (c .before .match .keys4) in
-    c .scan .ensures ∙ fed-sound (c .before .before .before .before .before .args .self) (stateOf (c .before .before .before .before .before .args .self)) (c .before .before .before .before .before .args .chunk .now) refl (live-bytes (stateOf (c .before .before .before .before .before .args .self)) b) (sym (c .before .before .before .sound .ensures) ∙ not-false _ (c .before .before .if1 .left))
+    let b = at-bytes (c .before .before .before .before .before .args .self .depth) (c .before .before .before .before .before .args .self .phase) (is-sound (c .before .before .before .before .before .args .self) (sym (c .before .before .before .sound .ensures) ∙ not-false _ (c .before .before .if1 .left))) (c .before .match .keys4) in
+    c .scan .ensures ∙ fed-sound (c .before .before .before .before .before .args .self) (stateOf (c .before .before .before .before .before .args .self)) (c .before .before .before .before .before .args .chunk .now) refl (at-bytes-live (stateOf (c .before .before .before .before .before .args .self)) b) (sym (c .before .before .before .sound .ensures) ∙ not-false _ (c .before .before .if1 .left))
 
 pub plain-spec : {M : Type 1} → statement M
 plain-spec =

@@ -1,5 +1,5 @@
--- `istream::IStream::sound` meets its contract: the test of each phase; a byte holds no depth beyond 255.
-use mathlib.Core.Path.{_∙_}
+-- `istream::IStream::sound` meets its contract: the phase's test; a byte holds no depth beyond 255.
+use mathlib.Core.Path.{refl, _∙_}
 use mir.Syntax.{w8}
 use mir.Val.{Fits}
 use Rattle.istream.proofs.Tests.{sound-in}
@@ -7,167 +7,13 @@ use borrow.Author.Needs.{needs}
 use Rattle.istream.proofs.IStream.sound.Statement.{statement}
 use Rattle.istream.proofs.IStream.sound.Tie as tie
 
-enum-known-phase : tie.Need-enum-known-phase
-enum-known-phase c = search needs
-
 sound-requires : tie.Need-sound-requires
 sound-requires c κs = search needs
 
-enum-known-phase-2 : tie.Need-enum-known-phase-2
-enum-known-phase-2 c = search needs
-
-sound-varint-requires : tie.Need-sound-varint-requires
-sound-varint-requires c κs = search needs
-
-enum-known-phase-3 : tie.Need-enum-known-phase-3
-enum-known-phase-3 c = search needs
-
-sound-varint-requires-2 : tie.Need-sound-varint-requires-2
-sound-varint-requires-2 c κs = search needs
-
-enum-known-phase-4 : tie.Need-enum-known-phase-4
-enum-known-phase-4 c = search needs
-
-sound-varint-requires-3 : tie.Need-sound-varint-requires-3
-sound-varint-requires-3 c κs = search needs
-
-enum-known-phase-5 : tie.Need-enum-known-phase-5
-enum-known-phase-5 c = search needs
-
-sound-varint-requires-4 : tie.Need-sound-varint-requires-4
-sound-varint-requires-4 c κs = search needs
-
-enum-known-phase-6 : tie.Need-enum-known-phase-6
-enum-known-phase-6 c = search needs
-
-sound-varint-requires-5 : tie.Need-sound-varint-requires-5
-sound-varint-requires-5 c κs = search needs
-
-enum-known-phase-7 : tie.Need-enum-known-phase-7
-enum-known-phase-7 c = search needs
-
-sound-varint-requires-6 : tie.Need-sound-varint-requires-6
-sound-varint-requires-6 c κs = search needs
-
-enum-known-phase-8 : tie.Need-enum-known-phase-8
-enum-known-phase-8 c = search needs
-
-sound-varint-requires-7 : tie.Need-sound-varint-requires-7
-sound-varint-requires-7 c κs = search needs
-
-enum-known-phase-9 : tie.Need-enum-known-phase-9
-enum-known-phase-9 c = search needs
-
-sound-float-requires : tie.Need-sound-float-requires
-sound-float-requires c κs = search needs
-
-enum-known-phase-10 : tie.Need-enum-known-phase-10
-enum-known-phase-10 c = search needs
-
-sound-payload-requires : tie.Need-sound-payload-requires
-sound-payload-requires c κs = search needs
-
-enum-known-phase-11 : tie.Need-enum-known-phase-11
-enum-known-phase-11 c = search needs
-
-enum-told : tie.Need-enum-told
-enum-told c = search needs
-
 returns : tie.Need-returns
 returns c =
-    let f : Fits w8 (c .before .before .before .before .args .self .depth) = search needs in
-    c .sound .ensures ∙ sound-in (c .before .before .before .before .args .self) _ (f .fits) (c .before .before .phase .given .1)
-
-returns-2 : tie.Need-returns-2
-returns-2 c =
-    let f : Fits w8 (c .before .before .before .before .args .self .depth) = search needs in
-    c .sound-varint .ensures ∙ sound-in (c .before .before .before .before .args .self) _ (f .fits) (c .before .before .phase2 .given .1)
-
-returns-3 : tie.Need-returns-3
-returns-3 c =
-    let f : Fits w8 (c .before .before .before .before .args .self .depth) = search needs in
-    c .sound-varint2 .ensures ∙ sound-in (c .before .before .before .before .args .self) _ (f .fits) (c .before .before .phase3 .given .1)
-
-returns-4 : tie.Need-returns-4
-returns-4 c =
-    let f : Fits w8 (c .before .before .before .before .args .self .depth) = search needs in
-    c .sound-varint3 .ensures ∙ sound-in (c .before .before .before .before .args .self) _ (f .fits) (c .before .before .phase4 .given .1)
-
-returns-5 : tie.Need-returns-5
-returns-5 c =
-    let f : Fits w8 (c .before .before .before .before .args .self .depth) = search needs in
-    c .sound-varint4 .ensures ∙ sound-in (c .before .before .before .before .args .self) _ (f .fits) (c .before .before .phase5 .given .1)
-
-returns-6 : tie.Need-returns-6
-returns-6 c =
-    let f : Fits w8 (c .before .before .before .before .args .self .depth) = search needs in
-    c .sound-varint5 .ensures ∙ sound-in (c .before .before .before .before .args .self) _ (f .fits) (c .before .before .phase6 .given .1)
-
-returns-7 : tie.Need-returns-7
-returns-7 c =
-    let f : Fits w8 (c .before .before .before .before .args .self .depth) = search needs in
-    c .sound-varint6 .ensures ∙ sound-in (c .before .before .before .before .args .self) _ (f .fits) (c .before .before .phase7 .given .1)
-
-returns-8 : tie.Need-returns-8
-returns-8 c =
-    let f : Fits w8 (c .before .before .before .before .args .self .depth) = search needs in
-    c .sound-varint7 .ensures ∙ sound-in (c .before .before .before .before .args .self) _ (f .fits) (c .before .before .phase8 .given .1)
-
-returns-9 : tie.Need-returns-9
-returns-9 c =
-    let f : Fits w8 (c .before .before .before .before .args .self .depth) = search needs in
-    c .sound-float .ensures ∙ sound-in (c .before .before .before .before .args .self) _ (f .fits) (c .before .before .phase9 .given .1)
-
-returns-10 : tie.Need-returns-10
-returns-10 c =
-    let f : Fits w8 (c .before .before .before .before .args .self .depth) = search needs in
-    c .sound-payload .ensures ∙ sound-in (c .before .before .before .before .args .self) _ (f .fits) (c .before .before .phase10 .given .1)
-
-returns-11 : tie.Need-returns-11
-returns-11 c =
-    let f : Fits w8 (c .before .before .before .args .self .depth) = search needs in
-    sound-in (c .before .before .before .args .self) _ (f .fits) (c .before .phase11 .given .1)
-
-returns-12 : tie.Need-returns-12
-returns-12 c =
-    let f : Fits w8 (c .before .before .args .self .depth) = search needs in
-    sound-in (c .before .before .args .self) _ (f .fits) (c .enum-told .given .1)
+    let f : Fits w8 (c .before .args .self .depth) = search needs in
+    c .sound .ensures ∙ sound-in (c .before .args .self) _ (f .fits) refl
 
 pub sound-spec : {M : Type 1} → statement M
-sound-spec =
-    tie.close
-    (tie.spec
-    enum-known-phase
-    sound-requires
-    enum-known-phase-2
-    sound-varint-requires
-    enum-known-phase-3
-    sound-varint-requires-2
-    enum-known-phase-4
-    sound-varint-requires-3
-    enum-known-phase-5
-    sound-varint-requires-4
-    enum-known-phase-6
-    sound-varint-requires-5
-    enum-known-phase-7
-    sound-varint-requires-6
-    enum-known-phase-8
-    sound-varint-requires-7
-    enum-known-phase-9
-    sound-float-requires
-    enum-known-phase-10
-    sound-payload-requires
-    enum-known-phase-11
-    enum-told
-    returns
-    returns-2
-    returns-3
-    returns-4
-    returns-5
-    returns-6
-    returns-7
-    returns-8
-    returns-9
-    returns-10
-    returns-11
-    returns-12)
+sound-spec = tie.close (tie.spec sound-requires returns)

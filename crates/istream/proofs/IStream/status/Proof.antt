@@ -1,6 +1,6 @@
 -- `istream::IStream::status` meets its contract: complete between fields at depth 0.
 use mathlib.Core.Path.{sym, ap, _∙_}
-use Rattle.istream.specs.declared.Phase.{Phase}
+use Rattle.phase.specs.declared.Phase.{Phase}
 use Rattle.istream.specs.Stream.{statusOf}
 use Rattle.istream.proofs.Tests.{status-else, status-complete, status-deep, status-taken}
 use borrow.Author.Needs.{needs}

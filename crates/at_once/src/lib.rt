@@ -1,0 +1,200 @@
+// What stands whole in the chunk, read at once: a varint, an element, a field or the part of it up to its first event.
+ghost use mathlib.Core.Path.{_≡_};
+ghost use Prim.Native.Nat.{_≤_};
+ghost use Rattle.layout.specs.Limits.{base};
+ghost use Rattle.layout.specs.Field.{wireOf};
+ghost use Rattle.machine.specs.Machine.{inUnsigned, inSigned, idle, atWire};
+ghost use Rattle.machine.specs.Call.{reading, call};
+ghost use Rattle.phase.specs.Phases.{stateAt};
+ghost use Rattle.at_once.specs.AtOnce.{Stands, Right, RightFrom, raisedOf, onward};
+use event::Event;
+use field::Stepped;
+use field::fixlen;
+use field::sequence_begin;
+use field::sequence_end;
+use phase::Phase;
+use phase::idle;
+use phase::less;
+use phase::signeds;
+use phase::sound_varint;
+use phase::unsigneds;
+use types::ID_MAX;
+use varint::Acc;
+use varint::Push;
+use varint::zigzag_decode;
+
+// A varint's value and the place after it; or it doesn't stand whole in the chunk, or is broken.
+enum Found {
+    Whole(u64, usize),
+    Other,
+}
+
+// The state after a call, its event and the bytes read; or what the call comes to isn't found at once. The bytes read stand last: with the
+// state's depth there, the compiler leaves both it and the event's mark in memory.
+pub enum Quick {
+    Done(Phase, u8, Event, usize),
+    Other,
+}
+
+// Any varint.
+fn long_varint(chunk: &[u8], at: usize) -> Found
+    ensures { λ r. ⌜ Stands (now (chunk .entry)) at r ⌝ }
+{
+    let mut acc = Acc::new();
+    let mut i = at;
+    while i < chunk.len() {
+        let p = acc.push(chunk[i]);
+        match p {
+            Push::More(more) => {
+                acc = more;
+                i += 1;
+            }
+            Push::Value(v) => {
+                return Found::Whole(v, i + 1);
+            }
+            Push::Overlong => {
+                return Found::Other;
+            }
+        }
+    }
+    Found::Other
+}
+
+// Most varints are one byte or two. The longer ones are read at two places, so that the compiler keeps their loop out of line.
+fn varint(chunk: &[u8], at: usize) -> Found
+    ensures { λ r. ⌜ Stands (now (chunk .entry)) at r ⌝ }
+{
+    if chunk.len() <= at {
+        return Found::Other;
+    }
+    let p = Acc::new().push(chunk[at]);
+    if let Push::Value(v) = p {
+        return Found::Whole(v, at + 1);
+    }
+    let Push::More(a) = p else {
+        return Found::Other;
+    };
+    if chunk.len() <= at + 1 {
+        return long_varint(chunk, at);
+    }
+    let q = a.push(chunk[at + 1]);
+    if let Push::Value(v) = q {
+        return Found::Whole(v, at + 2);
+    }
+    long_varint(chunk, at)
+}
+
+// A call that reads n bytes and stops at an event.
+fn done(n: usize, e: Event, phase: Phase, depth: u8) -> Quick
+    ensures { λ r. ⌜ r ≡ raisedOf n (Stepped.Raised e phase depth) ⌝ }
+{
+    Quick::Done(phase, depth, e, n)
+}
+
+// The same where a byte, the nth of the chunk, may have raised one.
+fn raised(n: usize, s: Stepped) -> Quick
+    ensures { λ r. ⌜ r ≡ raisedOf n s ⌝ }
+{
+    let Stepped::Raised(e, phase, depth) = s else {
+        return Quick::Other;
+    };
+    done(n, e, phase, depth)
+}
+
+// An element, or the scalar after a header.
+fn unsigned_at(depth: u8, id: u32, left: u32, chunk: &[u8]) -> Quick
+    ensures { λ r. ⌜ Right r (call base (reading depth (inUnsigned id left 0 0)) (now (chunk .entry))) ⌝ }
+{
+    let found = varint(chunk, 0);
+    let Found::Whole(v, n) = found else {
+        return Quick::Other;
+    };
+    done(n, Event::Unsigned(id, v), unsigneds(id, less(left)), depth)
+}
+
+fn signed_at(depth: u8, id: u32, left: u32, chunk: &[u8]) -> Quick
+    ensures { λ r. ⌜ Right r (call base (reading depth (inSigned id left 0 0)) (now (chunk .entry))) ⌝ }
+{
+    let found = varint(chunk, 0);
+    let Found::Whole(v, n) = found else {
+        return Quick::Other;
+    };
+    done(
+        n,
+        Event::Signed(id, zigzag_decode(v)),
+        signeds(id, less(left)),
+        depth,
+    )
+}
+
+// What follows a header of this type, at a place of the chunk.
+fn value_at(depth: u8, id: u32, wire: u8, chunk: &[u8], at: usize) -> Quick
+    requires { ⌜ id ≤ base .id ⌝ }
+    ensures { λ r. ⌜ Right r (onward (now (chunk .entry)) at (atWire base depth id (wireOf wire))) ⌝ }
+{
+    let found = varint(chunk, at);
+    let Found::Whole(v, n) = found else {
+        return Quick::Other;
+    };
+    match wire {
+        0 => done(n, Event::Unsigned(id, v), idle(), depth),
+        1 => done(n, Event::Signed(id, zigzag_decode(v)), idle(), depth),
+        2 => raised(n, fixlen(depth, id, v / 8, (v % 8) as u8)),
+        _ => Quick::Other,
+    }
+}
+
+// A whole field, or the part of it up to its first event.
+fn field_at(depth: u8, chunk: &[u8]) -> Quick
+    ensures { λ r. ⌜ Right r (call base (reading depth idle) (now (chunk .entry))) ⌝ }
+{
+    let found = varint(chunk, 0);
+    let Found::Whole(h, n) = found else {
+        return Quick::Other;
+    };
+    let whole = h / 8;
+    if (ID_MAX as u64) < whole {
+        return Quick::Other;
+    }
+    let id = whole as u32;
+    let wire = (h % 8) as u8;
+    match wire {
+        5 => Quick::Other,
+        6 => raised(n, sequence_begin(depth, id)),
+        7 => raised(n, sequence_end(depth)),
+        _ => value_at(depth, id, wire, chunk, n),
+    }
+}
+
+// A call that finds a field or an element whole in the chunk, from a sound phase that has taken no byte of it.
+pub fn at_once(depth: u8, phase: Phase, chunk: &[u8]) -> Quick
+    ensures { λ r. ⌜ RightFrom phase r (call base (stateAt depth phase) (now (chunk .entry))) ⌝ }
+{
+    match phase {
+        Phase::Header(a) => {
+            if a.taken == 0 {
+                if a.sound() {
+                    return field_at(depth, chunk);
+                }
+            }
+            Quick::Other
+        }
+        Phase::Unsigned(id, left, a) => {
+            if a.taken == 0 {
+                if sound_varint(id, left, a) {
+                    return unsigned_at(depth, id, left, chunk);
+                }
+            }
+            Quick::Other
+        }
+        Phase::Signed(id, left, a) => {
+            if a.taken == 0 {
+                if sound_varint(id, left, a) {
+                    return signed_at(depth, id, left, chunk);
+                }
+            }
+            Quick::Other
+        }
+        _ => Quick::Other,
+    }
+}

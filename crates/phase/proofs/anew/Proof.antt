@@ -1,0 +1,148 @@
+-- `phase::anew` meets its contract, phase by phase.
+use Rattle.phase.specs.declared.Phase.the-variants.{Header, Unsigned, Signed, Word, UnsignedCount, SignedCount, FloatCount, ArrayWord}
+use Rattle.varint.specs.declared.Acc.{Acc}
+use mathlib.Core.Path.{sym, ap, _∙_}
+use borrow.Author.Needs.{needs}
+use Rattle.phase.proofs.anew.Statement.{statement}
+use Rattle.phase.proofs.anew.Tie as tie
+
+enum-known-phase : tie.Need-enum-known-phase
+enum-known-phase c = search needs
+
+acc-anew-requires : tie.Need-acc-anew-requires
+acc-anew-requires c κs = search needs
+
+enum-known-phase-2 : tie.Need-enum-known-phase-2
+enum-known-phase-2 c = search needs
+
+acc-anew-requires-2 : tie.Need-acc-anew-requires-2
+acc-anew-requires-2 c κs = search needs
+
+enum-known-phase-3 : tie.Need-enum-known-phase-3
+enum-known-phase-3 c = search needs
+
+acc-anew-requires-3 : tie.Need-acc-anew-requires-3
+acc-anew-requires-3 c κs = search needs
+
+enum-known-phase-4 : tie.Need-enum-known-phase-4
+enum-known-phase-4 c = search needs
+
+acc-anew-requires-4 : tie.Need-acc-anew-requires-4
+acc-anew-requires-4 c κs = search needs
+
+enum-known-phase-5 : tie.Need-enum-known-phase-5
+enum-known-phase-5 c = search needs
+
+acc-anew-requires-5 : tie.Need-acc-anew-requires-5
+acc-anew-requires-5 c κs = search needs
+
+enum-known-phase-6 : tie.Need-enum-known-phase-6
+enum-known-phase-6 c = search needs
+
+acc-anew-requires-6 : tie.Need-acc-anew-requires-6
+acc-anew-requires-6 c κs = search needs
+
+enum-known-phase-7 : tie.Need-enum-known-phase-7
+enum-known-phase-7 c = search needs
+
+acc-anew-requires-7 : tie.Need-acc-anew-requires-7
+acc-anew-requires-7 c κs = search needs
+
+enum-known-phase-8 : tie.Need-enum-known-phase-8
+enum-known-phase-8 c = search needs
+
+acc-anew-requires-8 : tie.Need-acc-anew-requires-8
+acc-anew-requires-8 c κs = search needs
+
+enum-known-phase-9 : tie.Need-enum-known-phase-9
+enum-known-phase-9 c = search needs
+
+enum-known-phase-10 : tie.Need-enum-known-phase-10
+enum-known-phase-10 c = search needs
+
+enum-known-phase-11 : tie.Need-enum-known-phase-11
+enum-known-phase-11 c = search needs
+
+enum-told : tie.Need-enum-told
+enum-told c = search needs
+
+returns : tie.Need-returns
+returns c =
+    ap (λ (a : Acc). Header a) (c .acc-anew .ensures) ∙ sym (c .before .before .phase .given .1)
+
+returns-2 : tie.Need-returns-2
+returns-2 c =
+    ap (λ (a : Acc). Unsigned (c .before .before .phase2 .given .0 .0) (c .before .before .phase2 .given .0 .1 .0) a) (c .acc-anew2 .ensures) ∙ sym (c .before .before .phase2 .given .1)
+
+returns-3 : tie.Need-returns-3
+returns-3 c =
+    ap (λ (a : Acc). Signed (c .before .before .phase3 .given .0 .0) (c .before .before .phase3 .given .0 .1 .0) a) (c .acc-anew3 .ensures) ∙ sym (c .before .before .phase3 .given .1)
+
+returns-4 : tie.Need-returns-4
+returns-4 c =
+    ap (λ (a : Acc). Word (c .before .before .phase4 .given .0 .0) a) (c .acc-anew4 .ensures) ∙ sym (c .before .before .phase4 .given .1)
+
+returns-5 : tie.Need-returns-5
+returns-5 c =
+    ap (λ (a : Acc). UnsignedCount (c .before .before .phase5 .given .0 .0) a) (c .acc-anew5 .ensures) ∙ sym (c .before .before .phase5 .given .1)
+
+returns-6 : tie.Need-returns-6
+returns-6 c =
+    ap (λ (a : Acc). SignedCount (c .before .before .phase6 .given .0 .0) a) (c .acc-anew6 .ensures) ∙ sym (c .before .before .phase6 .given .1)
+
+returns-7 : tie.Need-returns-7
+returns-7 c =
+    ap (λ (a : Acc). FloatCount (c .before .before .phase7 .given .0 .0) a) (c .acc-anew7 .ensures) ∙ sym (c .before .before .phase7 .given .1)
+
+returns-8 : tie.Need-returns-8
+returns-8 c =
+    ap (λ (a : Acc). ArrayWord (c .before .before .phase8 .given .0 .0) (c .before .before .phase8 .given .0 .1 .0) a) (c .acc-anew8 .ensures) ∙ sym (c .before .before .phase8 .given .1)
+
+returns-9 : tie.Need-returns-9
+returns-9 c = sym (c .before .phase9 .given .1)
+
+returns-10 : tie.Need-returns-10
+returns-10 c = sym (c .before .phase10 .given .1)
+
+returns-11 : tie.Need-returns-11
+returns-11 c = sym (c .before .phase11 .given .1)
+
+returns-12 : tie.Need-returns-12
+returns-12 c = search needs
+
+pub anew-spec : {M : Type 1} → statement M
+anew-spec =
+    tie.close
+    (tie.spec
+    enum-known-phase
+    acc-anew-requires
+    enum-known-phase-2
+    acc-anew-requires-2
+    enum-known-phase-3
+    acc-anew-requires-3
+    enum-known-phase-4
+    acc-anew-requires-4
+    enum-known-phase-5
+    acc-anew-requires-5
+    enum-known-phase-6
+    acc-anew-requires-6
+    enum-known-phase-7
+    acc-anew-requires-7
+    enum-known-phase-8
+    acc-anew-requires-8
+    enum-known-phase-9
+    enum-known-phase-10
+    enum-known-phase-11
+    enum-told
+    returns
+    returns-2
+    returns-3
+    returns-4
+    returns-5
+    returns-6
+    returns-7
+    returns-8
+    returns-9
+    returns-10
+    returns-11
+    returns-12)

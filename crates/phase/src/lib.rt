@@ -1,0 +1,167 @@
+// What is under way in a message, the Rust's `State` with the numbers that each case has in force: the phases, which of them can be, and
+// what an array's elements leave.
+ghost use mathlib.Core.Path.{_≡_};
+ghost use mathlib.Core.Bool.{_&&_};
+ghost use Prim.Native.Nat.{_-_};
+ghost use Rattle.machine.specs.Machine.{inUnsigned, inSigned, inFloat, firstOr, idle};
+ghost use Rattle.types.specs.Types.{width};
+ghost use Rattle.varint.specs.Varint.{soundAcc};
+ghost use Rattle.phase.specs.Phases.{phaseIn, idIn, countIn, soundPhase};
+use types::ARRAY_MAX;
+use types::FloatType;
+use types::ID_MAX;
+use types::RawType;
+use varint::Acc;
+
+// What is under way, with the numbers in force and no others: the id; an array's elements from the current one on, 0 for a scalar; a
+// varint or a float's bytes so far, or a payload's length and the place reached in it. Between fields no byte of a header is taken.
+// `Empty`: an empty payload's one piece is still due. `Broken` is never left.
+pub enum Phase {
+    Header(Acc),
+    Unsigned(u32, u32, Acc),
+    Signed(u32, u32, Acc),
+    Word(u32, Acc),
+    UnsignedCount(u32, Acc),
+    SignedCount(u32, Acc),
+    FloatCount(u32, Acc),
+    ArrayWord(u32, u32, Acc),
+    Float(u32, FloatType, u32, u8, u64),
+    Payload(u32, RawType, u32, u32),
+    Empty(u32, RawType),
+    Broken,
+}
+
+// Between fields.
+pub fn idle() -> Phase
+    ensures { λ r. ⌜ r ≡ phaseIn idle ⌝ }
+{
+    Phase::Header(Acc { value: 0, taken: 0 })
+}
+
+// The elements left of an array come next; or, where none is left, the next field.
+pub fn unsigneds(id: u32, left: u32) -> Phase
+    ensures { λ r. ⌜ r ≡ phaseIn (firstOr left (λ m. inUnsigned id m 0 0)) ⌝ }
+{
+    if left == 0 {
+        idle()
+    } else {
+        Phase::Unsigned(id, left, Acc { value: 0, taken: 0 })
+    }
+}
+
+pub fn signeds(id: u32, left: u32) -> Phase
+    ensures { λ r. ⌜ r ≡ phaseIn (firstOr left (λ m. inSigned id m 0 0)) ⌝ }
+{
+    if left == 0 {
+        idle()
+    } else {
+        Phase::Signed(id, left, Acc { value: 0, taken: 0 })
+    }
+}
+
+pub fn floats(id: u32, w: FloatType, left: u32) -> Phase
+    ensures { λ r. ⌜ r ≡ phaseIn (firstOr left (λ m. inFloat id (width w) m 0 0)) ⌝ }
+{
+    if left == 0 {
+        idle()
+    } else {
+        Phase::Float(id, w, left, 0, 0)
+    }
+}
+
+// One element fewer; a scalar has 0.
+pub fn less(left: u32) -> u32
+    ensures { λ r. ⌜ r ≡ left - 1 ⌝ }
+{
+    if left == 0 { 0 } else { left - 1 }
+}
+
+// Whether a varint under way can be so: its id, the elements left and its bytes.
+pub fn sound_varint(id: u32, left: u32, a: Acc) -> bool
+    ensures { λ r. ⌜ r ≡ (idIn id && (countIn left && soundAcc a)) ⌝ }
+{
+    if ID_MAX < id {
+        return false;
+    }
+    if ARRAY_MAX < left {
+        return false;
+    }
+    a.sound()
+}
+
+pub fn sound_float(id: u32, w: FloatType, left: u32, k: u8, v: u64) -> bool
+    ensures { λ r. ⌜ r ≡ soundPhase (Phase.Float id w left k v) ⌝ }
+{
+    if ID_MAX < id {
+        return false;
+    }
+    if ARRAY_MAX < left {
+        return false;
+    }
+    let width = w.bytes();
+    if width <= k {
+        return false;
+    }
+    v >> (k * 8) == 0
+}
+
+pub fn sound_payload(id: u32, r: RawType, total: u32, offset: u32) -> bool
+    ensures { λ s. ⌜ s ≡ soundPhase (Phase.Payload id r total offset) ⌝ }
+{
+    if ID_MAX < id {
+        return false;
+    }
+    if ARRAY_MAX < total {
+        return false;
+    }
+    offset < total
+}
+
+// Whether a reader can be within this. Only numbers in force are tested.
+pub fn sound(phase: Phase) -> bool
+    ensures { λ r. ⌜ r ≡ soundPhase phase ⌝ }
+{
+    match phase {
+        Phase::Header(a) => a.sound(),
+        Phase::Unsigned(id, left, a) => sound_varint(id, left, a),
+        Phase::Signed(id, left, a) => sound_varint(id, left, a),
+        Phase::Word(id, a) => sound_varint(id, 0, a),
+        Phase::UnsignedCount(id, a) => sound_varint(id, 0, a),
+        Phase::SignedCount(id, a) => sound_varint(id, 0, a),
+        Phase::FloatCount(id, a) => sound_varint(id, 0, a),
+        Phase::ArrayWord(id, count, a) => sound_varint(id, count, a),
+        Phase::Float(id, w, left, k, v) => sound_float(id, w, left, k, v),
+        Phase::Payload(id, r, total, offset) => sound_payload(id, r, total, offset),
+        Phase::Empty(id, _) => id <= ID_MAX,
+        Phase::Broken => true,
+    }
+}
+
+// The same, made anew from its numbers.
+fn acc_anew(a: Acc) -> Acc
+    ensures { λ r. ⌜ r ≡ a ⌝ }
+{
+    Acc {
+        value: a.value,
+        taken: a.taken,
+    }
+}
+
+pub fn anew(phase: Phase) -> Phase
+    ensures { λ r. ⌜ r ≡ phase ⌝ }
+{
+    match phase {
+        Phase::Header(a) => Phase::Header(acc_anew(a)),
+        Phase::Unsigned(id, left, a) => Phase::Unsigned(id, left, acc_anew(a)),
+        Phase::Signed(id, left, a) => Phase::Signed(id, left, acc_anew(a)),
+        Phase::Word(id, a) => Phase::Word(id, acc_anew(a)),
+        Phase::UnsignedCount(id, a) => Phase::UnsignedCount(id, acc_anew(a)),
+        Phase::SignedCount(id, a) => Phase::SignedCount(id, acc_anew(a)),
+        Phase::FloatCount(id, a) => Phase::FloatCount(id, acc_anew(a)),
+        Phase::ArrayWord(id, count, a) => Phase::ArrayWord(id, count, acc_anew(a)),
+        Phase::Float(id, w, left, k, v) => Phase::Float(id, w, left, k, v),
+        Phase::Payload(id, r, total, offset) => Phase::Payload(id, r, total, offset),
+        Phase::Empty(id, r) => Phase::Empty(id, r),
+        Phase::Broken => Phase::Broken,
+    }
+}

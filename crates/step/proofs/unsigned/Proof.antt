@@ -1,0 +1,55 @@
+-- `step::unsigned` meets its contract: more, overlong, or a number.
+use mathlib.Core.Path.{ap, _∙_}
+use Prim.Native.Nat.{ℕ}
+use Rattle.event.specs.declared.Event.the-variants.{Unsigned}
+use Rattle.phase.specs.Phases.{phaseIn}
+use Rattle.step.proofs.Steps.{over-in, more-in, value-in}
+use Rattle.field.proofs.Fields.{raised}
+use Rattle.phase.proofs.Phases.{next-first}
+use Rattle.machine.specs.Machine.{step, firstOr, inUnsigned, atUnsigned}
+use borrow.Author.Needs.{needs}
+use Rattle.step.proofs.unsigned.Statement.{statement}
+use Rattle.step.proofs.unsigned.Tie as tie
+
+push-requires : tie.Need-push-requires
+push-requires c κs = search needs
+
+enum-known-p : tie.Need-enum-known-p
+enum-known-p c = search needs
+
+enum-known-p-2 : tie.Need-enum-known-p-2
+enum-known-p-2 c = search needs
+
+returns : tie.Need-returns
+unfolding step
+returns c =
+    over-in (c .before .before .before .args .a) (c .before .before .before .args .b) (c .before .before .push .result) (c .before .before .push .ensures) _ _ _ (c .before .match .keys2) (c .match2 .keys2)
+
+returns-2 : tie.Need-returns-2
+unfolding step
+returns-2 c =
+    more-in (c .before .before .before .before .before .args .a) (c .before .before .before .before .before .args .b) (c .before .before .before .before .push .result) (c .before .before .before .before .push .ensures) _ _ _ _ (c .before .p2 .given .1)
+
+less-requires : tie.Need-less-requires
+less-requires c κs = search needs
+
+unsigneds-requires : tie.Need-unsigneds-requires
+unsigneds-requires c κs = search needs
+
+returns-3 : tie.Need-returns-3
+unfolding step atUnsigned
+returns-3 c =
+    raised (Unsigned (c .before .before .before .before .before .before .args .id) (c .before .before .before .p .given .0 .0)) _ (c .unsigneds .ensures ∙ ap (λ (n : ℕ). phaseIn (firstOr n (λ m. inUnsigned (c .before .before .before .before .before .before .args .id) m 0 0))) (c .before .less .ensures) ∙ ap phaseIn (next-first (c .before .before .before .before .before .before .args .left) (λ m. inUnsigned (c .before .before .before .before .before .before .args .id) m 0 0))) ∙ value-in (c .before .before .before .before .before .before .args .a) (c .before .before .before .before .before .before .args .b) (c .before .before .before .before .before .push .result) (c .before .before .before .before .before .push .ensures) _ _ _ _ (c .before .before .before .p .given .1)
+
+pub unsigned-spec : {M : Type 1} → statement M
+unsigned-spec =
+    tie.close
+    (tie.spec
+    push-requires
+    enum-known-p
+    enum-known-p-2
+    returns
+    returns-2
+    less-requires
+    unsigneds-requires
+    returns-3)

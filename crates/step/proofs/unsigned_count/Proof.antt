@@ -1,0 +1,67 @@
+-- `step::unsigned_count` meets its contract: more, overlong, a count beyond the largest, or an array.
+use mathlib.Core.Path.{_∙_}
+use Rattle.event.specs.declared.Event.the-variants.{Array}
+use Rattle.types.specs.declared.ArrayKind.the-variants as ArrayKinds
+use Rattle.step.proofs.Steps.{over-in, more-in, value-in, count-bad, count-in}
+use Rattle.field.proofs.Fields.{raised}
+use Rattle.machine.specs.Machine.{step}
+use borrow.Author.Needs.{needs}
+use Rattle.step.proofs.unsigned_count.Statement.{statement}
+use Rattle.step.proofs.unsigned_count.Tie as tie
+
+push-requires : tie.Need-push-requires
+push-requires c κs = search needs
+
+enum-known-p : tie.Need-enum-known-p
+enum-known-p c = search needs
+
+enum-known-p-2 : tie.Need-enum-known-p-2
+enum-known-p-2 c = search needs
+
+returns : tie.Need-returns
+unfolding step
+returns c =
+    over-in (c .before .before .before .args .a) (c .before .before .before .args .b) (c .before .before .push .result) (c .before .before .push .ensures) _ _ _ (c .before .match .keys2) (c .match2 .keys2)
+
+returns-2 : tie.Need-returns-2
+unfolding step
+returns-2 c =
+    more-in (c .before .before .before .before .before .args .a) (c .before .before .before .before .before .args .b) (c .before .before .before .before .push .result) (c .before .before .before .before .push .ensures) _ _ _ _ (c .before .p2 .given .1)
+
+cast-if1 : tie.Need-cast-if1
+cast-if1 c = search needs
+
+returns-3 : tie.Need-returns-3
+unfolding step
+returns-3 c =
+    count-bad (c .before .before .before .before .before .args .depth) (c .before .before .before .before .before .args .id) (c .before .before .p .given .0 .0) (c .if1 .taken) ∙ value-in (c .before .before .before .before .before .args .a) (c .before .before .before .before .before .args .b) (c .before .before .before .before .push .result) (c .before .before .before .before .push .ensures) _ _ _ _ (c .before .before .p .given .1)
+
+cast-t12 : tie.Need-cast-t12
+cast-t12 c = search needs
+
+cast-unsigneds : tie.Need-cast-unsigneds
+cast-unsigneds c = search needs
+
+unsigneds-requires : tie.Need-unsigneds-requires
+unsigneds-requires c κs = search needs
+
+returns-4 : tie.Need-returns-4
+unfolding step
+returns-4 c =
+    raised (Array (c .before .before .before .before .before .before .args .id) ArrayKinds.Unsigned (c .before .before .before .p .given .0 .0)) _ (c .unsigneds .ensures) ∙ count-in (c .before .before .before .before .before .before .args .depth) (c .before .before .before .before .before .before .args .id) (c .before .before .before .p .given .0 .0) (c .before .if1 .left) ∙ value-in (c .before .before .before .before .before .before .args .a) (c .before .before .before .before .before .before .args .b) (c .before .before .before .before .before .push .result) (c .before .before .before .before .before .push .ensures) _ _ _ _ (c .before .before .before .p .given .1)
+
+pub unsigned-count-spec : {M : Type 1} → statement M
+unsigned-count-spec =
+    tie.close
+    (tie.spec
+    push-requires
+    enum-known-p
+    enum-known-p-2
+    returns
+    returns-2
+    cast-if1
+    returns-3
+    cast-t12
+    cast-unsigneds
+    unsigneds-requires
+    returns-4)

@@ -1,21 +1,20 @@
 -- Demand 3, proved: the one value of `Demand`. Its statement stands in specs/Demand.
 use Prim.Native.Nat.{ℕ, _≤_}
-use native.Mathlib.Omega.{arith}
-use mathlib.Core.Path.{_≡_, refl, sym, ap, _∙_, subst}
+use mathlib.Core.Path.{_≡_, sym, ap, _∙_, subst}
 use mathlib.Core.Logic.{_⊎_, inl, inr, _↔_}
 use mathlib.Core.List.{List, [], _∷_, _++_}
 use lib.ListN.{length}
 use Rattle.layout.specs.Limits.{base}
-use Rattle.layout.specs.Event.{Event, joined}
-use Rattle.layout.specs.Message.{All, Bytes, Verdict, complete, Complete, verdictOf, eventsOf}
+use Rattle.layout.specs.Event.{joined}
+use Rattle.layout.specs.Message.{All, Bytes, complete, verdictOf, eventsOf}
 use Rattle.layout.specs.Copy.{plainCopy}
 use Rattle.laws.proofs.Laws.{fit-base, complete-iff, copy-bytes, copy-complete, copy-events, copy-again, copy-of-events, exactly-when, shortest-copy}
 use Rattle.machine.specs.Call.{standingOf}
-use Rattle.machine.specs.Run.{join, heardOf, verdictsOf, heardAll}
+use Rattle.machine.specs.Run.{join, heardOf}
 use Rattle.machine.proofs.Runs.{joined-injective}
 use Rattle.reading.proofs.Feeds.{feeds-read, feeds-joined, feeds-last}
-use Rattle.copier.specs.Calls.{Started, taken, started}
-use Rattle.copies.specs.Demand.{Whole, events, Run, after, output, ReadAs, Demand}
+use Rattle.copier.specs.Calls.{Started}
+use Rattle.copies.specs.Demand.{Whole, events, Run, output, ReadAs, Demand}
 use Rattle.copies.proofs.Sound.{start-is}
 use Rattle.copies.proofs.Sent.{all-sent, all-heard}
 use Rattle.copies.proofs.Ends.{calling-ends, can-end}

@@ -1,6 +1,5 @@
 -- Calling on ends: every schedule with enough feeds brings each chunk to its verdict, and from any acts feed and drain in turn do.
-use Prim.Native.Nat.{ℕ, zero, suc, _+_, _-_, _*_, _≤_, _<_, min}
-use native.Mathlib.Nat.{not-suc-le-zero}
+use Prim.Native.Nat.{ℕ, zero, suc, _+_, _-_, _*_, _≤_, _<_}
 use native.Mathlib.Omega.{arith}
 use mathlib.Core.Path.{_≡_, refl, sym, ap, _∙_, subst}
 use mathlib.Core.Logic.{_⊎_, inl, inr}
@@ -14,8 +13,7 @@ use Rattle.layout.specs.Message.{All, Bytes, eventsOf}
 use Rattle.laws.specs.Events.{encodeEvents}
 use Rattle.machine.specs.Run.{join}
 use Rattle.ostream.specs.Stream.{at, opened}
-use Rattle.copier.specs.declared.Copier.{Copier}
-use Rattle.copier.specs.Calls.{bytes, Started, freshOver, started, Sent, over, drained, changed}
+use Rattle.copier.specs.Calls.{bytes, Started, Sent, over, changed}
 use Rattle.copies.specs.Desk.{Desk, openedAt, start, Act, feed, drain, change, stray, feeding, sending, act, acts, MayStand, Allowed}
 use Rattle.copies.specs.Stands.{out, goesOn, goings, enough, turns}
 use Rattle.copies.proofs.Sound.{drain-is, change-is, change-unfit, start-is}

@@ -2,20 +2,16 @@
 use Prim.Native.Nat.{ℕ, zero, suc}
 use mathlib.Core.Path.{_≡_, refl, sym, ap, _∙_}
 use mathlib.Core.Bool.{Bool, true, false, _&&_}
-use mathlib.Core.List.{List}
 use native.Mathlib.Omega.{arith}
 use lib.Dec.{leb, ltb, eqb}
 use borrow.Author.Tests.{eqb-true}
-use lib.ListN.{length, drop}
+use lib.ListN.{length}
 use Rattle.layout.specs.Limits.{base}
-use Rattle.layout.specs.Field.{Width, fp32, fp64, bytesOf, float, raw, string, blob, unsigneds, signeds, floats, header, word, T-fixlen}
+use Rattle.layout.specs.Field.{Width, fp32, fp64, bytesOf, float, raw, string, blob, unsigneds, signeds, floats}
 use Rattle.layout.specs.Event.{Event, Unsigned, Signed, Float, Piece, Fixlen, Array, Begin, End}
 use Rattle.laws.specs.Events.{eventBytes}
 use Rattle.machine.specs.Call.{State, reading, owing, broke}
 use Rattle.copying.specs.Owed.{Owed, nothing, owes, rest, legal, level, agrees, soundOwed}
-use Rattle.copying.specs.Run.{NoPiece}
-use Rattle.copier.specs.declared.Owed as struct
-use Rattle.copier.specs.declared.Owed.the-variants as variants
 use Rattle.copier.specs.Copier.{owedOf, owe, owedIn, placeIn}
 
 both : (x y : Bool) → (x && y) ≡ true → (x ≡ true) × (y ≡ true)
@@ -94,18 +90,3 @@ owed-back (reading d p) w o h = agrees-back d w o h
 owed-back (owing d id r) w o h = agrees-back d w o h
 owed-back broke w nothing h = (refl, refl)
 owed-back broke w (owes due e place) h = let z : _≡_ {A = ℕ} 0 1 = cc in absurd (omega arith)
-
--- the struct owes no piece
-pub no-piece : (x : struct.Owed) (place : ℕ) → NoPiece (owedOf x place)
-no-piece variants.Nothing place = tt
-no-piece (variants.Unsigned id n) place = tt
-no-piece (variants.Signed id z) place = tt
-no-piece (variants.Element n) place = tt
-no-piece (variants.SignedElement z) place = tt
-no-piece (variants.Fp32 bits) place = tt
-no-piece (variants.Fp64 bits) place = tt
-no-piece (variants.Float id w) place = tt
-no-piece (variants.Payload id r total) place = tt
-no-piece (variants.Array id k n) place = tt
-no-piece (variants.Begin id) place = tt
-no-piece variants.End place = tt

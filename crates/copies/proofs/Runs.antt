@@ -1,7 +1,6 @@
 -- The copier's run theorem: whatever feeds, drains, buffer changes and refused calls come, what is out and what is owed are the bytes of the
 -- layout's events so far, each chunk ends as the layout says, and counted drains are no more than the bytes.
-use Prim.Native.Nat.{ℕ, zero, suc, _+_, _-_, _≤_, _<_, min}
-use native.Mathlib.Nat.{not-suc-le-zero}
+use Prim.Native.Nat.{ℕ, suc, _+_, _-_, _≤_, _<_, min}
 use native.Mathlib.Omega.{arith}
 use mathlib.Core.Path.{_≡_, refl, sym, ap, _∙_, subst}
 use mathlib.Core.Logic.{_⊎_, inl, inr}
@@ -9,19 +8,17 @@ use mathlib.Core.Bool.{Bool, true, false, _&&_, _||_}
 use mathlib.Core.List.{List, [], _∷_, _++_, append-assoc, append-nil}
 use lib.Dec.{leb, ltb}
 use borrow.Author.Tests.{ltb-true, leb-true, leb-false}
-use lib.ListN.{length, take, drop, length-append, length-take, length-drop, take-append-drop}
+use lib.ListN.{length, take, drop, length-append, length-take, take-append-drop}
 use lib.Seq.{take-length}
 use Rattle.layout.specs.Limits.{base, pick}
-use Rattle.layout.specs.Event.{Event}
 use Rattle.layout.specs.Message.{All, Bytes, Verdict, brokenAt, verdictOf}
 use Rattle.laws.specs.Events.{encodeEvents}
-use Rattle.machine.specs.Machine.{Phase}
 use Rattle.machine.specs.Call.{State, reading, owing, broke, verdictAt}
 use Rattle.machine.specs.Run.{Follows, join, verdictsOf, Heard, status, refused, heardOf, heardAll}
 use Rattle.machine.proofs.Calls.{fresh-follows}
 use Rattle.machine.proofs.Prefix.{broken-stays}
 use Rattle.machine.proofs.Runs.{plain-at, verdict-at, verdict-broken}
-use Rattle.istream.specs.Stream.{stateOf, streamIn}
+use Rattle.istream.specs.Stream.{stateOf}
 use Rattle.phase.proofs.Phases.{Live}
 use Rattle.istream.proofs.Calls.{state-of-stream}
 use Rattle.ostream.specs.Stream.{at, opened}
@@ -29,18 +26,18 @@ use Rattle.ostream.proofs.Called as writers
 use Rattle.reading.proofs.Feeds.{bytes-drop}
 use Rattle.copying.specs.Owed.{Owed, nothing, owes, rest, soundOwed}
 use Rattle.copying.specs.Copy as copying
-use Rattle.copying.specs.Copy.{Copy, Copied, copy}
+use Rattle.copying.specs.Copy.{Copied, copy}
 use Rattle.copying.specs.Run.{Keeps, Kept, Final}
 use Rattle.copying.proofs.Keeps.{copy-keeps}
-use Rattle.copying.proofs.Sound.{copy-sound}
+use Rattle.copying.proofs.Sound.{sound-plain, copy-sound}
 use Rattle.copier.specs.declared.Copier.{Copier}
-use Rattle.copier.specs.Copier.{owedOf, owedIn, placeIn, copyOf, copierIn, soundCopier}
-use Rattle.copier.specs.Calls.{Said, full, verdict, Left, untouched, saidIn, leftIn, copied, Started, freshOver, started, Sends, bytes, Sent, over, drained, changed}
+use Rattle.copier.specs.Copier.{copyOf, copierIn}
+use Rattle.copier.specs.Calls.{Said, full, verdict, Left, untouched, saidIn, copied, freshOver, bytes, Sent, over, changed}
 use Rattle.copier.specs.Calls as calls
-use Rattle.copies.specs.Desk.{told, Desk, openedAt, Stray, Act, feed, drain, change, stray, ended, filled, fed, feeding, none, counts, holding, sending, handedBack, act, acts, refusedWith, MayStand, Allowed}
+use Rattle.copies.specs.Desk.{told, Desk, Stray, Act, feed, drain, change, stray, ended, filled, fed, feeding, none, counts, holding, sending, act, acts, MayStand, Allowed}
 use Rattle.copies.specs.Stands.{out, whole, Stands}
-use Rattle.copies.proofs.Owed.{owed-back, no-piece}
-use Rattle.copies.proofs.Sound.{Sound, is-sound, sound-is, counted-sound, carried-sound, on-broken, on-live, drain-is, change-is, change-unfit, moved-sound, start-is, stray-back}
+use Rattle.copies.proofs.Owed.{owed-back}
+use Rattle.copies.proofs.Sound.{Sound, is-sound, sound-is, counted-sound, carried-sound, on-broken, on-live, drain-is, change-is, change-unfit, moved-sound, stray-back}
 
 -- ---- lists of chunks
 
@@ -203,7 +200,7 @@ module _ (reserved : List ℕ) (cs : List (List ℕ)) (d : Desk) (c : List ℕ) 
   k′ = copierIn (k .writer) (r .copy)
 
   called : Kept base reserved (s .read) (d .sent) (copyOf k) c b r
-  called = copy-keeps base reserved (s .read) (d .sent) (copyOf k) c b (s .keeps) (inside k (length b) (f .sound)) (no-piece (k .owed) (k .place))
+  called = copy-keeps base reserved (s .read) (d .sent) (copyOf k) c b (s .keeps) (inside k (length b) (f .sound)) (sound-plain base (stateOf (k .reader)) (k .writer .depth) (copyOf k .owed) (f .sound .owed))
 
   owed-same : rest (copyOf k′ .owed) ≡ rest (r .copy .owed)
   owed-same = owed-back (r .copy .reader) (r .copy .depth) (r .copy .owed) (copy-sound base (copyOf k) c b (counted-sound k (length b) (f .sound)) (inside k (length b) (f .sound)) .sound .owed) .0

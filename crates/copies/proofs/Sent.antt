@@ -1,5 +1,5 @@
 -- What was sent, for any bytes and any acts: the reserved bytes and the layout's events so far, whatever the verdict; and how many drains.
-use Prim.Native.Nat.{ℕ, zero, suc, _+_, _≤_, _<_, min}
+use Prim.Native.Nat.{ℕ, _+_, _≤_, _<_, min}
 use native.Mathlib.Omega.{arith}
 use mathlib.Core.Path.{_≡_, refl, sym, ap, _∙_, subst}
 use mathlib.Core.Bool.{true}
@@ -7,7 +7,7 @@ use mathlib.Core.List.{List, [], _∷_, _++_, append-assoc, append-nil}
 use lib.ListN.{length, take, length-append, length-take}
 use lib.Seq.{take-append-seam, take-append-le}
 use Rattle.layout.specs.Limits.{Limits, base}
-use Rattle.layout.specs.Event.{Event, Piece, bytewise}
+use Rattle.layout.specs.Event.{Event, bytewise}
 use Rattle.layout.specs.Message.{All, Bytes, verdictOf, brokenAt, eventsOf}
 use Rattle.laws.specs.Events.{eventBytes, dueAfterAll, encodeEvents}
 use Rattle.laws.proofs.Copying.{encode-append, bytewise-bytes}

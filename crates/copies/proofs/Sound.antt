@@ -1,18 +1,17 @@
 -- A fresh copier is sound for its buffer, and every call hands back a sound one from any sound state; refusals are 1, 6 and 2 alone, and
 -- where a call is refused nothing alters.
-use Prim.Native.Nat.{ℕ, zero, suc, _+_, _-_, _≤_, _<_}
+use Prim.Native.Nat.{ℕ, zero, suc, _-_, _≤_, _<_}
 use native.Mathlib.Omega.{arith}
 use mathlib.Core.Path.{_≡_, refl, sym, ap, _∙_, subst}
 use mathlib.Core.Logic.{_⊎_, inl, inr}
 use mathlib.Core.Bool.{Bool, true, false, _&&_}
-use mathlib.Core.List.{List, [], _∷_}
+use mathlib.Core.List.{List}
 use lib.Dec.{leb, eqb}
 use borrow.Author.Tests.{eqb-true, eq-eqb, leb-true, leb-false, le-leb}
 use lib.ListN.{length}
 use Rattle.layout.specs.Limits.{base, pick}
 use Rattle.layout.specs.Message.{Bytes}
-use Rattle.types.specs.Types.{numberOf, refusal}
-use Rattle.machine.specs.Machine.{Phase, inHeader, inUnsigned, inSigned, inWord, inUnsignedCount, inSignedCount, inFloatCount, inArrayWord, inFloat, inPayload}
+use Rattle.machine.specs.Machine.{inHeader, inUnsigned, inSigned, inWord, inUnsignedCount, inSignedCount, inFloatCount, inArrayWord, inFloat, inPayload}
 use Rattle.machine.specs.Call.{State, reading, owing, broke, fresh}
 use Rattle.machine.specs.Run.{placeOf}
 use Rattle.machine.proofs.Calls.{FairPlace}
@@ -23,18 +22,17 @@ use Rattle.phase.specs.Sound.{SoundState}
 use Rattle.phase.proofs.Phases.{Live}
 use Rattle.istream.proofs.Calls.{state-of-stream}
 use Rattle.istream.proofs.Laws as readers
-use Rattle.ostream.specs.declared.OStream.{OStream}
 use Rattle.ostream.specs.declared.Counted.{Counted}
 use Rattle.ostream.specs.declared.Written.{Written}
 use Rattle.ostream.specs.Stream as writer
 use Rattle.ostream.specs.Stream.{at, opened}
-use Rattle.ostream.specs.Buffer.{badBuffer, opening, draining, changing}
+use Rattle.ostream.specs.Buffer.{opening, draining, changing}
 use Rattle.ostream.proofs.Called as writers
 use Rattle.ostream.proofs.Straight.{quiet}
-use Rattle.ostream.proofs.Buffers.{sound-at, opened-sound, unheld-clean, drained-is, drain-refused, fit, fit-drained, fits, open-taken, open-refused, change-refused, change-unsound, change-taken}
-use Rattle.copying.specs.Owed.{nothing, owes, rest, agrees, soundOwed}
+use Rattle.ostream.proofs.Buffers.{sound-at, opened-sound, unheld-clean, drained-is, drain-refused, fits, open-taken, open-refused, change-refused, change-unsound, change-taken}
+use Rattle.copying.specs.Owed.{nothing, agrees, soundOwed}
 use Rattle.copying.specs.Copy as copying
-use Rattle.copying.specs.Copy.{Copy, Copied, copy}
+use Rattle.copying.specs.Copy.{Copied, copy}
 use Rattle.copying.proofs.Sound as counted
 use Rattle.copying.proofs.Sound.{Sounds, copy-sound}
 use Rattle.copying.proofs.Allowed.{InForce}

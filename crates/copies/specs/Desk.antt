@@ -10,7 +10,7 @@ use lib.ListN.{length, take, drop}
 use Rattle.layout.specs.Limits.{pick}
 use Rattle.machine.specs.Run.{Heard, status, refused, nothing}
 use Rattle.copier.specs.declared.Copier.{Copier}
-use Rattle.copier.specs.Calls.{Said, full, verdict, Left, copied, Opens, taken, Started, started, Sends, bytes, Sent, drained, changed}
+use Rattle.copier.specs.Calls.{Said, full, verdict, Left, copied, Opens, taken, started, Sends, bytes, drained, changed}
 use Rattle.copier.specs.Calls as calls
 
 -- ---- the desk

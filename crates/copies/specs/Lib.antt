@@ -3,3 +3,4 @@
 pub mod Desk
 pub mod Stands
 pub mod Demand
+pub mod Worked

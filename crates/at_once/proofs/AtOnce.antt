@@ -58,7 +58,7 @@ module _ {c : List ℕ} {first place : ℕ} {a : Acc} (u : Under c first place a
       ∙ ap (scan base place d (P (a .taken) (a .value))) (drop-cons c place 0 h)
       ∙ scan-byte place d (P (a .taken) (a .value)) (getD c place 0) (drop (suc place) c) (w .paced (a .taken) (a .value))
       ∙ ap (λ (m : machine.Stepped). scanned (suc place) m (λ d′ p′. scan base (suc place) d′ p′ (drop (suc place) c)))
-      (w .steps (a .taken) (a .value) (getD c place 0) ∙ ap (λ (x : varints.Push). within d x P F) (layout-step a (getD c place 0) ∙ ap unanswer e))
+      (w .steps (a .taken) (a .value) (getD c place 0) ∙ ap (λ (x : varints.Push). within d x P F) (layout-step a (getD c place 0) (u .sound) ∙ ap unanswer e))
 
   pub under-more : (x : Acc) → pushed a (getD c place 0) ≡ More x → Under c first (place + 1) x
   unfolding scanned within

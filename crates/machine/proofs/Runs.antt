@@ -10,15 +10,14 @@ use lib.Seq.{take-add, take-length}
 use Rattle.layout.specs.Limits.{Limits}
 use Rattle.layout.specs.Field.{Raw}
 use Rattle.layout.specs.Event.{Event, Unsigned, Signed, Float, Piece, Fixlen, Array, Begin, End, cutFrom, cutPiece, cut, bytewise}
-use Rattle.layout.specs.Varint.{Outcome, whole, short, broken}
-use Rattle.layout.specs.Message.{Verdict, incomplete, brokenAt, verdictOf, eventsOf}
+use Rattle.layout.specs.Message.{Verdict, brokenAt, verdictOf, eventsOf}
 use Rattle.machine.specs.Machine.{Phase, idle, inHeader, inUnsigned, inSigned, inWord, inUnsignedCount, inSignedCount, inFloatCount, inArrayWord, inFloat, inPayload}
 use Rattle.machine.specs.Machine.{Place, at, brokenBefore, walk, ending, endOf, judge}
-use Rattle.machine.specs.Call.{State, reading, owing, broke, fresh, Answer, event, verdict, invalid, Called, verdictAt, call}
-use Rattle.machine.specs.Run.{given, due, Follows, Chunk, more, calls, chunk, seen, Read, chunks, verdictsOf, join}
+use Rattle.machine.specs.Call.{State, reading, owing, broke, fresh, Answer, event, verdict, invalid, verdictAt, call}
+use Rattle.machine.specs.Run.{given, Follows, Chunk, more, calls, chunk, seen, chunks, verdictsOf, join}
 use Rattle.machine.proofs.Bridge.{events-walk, verdict-walk}
 use Rattle.machine.proofs.Prefix.{broken-stays}
-use Rattle.machine.proofs.Calls.{Judged, Closes, weight, Answered, bytewise-append, call-follows, fresh-follows}
+use Rattle.machine.proofs.Calls.{Judged, Closes, weight, bytewise-append, call-follows, fresh-follows}
 
 -- ---- a chunk
 

@@ -1,14 +1,14 @@
 -- The reader's call: it reads on to the next event and stops there, or gives the verdict once the chunk is spent.
 -- "Each call stops after one. A byte that raises two gives the second in a call that reads nothing."
-use Prim.Native.Nat.{ℕ, zero, suc, _+_, _-_, min}
-use mathlib.Core.Bool.{true, false}
-use mathlib.Core.List.{List, [], _∷_, _++_}
-use lib.ListN.{length, take, drop}
+use Prim.Native.Nat.{ℕ, suc, _+_, _-_, min}
+use mathlib.Core.List.{List, [], _∷_}
+use lib.ListN.{length, take}
 use lib.Dec.{ltb}
 use Rattle.layout.specs.Limits.{Limits, pick}
 use Rattle.layout.specs.Field.{Raw}
 use Rattle.layout.specs.Event.{Event, Piece}
-use Rattle.layout.specs.Message.{Verdict, incomplete}
+use Rattle.layout.specs.Message as Message
+use Rattle.layout.specs.Message.{Verdict}
 use Rattle.machine.specs.Machine.{Phase, inHeader, inUnsigned, inSigned, inWord, inUnsignedCount, inSignedCount, inFloatCount, inArrayWord, inFloat, inPayload}
 use Rattle.machine.specs.Machine.{idle, Stepped, on, bad, step, ending, judge}
 
@@ -40,8 +40,23 @@ verdictAt d p = judge 0 (ending d p)
 -- the verdict so far: incomplete while an event is due
 unfoldable pub verdictSo : State → Verdict
 verdictSo (reading d p) = verdictAt d p
-verdictSo (owing d id r) = incomplete
-verdictSo broke = incomplete
+verdictSo (owing d id r) = Message.incomplete
+verdictSo broke = Message.incomplete
+
+-- Where a message stands after the bytes read so far. A verdict without its byte.
+pub data Standing : Type 0 where
+  complete incomplete broken : Standing
+
+abbrev pub standingOf : Verdict → Standing
+standingOf Message.complete = complete
+standingOf Message.incomplete = incomplete
+standingOf (Message.brokenAt n) = broken
+
+-- "Complete when no field is under way and depth is 0, else incomplete": an event that is due is its field's. A broken reader stays so.
+unfoldable pub standing : State → Standing
+standing (reading d p) = standingOf (verdictAt d p)
+standing (owing d id r) = incomplete
+standing broke = broken
 
 -- a payload's bytes are read in one piece, as many as the chunk has; other bytes one by one
 pub data Pace : Type 0 where

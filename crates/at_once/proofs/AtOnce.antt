@@ -28,16 +28,16 @@ use Rattle.phase.specs.declared.Phase.{Phase}
 use Rattle.phase.specs.declared.Phase.the-variants.{Header, Unsigned, Signed}
 use Rattle.at_once.specs.declared.Quick.{Quick}
 use Rattle.at_once.specs.declared.Quick.the-variants as Quicks
-use Rattle.field.specs.declared.Stepped as given
-use Rattle.field.specs.declared.Stepped.the-variants.{On, Raised, Bad}
+use Rattle.stepped.specs.declared.Stepped as given
+use Rattle.stepped.specs.declared.Stepped.the-variants.{On, Raised, Bad}
 use Rattle.phase.specs.Phases.{stateAt, phaseIn, idIn, countIn, soundPhase}
-use Rattle.field.specs.Steps.{stepped, covered}
+use Rattle.stepped.specs.Steps.{stepped, covered}
 use Rattle.phase.specs.Sound.{Kept}
 use Rattle.at_once.specs.AtOnce.{Varying, onward, Reads, Right, RightFrom, raisedOf}
 use Rattle.phase.proofs.Phases.{next-first, both}
 use Rattle.phase.proofs.Keeps.{wire-keeps, subtype-keeps}
 use Rattle.phase.proofs.Scans.{scan-byte}
-use Rattle.field.proofs.Stepped.{the-type}
+use Rattle.stepped.proofs.Stepped.{the-type}
 
 -- ---- a varint
 

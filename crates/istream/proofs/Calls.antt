@@ -27,16 +27,16 @@ use Rattle.istream.specs.declared.IStream.{IStream}
 use Rattle.istream.specs.declared.Status.{Status}
 use Rattle.istream.specs.declared.Status.the-variants.{Incomplete}
 use Rattle.istream.specs.declared.Answer.the-variants as Answers
-use Rattle.field.specs.declared.Stepped.{Stepped}
-use Rattle.field.specs.declared.Stepped.the-variants.{On, Raised}
+use Rattle.stepped.specs.declared.Stepped.{Stepped}
+use Rattle.stepped.specs.declared.Stepped.the-variants.{On, Raised}
 use Rattle.phase.specs.Phases.{stateAt, phaseIn, phaseOf, depthOf}
 use Rattle.istream.specs.Stream.{stateOf, streamIn, statusIn, statusOf, fedIn, stopped}
-use Rattle.field.specs.Steps.{stepped, stepOn, covered, pieceIn}
+use Rattle.stepped.specs.Steps.{stepped, stepOn, covered, pieceIn}
 use Rattle.phase.specs.Sound.{AtBytes, Kept}
 use Rattle.phase.proofs.Phases.{raw-back, sort-back, state-back, Live, phase-back, depth-back, at-bytes-live}
 use Rattle.phase.proofs.Keeps.{step-keeps}
 use Rattle.phase.proofs.Scans.{scan-byte}
-use Rattle.field.proofs.Stepped.{the-type}
+use Rattle.stepped.proofs.Stepped.{the-type}
 use Rattle.istream.proofs.Tests.{verdict-is}
 
 -- ---- the state there and back

@@ -10,9 +10,9 @@ use Rattle.machine.specs.Call as calls
 use Rattle.types.specs.Types.{refusal}
 use Rattle.event.specs.Event.{declared}
 use Rattle.phase.specs.Phases.{stateAt, phaseOf, depthOf, soundPhase}
-use Rattle.field.specs.Steps.{covered}
-use Rattle.field.specs.declared.Stepped.{Stepped}
-use Rattle.field.specs.declared.Stepped.the-variants.{On, Raised, Bad}
+use Rattle.stepped.specs.Steps.{covered}
+use Rattle.stepped.specs.declared.Stepped.{Stepped}
+use Rattle.stepped.specs.declared.Stepped.the-variants.{On, Raised, Bad}
 use Rattle.istream.specs.declared.IStream.{IStream}
 use Rattle.istream.specs.declared.Status.{Status}
 use Rattle.istream.specs.declared.Status.the-variants.{Complete, Incomplete}

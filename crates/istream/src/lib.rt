@@ -12,14 +12,14 @@ ghost use Rattle.istream.specs.Stream.{stateOf, streamIn, soundStream, s
 use at_once::Quick;
 use at_once::at_once;
 use event::Event;
-use field::Stepped;
-use field::piece;
 use phase::Phase;
 use phase::anew;
 use phase::idle;
 use phase::sound;
 use phase::sound_payload;
 use step::step;
+use stepped::Stepped;
+use stepped::piece;
 use types::Error;
 use types::RawType;
 

@@ -1,7 +1,7 @@
 -- `step::header` meets its contract: more, overlong, an id beyond the largest, or a field.
 use mathlib.Core.Path.{_∙_}
 use Rattle.step.proofs.Steps.{over-in, more-in, value-in}
-use Rattle.field.proofs.Fields.{id-beyond, header-in}
+use Rattle.stepped.proofs.Fields.{id-beyond, header-in}
 use Rattle.machine.specs.Machine.{step}
 use borrow.Author.Needs.{needs}
 use Rattle.step.proofs.header.Statement.{statement}

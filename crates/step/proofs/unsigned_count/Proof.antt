@@ -3,7 +3,7 @@ use mathlib.Core.Path.{_∙_}
 use Rattle.event.specs.declared.Event.the-variants.{Array}
 use Rattle.types.specs.declared.ArrayKind.the-variants as ArrayKinds
 use Rattle.step.proofs.Steps.{over-in, more-in, value-in, count-bad, count-in}
-use Rattle.field.proofs.Fields.{raised}
+use Rattle.stepped.proofs.Fields.{raised}
 use Rattle.machine.specs.Machine.{step}
 use borrow.Author.Needs.{needs}
 use Rattle.step.proofs.unsigned_count.Statement.{statement}

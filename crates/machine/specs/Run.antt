@@ -8,7 +8,7 @@ use Rattle.layout.specs.Limits.{Limits}
 use Rattle.layout.specs.Event.{Event, Piece, bytewise}
 use Rattle.layout.specs.Message.{Verdict, complete, incomplete, brokenAt, verdictOf}
 use Rattle.machine.specs.Machine.{idle, Place, at, brokenBefore, walk}
-use Rattle.machine.specs.Call.{State, reading, owing, broke, Answer, event, verdict, invalid, Called, call}
+use Rattle.machine.specs.Call.{State, reading, owing, broke, Answer, event, verdict, invalid, call}
 
 -- ---- one call
 

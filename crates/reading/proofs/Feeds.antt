@@ -30,7 +30,7 @@ use Rattle.istream.specs.declared.Status.the-variants.{Complete, Incomplete}
 use Rattle.istream.specs.declared.Fed as Given
 use Rattle.types.specs.Types.{refusal}
 use Rattle.istream.specs.Stream.{stateOf, streamIn, soundStream, statusIn, answerIn, fedIn, still, fedOf}
-use Rattle.field.specs.Steps.{covered}
+use Rattle.stepped.specs.Steps.{covered}
 use Rattle.phase.specs.Sound.{SoundAt, SoundState, AtBytes, Kept}
 use Rattle.phase.proofs.Phases.{Live, byte-below}
 use Rattle.phase.proofs.Keeps.{step-keeps}

@@ -20,7 +20,7 @@ use Rattle.machine.specs.Machine.{Stepped, on, bad, nextOr, atWire, atHeader, a
 use Rattle.machine.specs.Machine.{atElement, atArrayWord, atUnsigned, atSigned, within, atFloat, step, ending, judge}
 use Rattle.machine.specs.Call.{State, reading, owing, broke, fresh, Answer, event, verdict, invalid, Called, verdictAt, Pace, byte, bulk, paceOf, piece, scanned, scan, call}
 use Rattle.machine.specs.Call.{standingOf, standing}
-use Rattle.machine.specs.Run.{given, due, Follows, Ending, ended, unfinished, Chunk, calls, Heard, status, seen, chunks, verdictsOf, heardOf, heardAll, lastHeard, join}
+use Rattle.machine.specs.Run.{given, due, Follows, Ending, ended, unfinished, Chunk, calls, Heard, status, seen, chunks, verdictsOf, heardOf, heardAll, readOf, lastHeard, join}
 use Rattle.machine.proofs.Calls.{call-follows, fresh-follows}
 use Rattle.machine.proofs.Runs.{standingWith, standing-is, reads, verdicts-last, joined-injective}
 use Rattle.event.specs.Event.{eventOf, declared}
@@ -347,16 +347,16 @@ told-is n unfinished h = refl
 -- ---- a list of chunks
 
 feedAll-is : (st : State) (n : ℕ) (cs : List (List ℕ)) → SoundState st → All Bytes cs
-    → feedAll (streamIn st) n cs ≡ record { events = chunks base st n cs .events; verdicts = chunks base st n cs .verdicts; stream = streamIn (chunks base st n cs .state) }
+    → feedAll (streamIn st) n cs ≡ record { events = chunks base st n cs .events; verdicts = chunks base st n cs .verdicts; read = chunks base st n cs .read; stream = streamIn (chunks base st n cs .state) }
 unfolding feedAll chunks
 feedAll-is st n [] h b = refl
 feedAll-is st n (c ∷ cs) h b =
     let r : Chunk = calls base (2 * length c + 2) st c in
-    let after : Heard → Run → Run = λ v q. record { events = r .events ++ q .events; verdicts = v ∷ q .verdicts; stream = q .stream } in
+    let after : Heard → Run → Run = λ v q. record { events = r .events ++ q .events; verdicts = v ∷ q .verdicts; read = q .read; stream = q .stream } in
     let s = calls-sound (2 * length c + 2) st c h (b .0) in
-    ap (λ (f : Fed). record { events = f .events ++ feedAll (f .stream) (n + f .read) cs .events; verdicts = told (n + f .read) (f .answer) ∷ feedAll (f .stream) (n + f .read) cs .verdicts; stream = feedAll (f .stream) (n + f .read) cs .stream }) (feeds-is (2 * length c + 2) st c h (b .0))
+    ap (λ (f : Fed). record { events = f .events ++ feedAll (f .stream) (n + f .read) cs .events; verdicts = told (n + f .read) (f .answer) ∷ feedAll (f .stream) (n + f .read) cs .verdicts; read = feedAll (f .stream) (n + f .read) cs .read; stream = feedAll (f .stream) (n + f .read) cs .stream }) (feeds-is (2 * length c + 2) st c h (b .0))
     ∙ ap (after (told (n + r .read) (final (r .answer)))) (feedAll-is (r .state) (n + r .read) cs s (b .1))
-    ∙ ap (λ (v : Heard). after v (record { events = chunks base (r .state) (n + r .read) cs .events; verdicts = chunks base (r .state) (n + r .read) cs .verdicts; stream = streamIn (chunks base (r .state) (n + r .read) cs .state) })) (told-is (n + r .read) (r .answer) (plain-calls (2 * length c + 2) st c))
+    ∙ ap (λ (v : Heard). after v (record { events = chunks base (r .state) (n + r .read) cs .events; verdicts = chunks base (r .state) (n + r .read) cs .verdicts; read = chunks base (r .state) (n + r .read) cs .read; stream = streamIn (chunks base (r .state) (n + r .read) cs .state) })) (told-is (n + r .read) (r .answer) (plain-calls (2 * length c + 2) st c))
 
 sound-start : SoundState fresh
 sound-start = is-sound (streamIn fresh) fresh-sound
@@ -364,16 +364,18 @@ sound-start = is-sound (streamIn fresh) fresh-sound
 -- THE READER'S RUN THEOREM. A fresh reader that is handed chunks in order, each to its end: the events given, payload pieces joined and
 -- floats by their bits, are the layout's for the bytes handed; what is heard after each chunk is the layout's verdict for the bytes so
 -- far, a broken message by number 2 at the layout's byte and by no other number; and the reader stands at the end as the layout's
--- verdict for all the bytes, after no chunk at all too.
+-- verdict for all the bytes, after no chunk at all too, with all bytes read or, of a broken message, those up to the offending one.
 pub feeds-read : (cs : List (List ℕ)) → All Bytes cs
     → (bytewise (feedAll (streamIn fresh) 0 cs .events) ≡ eventsOf base (join cs)) × (feedAll (streamIn fresh) 0 cs .verdicts ≡ heardAll (verdictsOf base [] cs))
     × (standing (stateOf (feedAll (streamIn fresh) 0 cs .stream)) ≡ standingOf (verdictOf base (join cs)))
+    × (feedAll (streamIn fresh) 0 cs .read ≡ readOf (length (join cs)) (verdictOf base (join cs)))
 feeds-read cs b =
     let e = feedAll-is fresh 0 cs sound-start b in
     let m = reads base cs in (
       ap (λ (r : Run). bytewise (r .events)) e ∙ m .0,
       ap (λ (r : Run). r .verdicts) e ∙ m .1,
       ap (λ (r : Run). standing (stateOf (r .stream))) e ∙ ap standing (state-of-stream (chunks base fresh 0 cs .state)) ∙ m .2,
+      ap (λ (r : Run). r .read) e ∙ m .3,
     )
 
 -- Payload pieces joined, those are the layout's events,

@@ -12,15 +12,16 @@ use borrow.Author.Tests.{eqb-true}
 use Rattle.layout.specs.Limits.{Limits, base}
 use Rattle.layout.specs.Varint.{Outcome, whole, short, broken}
 use Rattle.layout.specs.Field.{Field}
-use Rattle.layout.specs.Event.{Event, bytewise}
+use Rattle.layout.specs.Event.{Event, joined, bytewise}
 use Rattle.layout.specs.Message.{Fields, message, eventsOf, fieldsOf, wholeOf, judged, verdictOf, complete, incomplete, WholeFields, Complete}
 use Rattle.layout.specs.Copy.{encode, plainCopy}
 use Rattle.layout.specs.Message.{All, Bytes}
 use Rattle.laws.specs.Legal.{Fit, Legal, Balanced, settled, nesting, narrow}
-use Rattle.laws.specs.Events.{fieldsEvents, encodeEvents}
+use Rattle.laws.specs.Events.{fieldsEvents, fieldsJoined, encodeEvents}
 use Rattle.laws.proofs.Bytes.{encode-bytes}
 use Rattle.laws.proofs.Message.{encode-settled, fields-forth, Run, fields-back, wholly-read}
 use Rattle.laws.proofs.Copying.{fields-bytes, bytewise-bytes}
+use Rattle.laws.proofs.Joining.{fields-joined}
 
 -- 01's limits at every deepest nesting, and the limits of a build of 32 bits
 pub fit-nesting : (d : ℕ) → Fit (nesting d)
@@ -82,6 +83,10 @@ complete-fields L T xs a w = ap wholeOf (wholly-message L T xs a w)
 pub complete-legal : (L : Limits) (T : List ℕ) → Bytes T → verdictOf L T ≡ complete →
     All (Legal L) (fieldsOf L T) × Balanced L 0 (fieldsOf L T) 0 × (eventsOf L T ≡ fieldsEvents (fieldsOf L T))
 complete-legal L T a e = let r = complete-run L T a e in (r .legal, r .balanced, r .events)
+
+-- "Its events are the layout's, each payload's pieces joined": those of its fields, with one piece for each payload.
+pub complete-joined : (L : Limits) (T : List ℕ) → Bytes T → verdictOf L T ≡ complete → joined (eventsOf L T) ≡ fieldsJoined (fieldsOf L T)
+complete-joined L T a e = ap joined (complete-legal L T a e .2) ∙ fields-joined (fieldsOf L T)
 
 -- ---- the plain copy of a complete message
 

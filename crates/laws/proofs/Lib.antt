@@ -2,9 +2,11 @@
 pub mod Numbers
 pub mod Parser
 pub mod Varint
+pub mod Longer
 pub mod Parts
 pub mod Field
 pub mod Bytes
 pub mod Message
 pub mod Copying
+pub mod Joining
 pub mod Laws

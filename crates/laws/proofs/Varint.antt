@@ -32,7 +32,7 @@ longer c m h = go (ltb (c + m * 128) 128) refl
 -- ---- one byte
 
 -- the byte overruns the width
-abbrev over : Limits → ℕ → ℕ → Bool
+abbrev pub over : Limits → ℕ → ℕ → Bool
 over L k b = leb (lastPlace L) k && leb (lastBound L) b
 
 room : (L : Limits) (k r : ℕ) → k ≤ lastPlace L → r * 128 ^ k < 2 ^ L .bits → leb (lastPlace L) k ≡ true → r < lastBound L
@@ -40,34 +40,34 @@ room L k r h s t =
     let e : k ≡ lastPlace L = omega (arith, leb-true) in
     lt-of-mul-lt-mul-right (128 ^ lastPlace L) (subst (λ x. r * 128 ^ lastPlace L < x) (sym (last-whole L)) (subst (λ x. r * 128 ^ x < 2 ^ L .bits) e s))
 
-not-over : (L : Limits) (k r : ℕ) → k ≤ lastPlace L → r * 128 ^ k < 2 ^ L .bits → over L k r ≡ false
+pub not-over : (L : Limits) (k r : ℕ) → k ≤ lastPlace L → r * 128 ^ k < 2 ^ L .bits → over L k r ≡ false
 not-over L k r h s = go (leb (lastPlace L) k) refl
   where
     go : (t : Bool) → leb (lastPlace L) k ≡ t → over L k r ≡ false
     go true e = simp (e, lt-leb _ _ (room L k r h s e))
     go false e = simp e
 
-push-last : (L : Limits) (k v b : ℕ) → over L k b ≡ false → b < 128 → push L k v b ≡ value (v + b * 128 ^ k)
+pub push-last : (L : Limits) (k v b : ℕ) → over L k b ≡ false → b < 128 → push L k v b ≡ value (v + b * 128 ^ k)
 unfolding push
 push-last L k v b t h = simp (t, lt-ltb b 128 h, mod-eq-of-lt h)
 
-push-more : (L : Limits) (k v b : ℕ) → over L k b ≡ false → 128 ≤ b → push L k v b ≡ more (k + 1) (v + digit k b)
+pub push-more : (L : Limits) (k v b : ℕ) → over L k b ≡ false → 128 ≤ b → push L k v b ≡ more (k + 1) (v + digit k b)
 unfolding push
 push-more L k v b t h = simp (t, le-ltb b 128 h)
 
-push-over : (L : Limits) (k v b : ℕ) → over L k b ≡ true → push L k v b ≡ overrun
+pub push-over : (L : Limits) (k v b : ℕ) → over L k b ≡ true → push L k v b ≡ overrun
 unfolding push
 push-over L k v b t = simp t
 
-step-value : (L : Limits) (k v b n : ℕ) (bs : List ℕ) → push L k v b ≡ value n → varintFrom L k v (b ∷ bs) ≡ whole n bs
+pub step-value : (L : Limits) (k v b n : ℕ) (bs : List ℕ) → push L k v b ≡ value n → varintFrom L k v (b ∷ bs) ≡ whole n bs
 unfolding varintFrom
 step-value L k v b n bs e = rw (e, varintFrom)
 
-step-more : (L : Limits) (k v b k′ v′ : ℕ) (bs : List ℕ) → push L k v b ≡ more k′ v′ → varintFrom L k v (b ∷ bs) ≡ varintFrom L k′ v′ bs
+pub step-more : (L : Limits) (k v b k′ v′ : ℕ) (bs : List ℕ) → push L k v b ≡ more k′ v′ → varintFrom L k v (b ∷ bs) ≡ varintFrom L k′ v′ bs
 unfolding varintFrom
 step-more L k v b k′ v′ bs e = rw (e, varintFrom)
 
-step-over : (L : Limits) (k v b : ℕ) (bs : List ℕ) → push L k v b ≡ overrun → varintFrom L k v (b ∷ bs) ≡ broken bs
+pub step-over : (L : Limits) (k v b : ℕ) (bs : List ℕ) → push L k v b ≡ overrun → varintFrom L k v (b ∷ bs) ≡ broken bs
 unfolding varintFrom
 step-over L k v b bs e = rw (e, varintFrom)
 
@@ -81,7 +81,7 @@ goes-on L k r l s b = go (leb (lastPlace L) k) refl
     go true e = absurd (omega (arith, room L k r l s e, last-small L))
     go false e = leb-false _ _ e
 
-regroup : (v r p : ℕ) → v + (r % 128 + 128) % 128 * p + r / 128 * (p * 128) ≡ v + r * p
+pub regroup : (v r p : ℕ) → v + (r % 128 + 128) % 128 * p + r / 128 * (p * 128) ≡ v + r * p
 regroup v r p =
     let e : (r % 128 + 128) % 128 ≡ r % 128 = omega arith in
     let q : (128 * (r / 128) + r % 128) * p ≡ r * p = ap (λ (x : ℕ). x * p) (div-add-mod r 128) in
@@ -135,7 +135,7 @@ in-width L k v b l h t s = go (leb (lastPlace L) k) refl
         omega (arith, mul-le-mul-right {m = suc b} (128 ^ k) s, pow-suc 128 k, pow-le-pow-right {n = 128} (lit< tt) {i = suc k} {j = lastPlace L} (leb-false _ _ e), last-whole L, mul-le-mul-right {m = 1} (128 ^ lastPlace L) (pow-pos (L .bits - 7 * lastPlace L)))
 
 -- a byte that says that another follows, and does not overrun, has a place after it
-place-left : (L : Limits) (k b : ℕ) → k ≤ lastPlace L → over L k b ≡ false → 128 ≤ b → k + 1 ≤ lastPlace L
+pub place-left : (L : Limits) (k b : ℕ) → k ≤ lastPlace L → over L k b ≡ false → 128 ≤ b → k + 1 ≤ lastPlace L
 place-left L k b l t h = go (leb (lastPlace L) k) refl
   where
     go : (u : Bool) → leb (lastPlace L) k ≡ u → k + 1 ≤ lastPlace L
@@ -144,7 +144,7 @@ place-left L k b l t h = go (leb (lastPlace L) k) refl
         absurd (omega (arith, leb-false (lastBound L) b q, last-small L))
     go false e = omega (arith, leb-false)
 
-next-power : (k : ℕ) → 128 ^ (k + 1) ≡ 128 ^ k * 128
+pub next-power : (k : ℕ) → 128 ^ (k + 1) ≡ 128 ^ k * 128
 next-power k = simp (add-one, pow-suc)
 
 onward : (L : Limits) (k v b n : ℕ) (bs rest : List ℕ) → From L (k + 1) (v + digit k b) bs n rest → From L k v (b ∷ bs) n rest

@@ -26,6 +26,22 @@ unfoldable pub fieldsEvents : List Field → List Event
 fieldsEvents [] = []
 fieldsEvents (x ∷ xs) = fieldEvents x ++ fieldsEvents xs
 
+-- "Each payload's pieces joined": the same with one piece for a payload, all its bytes.
+unfoldable pub joinedEvents : Field → List Event
+joinedEvents (unsigned id n) = Unsigned id n ∷ []
+joinedEvents (signed id z) = Signed id z ∷ []
+joinedEvents (float id w x) = Fixlen id (float w) (bytesOf w) ∷ Float id w x ∷ []
+joinedEvents (payload id r bs) = Fixlen id (raw r) (length bs) ∷ Piece id r (length bs) 0 bs ∷ []
+joinedEvents (unsignedArray id ns) = Array id unsigneds (length ns) ∷ map (Unsigned id) ns
+joinedEvents (signedArray id zs) = Array id signeds (length zs) ∷ map (Signed id) zs
+joinedEvents (floatArray id w xs) = Array id (floats w) (length xs) ∷ map (Float id w) xs
+joinedEvents (begin id) = Begin id ∷ []
+joinedEvents (end id) = End ∷ []
+
+unfoldable pub fieldsJoined : List Field → List Event
+fieldsJoined [] = []
+fieldsJoined (x ∷ xs) = joinedEvents x ++ fieldsJoined xs
+
 -- an array's announcement: its header and its count, and a float array's word
 abbrev pub arrayBytes : ℕ → Kind → ℕ → List ℕ
 arrayBytes id unsigneds n = header id T-unsigneds ++ shortest n

@@ -8,7 +8,7 @@ use Rattle.layout.specs.Limits.{base, pick, lastPlace, lastBound}
 use Rattle.layout.specs.Varint.{push, varintFrom, shortestIn, shortest}
 use Rattle.layout.specs.Field.{Field, fp32, fp64, string, blob, float, raw, unsigneds, signeds, floats, lowBytes, each}
 use Rattle.layout.specs.Field.{unsigned, signed, payload, unsignedArray, signedArray, floatArray, begin, end}
-use Rattle.layout.specs.Event.{Event, Unsigned, Signed, Float, Piece, Fixlen, Array, Begin, End}
+use Rattle.layout.specs.Event.{Event, Unsigned, Signed, Float, Piece, Fixlen, Array, Begin, End, partOf, goesOn, joinTwo, joinTo, joined}
 use Rattle.layout.specs.Reading.{given, follow, lowFrom}
 use Rattle.layout.specs.Message.{Verdict, complete, incomplete, brokenAt}
 use Rattle.layout.specs.Message.{checked, unzigzagged, elements, payloadFrom, payloadOf, fixlen, floatArrayOf, body, field, depthAfter, fieldsFrom, message}
@@ -39,10 +39,15 @@ unfolding said
 saidAll [] = []
 saidAll (r ∷ rs) = said r ∷ saidAll rs
 
--- a row whose bytes are their own plain copy, and one that is broken at its nth byte
+-- a row whose bytes are their own plain copy
 abbrev good : List ℕ → List Field → List Event → Row
 good bs fs es = record { bytes = bs; fields = fs; events = es; verdict = complete; copy = bs }
 
+-- a complete row with another plain copy
+abbrev longer : List ℕ → List Field → List Event → List ℕ → Row
+longer bs fs es cs = record { bytes = bs; fields = fs; events = es; verdict = complete; copy = cs }
+
+-- a row that is broken at its nth byte
 abbrev bad : List ℕ → List Event → ℕ → Row
 bad bs es n = record { bytes = bs; fields = []; events = es; verdict = brokenAt n; copy = [] }
 
@@ -88,20 +93,8 @@ table =
     }
     ∷ bad (0x2B ∷ 0x80 ∷ 0x80 ∷ 0x80 ∷ 0x80 ∷ 0x08 ∷ []) [] 6
     -- "88 00 AC 82 00 copies to 08 AC 02; 36 0F to 36 07"; "07 alone: broken"
-    ∷ record {
-      bytes = 0x88 ∷ 0x00 ∷ 0xAC ∷ 0x82 ∷ 0x00 ∷ [];
-      fields = unsigned 1 300 ∷ [];
-      events = Unsigned 1 300 ∷ [];
-      verdict = complete;
-      copy = 0x08 ∷ 0xAC ∷ 0x02 ∷ [];
-    }
-    ∷ record {
-      bytes = 0x36 ∷ 0x0F ∷ [];
-      fields = begin 6 ∷ end 1 ∷ [];
-      events = Begin 6 ∷ End ∷ [];
-      verdict = complete;
-      copy = 0x36 ∷ 0x07 ∷ [];
-    }
+    ∷ longer (0x88 ∷ 0x00 ∷ 0xAC ∷ 0x82 ∷ 0x00 ∷ []) (unsigned 1 300 ∷ []) (Unsigned 1 300 ∷ []) (0x08 ∷ 0xAC ∷ 0x02 ∷ [])
+    ∷ longer (0x36 ∷ 0x0F ∷ []) (begin 6 ∷ end 1 ∷ []) (Begin 6 ∷ End ∷ []) (0x36 ∷ 0x07 ∷ [])
     ∷ bad (0x07 ∷ []) [] 1
     -- the bytes of "nine plain opens, ids 1 to 9, then nine plain closes"; and empty input
     ∷ good (0x0E ∷ 0x16 ∷ 0x1E ∷ 0x26 ∷ 0x2E ∷ 0x36 ∷ 0x3E ∷ 0x46 ∷ 0x4E ∷ replicate 9 0x07)
@@ -128,8 +121,33 @@ table =
     ∷ good (0x2C ∷ 0x02 ∷ 0x01 ∷ 0x02 ∷ []) (signedArray 5 (negsuc 0 ∷ pos 1 ∷ []) ∷ []) (Array 5 signeds 2 ∷ Signed 5 (negsuc 0) ∷ Signed 5 (pos 1) ∷ [])
     ∷ good (0x2D ∷ 0x01 ∷ 0x41 ∷ 0x01 ∷ 0x00 ∷ 0x00 ∷ 0x00 ∷ 0x00 ∷ 0x00 ∷ 0xF0 ∷ 0x7F ∷ []) (floatArray 5 fp64 (0x7FF0000000000001 ∷ []) ∷ []) (Array 5 (floats fp64) 1 ∷ Float 5 fp64 0x7FF0000000000001 ∷ [])
     ∷ good (0x22 ∷ 0x20 ∷ 0x00 ∷ 0x00 ∷ 0x00 ∷ 0x80 ∷ []) (float 4 fp32 0x80000000 ∷ []) (Fixlen 4 (float fp32) 4 ∷ Float 4 fp32 0x80000000 ∷ [])
+    -- "Longer varints than needed are accepted within 64 bits": nine 80 and then 00, as header and as value; a tenth byte 00, and 80
+    ∷ longer (replicate 9 0x80 ++ (0x00 ∷ 0x05 ∷ [])) (unsigned 0 5 ∷ []) (Unsigned 0 5 ∷ []) (0x00 ∷ 0x05 ∷ [])
+    ∷ longer (0x08 ∷ replicate 9 0x80 ++ (0x00 ∷ [])) (unsigned 1 0 ∷ []) (Unsigned 1 0 ∷ []) (0x08 ∷ 0x00 ∷ [])
+    ∷ longer (0x08 ∷ replicate 9 0xFF ++ (0x00 ∷ [])) (unsigned 1 9223372036854775807 ∷ []) (Unsigned 1 9223372036854775807 ∷ []) (0x08 ∷ replicate 8 0xFF ++ (0x7F ∷ []))
+    ∷ bad (0x08 ∷ replicate 10 0x80) [] 11
+    -- fp64 1.0, id 4; subtypes 5 to 7
+    ∷ good (0x22 ∷ 0x41 ∷ 0x00 ∷ 0x00 ∷ 0x00 ∷ 0x00 ∷ 0x00 ∷ 0x00 ∷ 0xF0 ∷ 0x3F ∷ []) (float 4 fp64 0x3FF0000000000000 ∷ []) (Fixlen 4 (float fp64) 8 ∷ Float 4 fp64 0x3FF0000000000000 ∷ [])
+    ∷ bad (0x1A ∷ 0x05 ∷ []) [] 2
+    ∷ bad (0x1A ∷ 0x06 ∷ []) [] 2
+    ∷ bad (0x1A ∷ 0x07 ∷ []) [] 2
+    -- "A close may carry any legal id, which is ignored": the highest, and one above it; an open at depth 255 is broken at its header's last byte
+    ∷ longer (0x36 ∷ 0xFF ∷ 0xFF ∷ 0xFF ∷ 0xFF ∷ 0x3F ∷ []) (begin 6 ∷ end 2147483647 ∷ []) (Begin 6 ∷ End ∷ []) (0x36 ∷ 0x07 ∷ [])
+    ∷ bad (0x36 ∷ 0x87 ∷ 0x80 ∷ 0x80 ∷ 0x80 ∷ 0x40 ∷ []) (Begin 6 ∷ []) 6
+    ∷ bad (replicate 255 0x06 ++ (0xFE ∷ 0xFF ∷ 0xFF ∷ 0xFF ∷ 0x3F ∷ [])) (replicate 255 (Begin 0)) 260
     ∷ []
 
 pub worked : saidAll table ≡ table
 unfolding saidAll fieldsOf eventsOf verdictOf plainCopy message wholeOf judged encode each fieldBytes shortest shortestIn lowBytes fieldsFrom depthAfter field body fixlen floatArrayOf payloadOf payloadFrom elements unzigzagged checked given follow lowFrom varintFrom push
 worked = refl
+
+-- "Each payload's pieces joined": the string "Hi", two empty blobs, and a string of one byte after the same one, all with id 3
+pub worked-joined : joined
+    (eventsOf base (0x1A ∷ 0x12 ∷ 0x48 ∷ 0x69 ∷ 0x1A ∷ 0x03 ∷ 0x1A ∷ 0x03 ∷ 0x1A ∷ 0x0A ∷ 0x48 ∷ 0x1A ∷ 0x0A ∷ 0x48 ∷ []))
+    ≡ Fixlen 3 (raw string) 2 ∷ Piece 3 string 2 0 (0x48 ∷ 0x69 ∷ [])
+    ∷ Fixlen 3 (raw blob) 0 ∷ Piece 3 blob 0 0 []
+    ∷ Fixlen 3 (raw blob) 0 ∷ Piece 3 blob 0 0 []
+    ∷ Fixlen 3 (raw string) 1 ∷ Piece 3 string 1 0 (0x48 ∷ [])
+    ∷ Fixlen 3 (raw string) 1 ∷ Piece 3 string 1 0 (0x48 ∷ []) ∷ []
+unfolding joined joinTo joinTwo goesOn partOf eventsOf message fieldsFrom depthAfter field body fixlen payloadOf payloadFrom checked given follow varintFrom push
+worked-joined = refl

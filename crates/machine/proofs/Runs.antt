@@ -4,38 +4,39 @@ use Prim.Native.Nat.{ℕ, zero, suc, _+_, _-_, _*_, _<_, _≤_, min}
 use native.Mathlib.Nat.{not-suc-le-zero}
 use native.Mathlib.Omega.{arith}
 use mathlib.Core.Path.{_≡_, refl, sym, ap, _∙_, subst}
+use mathlib.Core.Logic.{_↔_}
 use mathlib.Core.Bool.{Bool, true, false}
 use mathlib.Core.List.{List, [], _∷_, _++_, append-assoc, append-nil}
 use lib.Dec.{eqb}
 use lib.ListN.{length, take, drop, length-append, length-take, length-drop, take-append-drop}
 use lib.Seq.{take-add, take-length}
 use Rattle.layout.specs.Limits.{Limits, pick}
-use Rattle.layout.specs.Field.{Raw}
-use Rattle.layout.specs.Event.{Event, Unsigned, Signed, Float, Piece, Fixlen, Array, Begin, End, cutFrom, cutPiece, cut, bytewise}
-use Rattle.layout.specs.Varint.{Outcome, whole, short, broken}
+use Rattle.layout.specs.Event.{Event, joined, bytewise}
+use Rattle.layout.specs.Varint.{broken}
 use Rattle.layout.specs.Message.{Verdict, complete, incomplete, brokenAt, verdictOf, eventsOf, message, fieldsFrom, judged}
 use Rattle.machine.specs.Machine.{Phase, idle, inHeader, inUnsigned, inSigned, inWord, inUnsignedCount, inSignedCount, inFloatCount, inArrayWord, inFloat, inPayload}
 use Rattle.machine.specs.Machine.{Place, at, brokenBefore, walk, ending, endOf, judge}
-use Rattle.machine.specs.Call.{State, reading, owing, broke, fresh, Answer, event, verdict, invalid, Called, verdictAt, verdictSo, Standing, standingOf, standing, call}
+use Rattle.machine.specs.Call.{State, reading, owing, broke, fresh, Answer, event, verdict, invalid, verdictAt, verdictSo, Standing, standingOf, standing, call}
 use Rattle.machine.specs.Call as Call
-use Rattle.machine.specs.Run.{given, due, Follows, Ending, ended, unfinished, Chunk, more, calls, chunk, Heard, status, refused, heardOf, seen, Read, chunks, verdictsOf, heardAll, join}
+use Rattle.machine.specs.Run.{given, due, Follows, Ending, ended, unfinished, Chunk, more, calls, chunk, Heard, status, heardOf, seen, chunks, verdictsOf, heardAll, readOf, lastHeard, join}
+use Rattle.layout.proofs.Joined.{joined-exactly, joined-run, bytewise-again}
 use Rattle.machine.proofs.Bridge.{events-walk, verdict-walk}
 use Rattle.machine.proofs.Prefix.{broken-stays}
-use Rattle.machine.proofs.Calls.{Judged, Closes, weight, Answered, bytewise-append, call-follows, fresh-follows}
+use Rattle.machine.proofs.Calls.{Judged, Closes, weight, call-follows, fresh-follows}
 
 -- ---- a chunk
 
--- how a chunk's calls end
-abbrev EndsAt : Ending Answer → State → ℕ → ℕ → Type 0
+-- how a chunk's calls end, k bytes of its m being read: a verdict comes once it is spent and is that of the place reached
+abbrev pub EndsAt : Ending Answer → State → ℕ → ℕ → Type 0
 EndsAt (ended (event e)) s k m = ⊥
 EndsAt (ended (verdict v)) s k m = (k ≡ m) × Judged s v
 EndsAt (ended invalid) s k m = s ≡ broke
 EndsAt unfinished s k m = ⊥
 
-record Ran (L : Limits) (bs : List ℕ) (es : List Event) (c : List ℕ) (r : Chunk) : Type 0 where
-  few : r .read ≤ length c
-  follows : Follows L (bs ++ take (r .read) c) (es ++ r .events) (r .state)
-  final : EndsAt (r .answer) (r .state) (r .read) (length c)
+pub record Ran (L : Limits) (bs : List ℕ) (es : List Event) (c : List ℕ) (r : Chunk) : Type 0 where
+  pub few : r .read ≤ length c
+  pub follows : Follows L (bs ++ take (r .read) c) (es ++ r .events) (r .state)
+  pub final : EndsAt (r .answer) (r .state) (r .read) (length c)
 
 -- one call, and the calls after it
 later : (L : Limits) (bs : List ℕ) (es : List Event) (c : List ℕ) (e : Event) (k : ℕ) (q : Chunk) → k ≤ length c
@@ -82,6 +83,15 @@ ran L (suc n) bs es s c f h =
     by-answer L n bs es s c (r .read) (r .state) (r .answer) (a .few) (a .closes) (a .follows)
     (λ e g l. ran L n (bs ++ take (r .read) c) (es ++ (e ∷ [])) (r .state) (drop (r .read) c) g (omega (arith, length-drop (r .read) c)))
 
+-- From any state of a run, a chunk's calls end with the events given and due the layout's for the bytes read.
+pub chunk-follows : (L : Limits) (bs : List ℕ) (es : List Event) (s : State) (c : List ℕ) → Follows L bs es s → Ran L bs es c (chunk L s c)
+chunk-follows L bs es s c f = ran L (2 * length c + 2) bs es s c f (enough s)
+  where
+    enough : (s : State) → 2 * length c + weight s < 2 * length c + 2
+    enough (reading d p) = omega arith
+    enough (owing d id r) = omega arith
+    enough broke = omega arith
+
 -- ---- a list of chunks
 
 -- All the bytes bs were handed, n of them read, and the events es given: the reader goes on from there, or stands broken.
@@ -112,25 +122,25 @@ same-verdict m d (inPayload id r total o) = refl
 
 -- and that is complete or incomplete
 abbrev Plain : Verdict → Type 0
-Plain v = (heardOf v ≡ status v) × (standingOf v ≡ unbroken (standingOf v))
+Plain v = (heardOf v ≡ status v) × (standingOf v ≡ unbroken (standingOf v)) × ((n : ℕ) → readOf n v ≡ n)
 
 plain-pick : (t : Bool) → Plain (pick t complete incomplete)
-plain-pick true = (refl, refl)
-plain-pick false = (refl, refl)
+plain-pick true = (refl, refl, λ n. refl)
+plain-pick false = (refl, refl, λ n. refl)
 
 plain-at : (d : ℕ) (p : Phase) → Plain (verdictAt d p)
 unfolding judge ending
 plain-at d (inHeader zero v) = plain-pick (eqb d 0)
-plain-at d (inHeader (suc k) v) = (refl, refl)
-plain-at d (inUnsigned id left k v) = (refl, refl)
-plain-at d (inSigned id left k v) = (refl, refl)
-plain-at d (inWord id k v) = (refl, refl)
-plain-at d (inUnsignedCount id k v) = (refl, refl)
-plain-at d (inSignedCount id k v) = (refl, refl)
-plain-at d (inFloatCount id k v) = (refl, refl)
-plain-at d (inArrayWord id c k v) = (refl, refl)
-plain-at d (inFloat id w left k v) = (refl, refl)
-plain-at d (inPayload id r total o) = (refl, refl)
+plain-at d (inHeader (suc k) v) = (refl, refl, λ n. refl)
+plain-at d (inUnsigned id left k v) = (refl, refl, λ n. refl)
+plain-at d (inSigned id left k v) = (refl, refl, λ n. refl)
+plain-at d (inWord id k v) = (refl, refl, λ n. refl)
+plain-at d (inUnsignedCount id k v) = (refl, refl, λ n. refl)
+plain-at d (inSignedCount id k v) = (refl, refl, λ n. refl)
+plain-at d (inFloatCount id k v) = (refl, refl, λ n. refl)
+plain-at d (inArrayWord id c k v) = (refl, refl, λ n. refl)
+plain-at d (inFloat id w left k v) = (refl, refl, λ n. refl)
+plain-at d (inPayload id r total o) = (refl, refl, λ n. refl)
 
 verdict-at : (L : Limits) (bs : List ℕ) (d : ℕ) (p : Phase) → walk L 0 idle bs .place ≡ at d p → verdictOf L bs ≡ verdictAt d p
 unfolding endOf
@@ -184,7 +194,7 @@ broken-chunk L bs es n c v e m =
 chunked : (L : Limits) (bs : List ℕ) (es : List Event) (n : ℕ) (s : State) (c : List ℕ) → Stands L bs es n s → Chunked L bs es n c (chunk L s c)
 chunked L bs es n (reading d p) c (clear f m) =
     let r = chunk L (reading d p) c in
-    let h = ran L (2 * length c + 2) bs es (reading d p) c f (omega arith) in
+    let h = chunk-follows L bs es (reading d p) c f in
     chunked-from L bs es n c (r .events) (r .read) (r .answer) (r .state) m (h .few) (h .follows) (h .final)
 chunked L bs es n broke c (gone v e) =
     let m : suc (2 * length c + 1) ≡ 2 * length c + 2 = omega arith in
@@ -199,12 +209,22 @@ unfolding standing
 stands-standing L bs es n (reading d p) (clear f m) = ap standingOf (sym (verdict-at L bs d p (f .place)))
 stands-standing L bs es n broke (gone v e) = ap standingOf (sym v)
 
+stands-read : (L : Limits) (bs : List ℕ) (es : List Event) (n : ℕ) (s : State) → Stands L bs es n s → n ≡ readOf (length bs) (verdictOf L bs)
+stands-read L bs es n (reading d p) (clear f m) = m ∙ sym (ap (readOf (length bs)) (verdict-at L bs d p (f .place)) ∙ plain-at d p .2 (length bs))
+stands-read L bs es n broke (gone v e) = ap (readOf (length bs)) (sym v)
+
 -- For every list of chunks: the events given, bytewise, are the layout's for the bytes handed, and so is the verdict after each chunk.
 reads-from : (L : Limits) (bs : List ℕ) (es : List Event) (n : ℕ) (s : State) (cs : List (List ℕ)) → Stands L bs es n s
     → (bytewise (es ++ chunks L s n cs .events) ≡ eventsOf L (bs ++ join cs)) × (chunks L s n cs .verdicts ≡ heardAll (verdictsOf L bs cs))
-    × (standing (chunks L s n cs .state) ≡ standingOf (verdictOf L (bs ++ join cs)))
+    × (standing (chunks L s n cs .state) ≡ standingOf (verdictOf L (bs ++ join cs))) × (chunks L s n cs .read ≡ readOf (length (bs ++ join cs)) (verdictOf L (bs ++ join cs)))
 unfolding chunks verdictsOf join
-reads-from L bs es n s [] h = (ap bytewise (append-nil es) ∙ stands-events L bs es n s h ∙ ap (eventsOf L) (sym (append-nil bs)), refl, stands-standing L bs es n s h ∙ ap (λ (l : List ℕ). standingOf (verdictOf L l)) (sym (append-nil bs)))
+reads-from L bs es n s [] h =
+    let z : bs ≡ bs ++ [] = sym (append-nil bs) in (
+      ap bytewise (append-nil es) ∙ stands-events L bs es n s h ∙ ap (eventsOf L) z,
+      refl,
+      stands-standing L bs es n s h ∙ ap (λ (l : List ℕ). standingOf (verdictOf L l)) z,
+      stands-read L bs es n s h ∙ ap (λ (l : List ℕ). readOf (length l) (verdictOf L l)) z,
+    )
 reads-from L bs es n s (c ∷ cs) h =
     let r = chunk L s c in
     let q = chunked L bs es n s c h in
@@ -212,14 +232,16 @@ reads-from L bs es n s (c ∷ cs) h =
       ap bytewise (sym (append-assoc es (r .events) _)) ∙ i .0 ∙ ap (eventsOf L) (append-assoc bs c (join cs)),
       ap (λ (v : Heard). v ∷ chunks L (r .state) (n + r .read) cs .verdicts) (q .sees) ∙ ap (λ (l : List Heard). heardOf (verdictOf L (bs ++ c)) ∷ l) (i .1),
       i .2 ∙ ap (λ (l : List ℕ). standingOf (verdictOf L l)) (append-assoc bs c (join cs)),
+      i .3 ∙ ap (λ (l : List ℕ). readOf (length l) (verdictOf L l)) (append-assoc bs c (join cs)),
     )
 
 -- THE RUN THEOREM. A fresh reader that is handed the chunks in order, each to its end: the events given, payload pieces joined, are the
 -- layout's; what is heard after each chunk is the layout's verdict for the bytes so far, number 2 coming at the layout's byte; and the
--- reader stands at the end as the layout's verdict for all the bytes, after no chunk at all too.
+-- reader stands at the end as the layout's verdict for all the bytes, after no chunk at all too, with all bytes read or, of a broken
+-- message, those up to the offending one.
 pub reads : (L : Limits) (cs : List (List ℕ))
     → (bytewise (chunks L fresh 0 cs .events) ≡ eventsOf L (join cs)) × (chunks L fresh 0 cs .verdicts ≡ heardAll (verdictsOf L [] cs))
-    × (standing (chunks L fresh 0 cs .state) ≡ standingOf (verdictOf L (join cs)))
+    × (standing (chunks L fresh 0 cs .state) ≡ standingOf (verdictOf L (join cs))) × (chunks L fresh 0 cs .read ≡ readOf (length (join cs)) (verdictOf L (join cs)))
 reads L cs = reads-from L [] [] 0 fresh cs (clear (fresh-follows L) refl)
 
 -- "Empty input to a fresh reader, or no chunk at all, is complete."
@@ -248,29 +270,25 @@ verdict-so (reading d p) = plain-at d p .1
 verdict-so (owing d id r) = refl
 verdict-so broke = refl
 
--- ---- joined
+-- What is heard at last is the layout's verdict for all the bytes; "no chunk at all, is complete".
+last-heard : (L : Limits) (bs : List ℕ) (h : Heard) (cs : List (List ℕ)) → h ≡ heardOf (verdictOf L bs) → lastHeard h (heardAll (verdictsOf L bs cs)) ≡ heardOf (verdictOf L (bs ++ join cs))
+unfolding lastHeard verdictsOf join
+last-heard L bs h [] e = e ∙ ap (λ (l : List ℕ). heardOf (verdictOf L l)) (sym (append-nil bs))
+last-heard L bs h (c ∷ cs) e =
+    last-heard L (bs ++ c) (heardOf (verdictOf L (bs ++ c))) cs refl ∙ ap (λ (l : List ℕ). heardOf (verdictOf L l)) (append-assoc bs c (join cs))
 
-cut-from-again : (id : ℕ) (r : Raw) (total o : ℕ) (bs : List ℕ) → bytewise (cutFrom id r total o bs) ≡ cutFrom id r total o bs
-unfolding cutFrom bytewise cut cutPiece
-cut-from-again id r total o [] = refl
-cut-from-again id r total o (b ∷ bs) = ap (λ (l : List Event). Piece id r total o (b ∷ []) ∷ l) (cut-from-again id r total (suc o) bs)
+pub verdicts-last : (L : Limits) (cs : List (List ℕ)) → lastHeard (status complete) (heardAll (verdictsOf L [] cs)) ≡ heardOf (verdictOf L (join cs))
+verdicts-last L cs = last-heard L [] (status complete) cs (ap heardOf (sym (no-chunk-complete L .1)))
 
-cut-again : (e : Event) → bytewise (cut e) ≡ cut e
-unfolding bytewise cut cutPiece
-cut-again (Unsigned id n) = refl
-cut-again (Signed id z) = refl
-cut-again (Float id w x) = refl
-cut-again (Piece id r total o []) = refl
-cut-again (Piece id r total o (b ∷ bs)) = cut-from-again id r total o (b ∷ bs)
-cut-again (Fixlen id s total) = refl
-cut-again (Array id k n) = refl
-cut-again (Begin id) = refl
-cut-again End = refl
+-- ---- pieces joined
 
-bytewise-again : (es : List Event) → bytewise (bytewise es) ≡ bytewise es
-unfolding bytewise
-bytewise-again [] = refl
-bytewise-again (e ∷ es) = bytewise-append (cut e) (bytewise es) ∙ ap (λ (l : List Event). l ++ bytewise (bytewise es)) (cut-again e) ∙ ap (λ (l : List Event). cut e ++ l) (bytewise-again es)
+-- Payload pieces joined, the events given are the layout's,
+pub reads-joined : (L : Limits) (cs : List (List ℕ)) → joined (chunks L fresh 0 cs .events) ≡ joined (eventsOf L (join cs))
+reads-joined L cs = joined-run L (join cs) (chunks L fresh 0 cs .events) (reads L cs .0)
+
+-- and so the same for any two ways to cut a message into chunks.
+pub same-events : (L : Limits) (cs ds : List (List ℕ)) → join cs ≡ join ds → joined (chunks L fresh 0 cs .events) ≡ joined (chunks L fresh 0 ds .events)
+same-events L cs ds e = reads-joined L cs ∙ ap (λ (l : List ℕ). joined (eventsOf L l)) e ∙ sym (reads-joined L ds)
 
 -- The layout's own events have their pieces cut into bytes already.
 pub events-bytewise : (L : Limits) (bs : List ℕ) → bytewise (eventsOf L bs) ≡ eventsOf L bs
@@ -279,6 +297,9 @@ events-bytewise L bs =
     let r = reads L (bs ∷ []) .0 ∙ ap (eventsOf L) (append-nil bs) in
     ap bytewise (sym r) ∙ bytewise-again (chunks L fresh 0 (bs ∷ []) .events) ∙ r
 
--- Any two ways to cut a message into chunks give the same events, pieces joined.
-pub same-events : (L : Limits) (cs ds : List (List ℕ)) → join cs ≡ join ds → bytewise (chunks L fresh 0 cs .events) ≡ bytewise (chunks L fresh 0 ds .events)
-same-events L cs ds e = reads L cs .0 ∙ ap (eventsOf L) e ∙ sym (reads L ds .0)
+-- So two messages have the same events with their pieces joined exactly when they have the same events.
+pub joined-injective : (L : Limits) (xs ys : List ℕ) → (joined (eventsOf L xs) ≡ joined (eventsOf L ys)) ↔ (eventsOf L xs ≡ eventsOf L ys)
+joined-injective L xs ys = (
+  λ e. sym (events-bytewise L xs) ∙ joined-exactly (eventsOf L xs) (eventsOf L ys) .0 e ∙ events-bytewise L ys,
+  ap joined,
+)

@@ -10,7 +10,7 @@ use lib.ListN.{length, drop}
 use Rattle.layout.specs.Limits.{base, pick}
 use Rattle.layout.specs.Event as layout
 use Rattle.machine.specs.Call as machine
-use Rattle.machine.specs.Call.{State, reading, owing, broke, Called, call}
+use Rattle.machine.specs.Call.{State, reading, owing, broke, call}
 use Rattle.machine.specs.Run.{Ending, ended, unfinished}
 use Rattle.machine.proofs.Ends.{turns, one-empty, call-nearer}
 use Rattle.types.specs.Types.{refusal}
@@ -20,7 +20,7 @@ use Rattle.istream.specs.declared.IStream.{IStream}
 use Rattle.istream.specs.declared.Answer.{Answer}
 use Rattle.istream.specs.declared.Answer.the-variants.{Event, Status, Refused}
 use Rattle.istream.specs.declared.Fed as Given
-use Rattle.istream.specs.Stream.{stateOf, streamIn, soundStream, answerIn, fedIn, still, fedFrom, fedOf}
+use Rattle.istream.specs.Stream.{stateOf, soundStream, answerIn, fedIn, fedFrom, fedOf}
 use Rattle.istream.proofs.Calls.{state-of-stream}
 use Rattle.reading.specs.Feeds.{Fed, feeds, feed}
 

@@ -2,41 +2,41 @@
 use Prim.Native.Nat.{ℕ, zero, suc, _+_, _-_, _*_, _/_, _%_, _^_, _<_, _≤_, min}
 use native.Mathlib.Omega.{arith}
 use mathlib.Core.Path.{_≡_, refl, sym, ap, _∙_, subst}
+use mathlib.Core.Logic.{_↔_}
 use mathlib.Core.Bool.{Bool, true, false}
-use mathlib.Core.List.{List, [], _∷_, _++_, append-nil}
-use lib.ListN.{length, take, drop, getD, length-take, length-drop}
-use lib.Seq.{slice, take-all, take-take}
+use mathlib.Core.List.{List, [], _∷_, _++_}
+use lib.ListN.{length, take, drop, getD, length-take}
 use lib.Dec.{ltb, leb, eqb}
-use borrow.Author.Tests.{ltb-true, ltb-false}
-use Rattle.layout.specs.Limits.{Limits, base, pick}
+use borrow.Author.Tests.{ltb-false}
+use Rattle.layout.specs.Limits.{base, pick}
 use Rattle.layout.specs.Varint.{Push, more, value, overrun, push}
 use Rattle.layout.specs.Field.{Width, fp32, fp64, Raw, Subtyped, Wire, bytesOf, subtypeOf, wireOf, float, raw, known, unknown}
 use Rattle.layout.specs.Field.{T-unsigned, T-signed, T-fixlen, T-unsigneds, T-signeds, T-floats, T-begin, T-end}
-use Rattle.layout.specs.Event.{Event, Unsigned, Signed, Float, Piece, Fixlen, Array, Begin, End, bytewise}
-use Rattle.layout.specs.Message.{All, Bytes, Verdict, complete, incomplete, eventsOf, verdictOf}
+use Rattle.layout.specs.Event.{Event, Unsigned, Signed, Float, Piece, Fixlen, Array, Begin, End, joined, bytewise}
+use Rattle.layout.specs.Message.{All, Bytes, complete, incomplete, eventsOf, verdictOf}
+use Rattle.layout.proofs.Joined.{joined-run}
 use Rattle.machine.specs.Machine.{Phase, inHeader, inUnsigned, inSigned, inWord, inUnsignedCount, inSignedCount, inFloatCount, inArrayWord, inFloat, inPayload}
-use Rattle.machine.specs.Machine.{idle, Stepped, on, bad, nextOr, atWire, atHeader, atPayload, atSubtype, atWord, atUnsignedCount, atSignedCount, atFloatCount}
+use Rattle.machine.specs.Machine.{Stepped, on, bad, nextOr, atWire, atHeader, atPayload, atSubtype, atWord, atUnsignedCount, atSignedCount, atFloatCount}
 use Rattle.machine.specs.Machine.{atElement, atArrayWord, atUnsigned, atSigned, within, atFloat, step, ending, judge}
 use Rattle.machine.specs.Call.{State, reading, owing, broke, fresh, Answer, event, verdict, invalid, Called, verdictAt, Pace, byte, bulk, paceOf, piece, scanned, scan, call}
-use Rattle.machine.specs.Call.{Standing, standingOf, standing}
-use Rattle.machine.specs.Run.{given, due, Follows, Ending, ended, unfinished, Chunk, calls, Heard, status, seen, chunks, verdictsOf, heardAll, join}
+use Rattle.machine.specs.Call.{standingOf, standing}
+use Rattle.machine.specs.Run.{given, due, Follows, Ending, ended, unfinished, Chunk, calls, Heard, status, seen, chunks, verdictsOf, heardOf, heardAll, readOf, lastHeard, join}
 use Rattle.machine.proofs.Calls.{call-follows, fresh-follows}
-use Rattle.machine.proofs.Runs.{standingWith, standing-is, reads}
+use Rattle.machine.proofs.Runs.{standingWith, standing-is, reads, verdicts-last, joined-injective}
 use Rattle.event.specs.Event.{eventOf, declared}
 use Rattle.event.proofs.Laws.{InRange, declared-back}
 use Rattle.istream.specs.declared.IStream.{IStream}
 use Rattle.istream.specs.declared.Answer.the-variants as Answers
-use Rattle.istream.specs.declared.Status.the-variants.{Complete, Incomplete}
 use Rattle.istream.specs.declared.Fed as Given
 use Rattle.types.specs.Types.{refusal}
-use Rattle.istream.specs.Stream.{stateOf, streamIn, soundStream, statusIn, answerIn, fedIn, still, fedOf}
+use Rattle.istream.specs.Stream.{stateOf, streamIn, soundStream, statusIn, answerIn, fedIn, fedOf}
 use Rattle.stepped.specs.Steps.{covered}
 use Rattle.phase.specs.Sound.{SoundAt, SoundState, AtBytes, Kept}
-use Rattle.phase.proofs.Phases.{Live, byte-below}
+use Rattle.phase.proofs.Phases.{byte-below}
 use Rattle.phase.proofs.Keeps.{step-keeps}
 use Rattle.istream.proofs.Calls.{state-of-stream}
 use Rattle.istream.proofs.Laws.{is-sound, sound-is, fresh-sound, fed-sound, fed-broken, feed-keeps}
-use Rattle.reading.specs.Feeds.{Fed, feeds, feed, told, Run, feedAll, givenBy, Reached, start, called}
+use Rattle.reading.specs.Feeds.{Fed, feeds, told, Run, feedAll, givenBy, Reached, start, called}
 
 -- ---- a byte raises no piece, and a float's bits are of its width
 
@@ -348,16 +348,16 @@ told-is n unfinished h = refl
 -- ---- a list of chunks
 
 feedAll-is : (st : State) (n : ℕ) (cs : List (List ℕ)) → SoundState st → All Bytes cs
-    → feedAll (streamIn st) n cs ≡ record { events = chunks base st n cs .events; verdicts = chunks base st n cs .verdicts; stream = streamIn (chunks base st n cs .state) }
+    → feedAll (streamIn st) n cs ≡ record { events = chunks base st n cs .events; verdicts = chunks base st n cs .verdicts; read = chunks base st n cs .read; stream = streamIn (chunks base st n cs .state) }
 unfolding feedAll chunks
 feedAll-is st n [] h b = refl
 feedAll-is st n (c ∷ cs) h b =
     let r : Chunk = calls base (2 * length c + 2) st c in
-    let after : Heard → Run → Run = λ v q. record { events = r .events ++ q .events; verdicts = v ∷ q .verdicts; stream = q .stream } in
+    let after : Heard → Run → Run = λ v q. record { events = r .events ++ q .events; verdicts = v ∷ q .verdicts; read = q .read; stream = q .stream } in
     let s = calls-sound (2 * length c + 2) st c h (b .0) in
-    ap (λ (f : Fed). record { events = f .events ++ feedAll (f .stream) (n + f .read) cs .events; verdicts = told (n + f .read) (f .answer) ∷ feedAll (f .stream) (n + f .read) cs .verdicts; stream = feedAll (f .stream) (n + f .read) cs .stream }) (feeds-is (2 * length c + 2) st c h (b .0))
+    ap (λ (f : Fed). record { events = f .events ++ feedAll (f .stream) (n + f .read) cs .events; verdicts = told (n + f .read) (f .answer) ∷ feedAll (f .stream) (n + f .read) cs .verdicts; read = feedAll (f .stream) (n + f .read) cs .read; stream = feedAll (f .stream) (n + f .read) cs .stream }) (feeds-is (2 * length c + 2) st c h (b .0))
     ∙ ap (after (told (n + r .read) (final (r .answer)))) (feedAll-is (r .state) (n + r .read) cs s (b .1))
-    ∙ ap (λ (v : Heard). after v (record { events = chunks base (r .state) (n + r .read) cs .events; verdicts = chunks base (r .state) (n + r .read) cs .verdicts; stream = streamIn (chunks base (r .state) (n + r .read) cs .state) })) (told-is (n + r .read) (r .answer) (plain-calls (2 * length c + 2) st c))
+    ∙ ap (λ (v : Heard). after v (record { events = chunks base (r .state) (n + r .read) cs .events; verdicts = chunks base (r .state) (n + r .read) cs .verdicts; read = chunks base (r .state) (n + r .read) cs .read; stream = streamIn (chunks base (r .state) (n + r .read) cs .state) })) (told-is (n + r .read) (r .answer) (plain-calls (2 * length c + 2) st c))
 
 sound-start : SoundState fresh
 sound-start = is-sound (streamIn fresh) fresh-sound
@@ -365,17 +365,34 @@ sound-start = is-sound (streamIn fresh) fresh-sound
 -- THE READER'S RUN THEOREM. A fresh reader that is handed chunks in order, each to its end: the events given, payload pieces joined and
 -- floats by their bits, are the layout's for the bytes handed; what is heard after each chunk is the layout's verdict for the bytes so
 -- far, a broken message by number 2 at the layout's byte and by no other number; and the reader stands at the end as the layout's
--- verdict for all the bytes, after no chunk at all too.
+-- verdict for all the bytes, after no chunk at all too, with all bytes read or, of a broken message, those up to the offending one.
 pub feeds-read : (cs : List (List ℕ)) → All Bytes cs
     → (bytewise (feedAll (streamIn fresh) 0 cs .events) ≡ eventsOf base (join cs)) × (feedAll (streamIn fresh) 0 cs .verdicts ≡ heardAll (verdictsOf base [] cs))
     × (standing (stateOf (feedAll (streamIn fresh) 0 cs .stream)) ≡ standingOf (verdictOf base (join cs)))
+    × (feedAll (streamIn fresh) 0 cs .read ≡ readOf (length (join cs)) (verdictOf base (join cs)))
 feeds-read cs b =
     let e = feedAll-is fresh 0 cs sound-start b in
     let m = reads base cs in (
       ap (λ (r : Run). bytewise (r .events)) e ∙ m .0,
       ap (λ (r : Run). r .verdicts) e ∙ m .1,
       ap (λ (r : Run). standing (stateOf (r .stream))) e ∙ ap standing (state-of-stream (chunks base fresh 0 cs .state)) ∙ m .2,
+      ap (λ (r : Run). r .read) e ∙ m .3,
     )
+
+-- Payload pieces joined, those are the layout's events,
+pub feeds-joined : (cs : List (List ℕ)) → All Bytes cs → joined (feedAll (streamIn fresh) 0 cs .events) ≡ joined (eventsOf base (join cs))
+feeds-joined cs b = joined-run base (join cs) (feedAll (streamIn fresh) 0 cs .events) (feeds-read cs b .0)
+
+-- so that two readers of any chunks have given the same events, joined, exactly when the layout's are the same;
+pub feeds-same : (cs ds : List (List ℕ)) → All Bytes cs → All Bytes ds
+    → (joined (feedAll (streamIn fresh) 0 cs .events) ≡ joined (feedAll (streamIn fresh) 0 ds .events)) ↔ (eventsOf base (join cs) ≡ eventsOf base (join ds))
+feeds-same cs ds b d =
+    let i = joined-injective base (join cs) (join ds) in
+    (λ e. i .0 (sym (feeds-joined cs b) ∙ e ∙ feeds-joined ds d), λ e. feeds-joined cs b ∙ i .1 e ∙ sym (feeds-joined ds d))
+
+-- and what is heard at last is the verdict for all the bytes. "No chunk at all, is complete."
+pub feeds-last : (cs : List (List ℕ)) → All Bytes cs → lastHeard (status complete) (feedAll (streamIn fresh) 0 cs .verdicts) ≡ heardOf (verdictOf base (join cs))
+feeds-last cs b = ap (lastHeard (status complete)) (feeds-read cs b .1) ∙ verdicts-last base cs
 
 -- ---- any calls
 

@@ -1,2 +1,3 @@
 pub mod Series
 pub mod Written
+pub mod Public

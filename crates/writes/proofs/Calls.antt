@@ -4,17 +4,16 @@ use Prim.Native.Nat.{ℕ, _≤_, _<_}
 use mathlib.Core.Path.{_≡_, refl, sym, ap, _∙_}
 use mathlib.Core.Bool.{Bool, true, false, not}
 use mathlib.Core.List.{List, [], _∷_}
-use lib.Dec.{leb}
 use borrow.Author.Tests.{lt-leb}
 use lib.ListN.{length}
 use Rattle.layout.specs.Limits.{pick}
 use Rattle.types.specs.Types.{refusal}
 use Rattle.ostream.specs.declared.OStream.{OStream}
 use Rattle.ostream.specs.Stream.{at, soundStream}
-use Rattle.ostream.specs.Emission.{Test, Verdict, accepted, refusedWith, judged, refused, Call, called, calledBy}
+use Rattle.ostream.specs.Emission.{Test, Verdict, accepted, refusedWith, judged, Call, called, calledBy}
 use Rattle.ostream.specs.Calls.{unsound, idTooLarge, tooDeep, noneOpen}
 use Rattle.ostream.specs.Buffer.{badBuffer, countedBy, draining, changing}
-use Rattle.writes.specs.Series.{Op, callOf, Steady, numbersIn, numbersOf, Other, writes, drains, changes, said}
+use Rattle.writes.specs.Series.{callOf, numbersIn, numbersOf, writes, drains, changes, said}
 use Rattle.writes.specs.Written.{Write, puts, opens, closes, keeps, op}
 use Rattle.writes.specs.Public.{Public, writeUnsigned, writeSigned, writeBoolean, writeFixlen, writePayload, writeFloat, writeArrayUnsigned, writeArraySigned, writeArrayFloat}
 use Rattle.writes.specs.Public.{writeSequenceBeginLazy, writeSequenceEnd, writeSequenceEndKeep, writeOf, citedBy}

@@ -1,13 +1,13 @@
 -- How many drains a series costs: "A message of n bytes costs at most n drains, the last flush included unless it has no byte to send,
 -- where every buffer lent has at least one byte and starts at offset 0."
-use Prim.Native.Nat.{ℕ, zero, suc, _+_, _-_, _≤_, min}
+use Prim.Native.Nat.{ℕ, suc, _+_, _≤_}
 use native.Mathlib.Omega.{arith}
 use mathlib.Core.Path.{_≡_, refl, sym, ap, _∙_, subst}
 use mathlib.Core.Bool.{Bool, true, false, _&&_, _||_}
 use mathlib.Core.List.{List, [], _∷_, _++_}
 use lib.Dec.{ltb}
 use borrow.Author.Tests.{ltb-true}
-use lib.ListN.{length, take, drop, length-append, length-take}
+use lib.ListN.{length, take, drop, length-append}
 use lib.Seq.{length-take-le}
 use Rattle.layout.specs.Limits.{pick}
 use Rattle.layout.specs.Message.{All}
@@ -15,9 +15,9 @@ use Rattle.emit.specs.Put.{put}
 use Rattle.emit.proofs.Writes.{length-put}
 use Rattle.ostream.specs.declared.Count.the-variants as Counts
 use Rattle.ostream.specs.Stream.{at}
-use Rattle.ostream.proofs.Called.{Sound, is-sound}
+use Rattle.ostream.proofs.Called.{is-sound}
 use Rattle.writes.specs.Series.{Op, Desk, Act, write, drain, change, aside, other, beside, none, counts, sending, writing, act, acts, Allowed, Lawful, whole}
-use Rattle.writes.proofs.Runs.{Fine, Kept, by-write, by-change, by-aside, by-other, drained-desk, keeps, kept, all-sent}
+use Rattle.writes.proofs.Runs.{Fine, by-write, by-change, by-aside, by-other, drained-desk, keeps, kept, all-sent}
 
 -- every buffer lent has a byte and starts at 0
 abbrev pub Plain : Act → Type 0
@@ -36,13 +36,13 @@ pub record Lean (d : Desk) : Type 0 where
 
 -- a counted drain sends a byte at least
 sends-one : (d : Desk) → Lean d → counts d ≡ true → 1 ≤ d .stream .offset
-sends-one d l c = go (d .full) refl (none (d .ops)) (ltb 0 (d .stream .offset)) refl c
+sends-one d l c = go (d .full) refl (none (d .ops)) refl (ltb 0 (d .stream .offset)) refl
   where
-    go : (x : Bool) → d .full ≡ x → (y : Bool) (z : Bool) → ltb 0 (d .stream .offset) ≡ z → (x || (y && z)) ≡ true → 1 ≤ d .stream .offset
-    go true e y z f g = omega (arith, l .filled e, l .room)
-    go false e true true f g = ltb-true 0 (d .stream .offset) f
-    go false e true false f g = let w : _≡_ {A = ℕ} 0 1 = cc in absurd (omega arith)
-    go false e false z f g = let w : _≡_ {A = ℕ} 0 1 = cc in absurd (omega arith)
+    go : (x : Bool) → d .full ≡ x → (y : Bool) → none (d .ops) ≡ y → (z : Bool) → ltb 0 (d .stream .offset) ≡ z → 1 ≤ d .stream .offset
+    go true e y f z g = omega (arith, l .filled e, l .room)
+    go false e y f true g = ltb-true 0 (d .stream .offset) g
+    go false e true f false g = let w : false ≡ true = simp (e, f, g) at c in let v : _≡_ {A = ℕ} 0 1 = cc in absurd (omega arith)
+    go false e false f false g = let w : false ≡ true = simp (e, f, g) at c in let v : _≡_ {A = ℕ} 0 1 = cc in absurd (omega arith)
 
 lean-sending : (d : Desk) (b : List ℕ) → Fine d → Lean d → 1 ≤ length b → Lean (sending d (Counts.Bytes (d .stream .offset)) (at (d .stream) 0) b [])
 lean-sending d b f l h =

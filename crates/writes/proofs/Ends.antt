@@ -1,26 +1,24 @@
 -- Calling on ends: from any desk of a series, at any position of any buffer of one byte or more, some number of calls, with a drain at
 -- each "full", leaves no write to be made, and more turns change nothing.
 use Prim.Native.Nat.{ℕ, zero, suc, _+_, _-_, _≤_, _<_}
-use native.Mathlib.Nat.{le-refl, not-suc-le-zero}
+use native.Mathlib.Nat.{not-suc-le-zero}
 use native.Mathlib.Omega.{arith}
 use mathlib.Core.Path.{_≡_, refl, sym, ap, _∙_, subst}
 use mathlib.Core.Bool.{Bool, true, false}
 use mathlib.Core.List.{List, [], _∷_, _++_}
 use mathlib.Core.Logic.{_⊎_, inl, inr}
-use lib.ListN.{length, take, drop, length-append, length-drop}
+use lib.ListN.{length, drop, length-append, length-drop}
 use Rattle.layout.specs.Limits.{pick}
 use Rattle.layout.specs.Message.{All}
-use Rattle.types.specs.declared.Error.{Error}
 use Rattle.emit.specs.Put.{put}
 use Rattle.emit.proofs.Writes.{length-put}
 use Rattle.ostream.specs.declared.OStream.{OStream}
-use Rattle.ostream.specs.declared.Answer.the-variants.{Done, Full, Refused}
 use Rattle.ostream.specs.declared.Count.the-variants as Counts
 use Rattle.ostream.specs.Stream.{at}
 use Rattle.ostream.specs.Emission.{Verdict, accepted, refusedWith}
-use Rattle.ostream.proofs.Called.{Sound, is-sound}
-use Rattle.writes.specs.Series.{Op, verdict, outputBy, doneBy, Steady, outputs, Desk, Act, write, drain, wrote, sending, writing, act, acts, none, Allowed, Lawful, next, Outcome, ended, underway, carried, Ends}
-use Rattle.writes.proofs.Runs.{Placed, Fine, Kept, outputs-at, outputs-first, placed-in, kept-all, kept-part, kept-none, by-write, drained-desk, keeps}
+use Rattle.ostream.proofs.Called.{is-sound}
+use Rattle.writes.specs.Series.{Op, verdict, outputBy, doneBy, Steady, outputs, Desk, Act, write, drain, writing, act, acts, none, Allowed, Lawful, next, Outcome, ended, underway, carried, Ends}
+use Rattle.writes.proofs.Runs.{Placed, Fine, outputs-at, outputs-first, placed-in, kept-all, kept-part, kept-none, by-write, drained-desk, keeps}
 use Rattle.writes.proofs.Drains.{Plain}
 
 -- ---- a turn

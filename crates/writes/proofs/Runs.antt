@@ -1,35 +1,33 @@
 -- The writer's run theorem: whatever writes, drains, buffer changes and refused calls come, no byte is lost or made up, so that what was
 -- sent, once no write is left, is the whole output of the accepted writes, and the refused ones have their numbers.
-use Prim.Native.Nat.{ℕ, zero, suc, _+_, _-_, _≤_, _<_, min}
+use Prim.Native.Nat.{ℕ, _+_, _-_, _≤_, _<_, min}
 use native.Mathlib.Nat.{le-refl}
 use native.Mathlib.Omega.{arith}
 use mathlib.Core.Path.{_≡_, refl, sym, ap, _∙_, subst}
-use mathlib.Core.Bool.{Bool, true, false, not, _&&_, _||_}
+use mathlib.Core.Bool.{Bool, true, false}
 use mathlib.Core.List.{List, [], _∷_, _++_, append-assoc, append-nil}
-use lib.Dec.{ltb, leb, eqb}
-use borrow.Author.Tests.{ltb-true, ltb-false, leb-true, leb-false, le-ltb, le-leb, lt-leb}
-use lib.ListN.{length, take, drop, length-append, length-take, length-drop, take-append-drop, drop-of-length-le}
-use lib.Seq.{take-all, take-take, take-append-le, length-take-le, drop-append-le, drop-drop, drop-append-add}
+use lib.Dec.{ltb, leb}
+use borrow.Author.Tests.{ltb-false, leb-true, leb-false, le-ltb, le-leb, lt-leb}
+use lib.ListN.{length, take, drop, length-take, length-drop, take-append-drop, drop-of-length-le}
+use lib.Seq.{take-all, take-take, take-append-le, length-take-le, drop-append-le, drop-drop}
 use Rattle.layout.specs.Limits.{pick}
 use Rattle.layout.specs.Message.{All}
 use Rattle.types.specs.declared.Error.{Error}
 use Rattle.types.specs.Types.{numberOf, refusal}
-use Rattle.emit.specs.Put.{put, over}
+use Rattle.emit.specs.Put.{put}
 use Rattle.emit.proofs.Writes.{put-is, take-over, length-put}
 use Rattle.ostream.specs.declared.OStream.{OStream}
-use Rattle.ostream.specs.declared.Answer.{Answer}
 use Rattle.ostream.specs.declared.Answer.the-variants.{Done, Full, Refused}
 use Rattle.ostream.specs.declared.Written.{Written}
-use Rattle.ostream.specs.declared.Count.{Count}
 use Rattle.ostream.specs.declared.Count.the-variants as Counts
 use Rattle.ostream.specs.declared.Counted.{Counted}
 use Rattle.ostream.specs.Stream.{at, soundStream}
-use Rattle.ostream.specs.Emission.{Test, Verdict, accepted, refusedWith, judged, refused, Call, answered, left, called, leaves, calledBy, leavesBy}
+use Rattle.ostream.specs.Emission.{Verdict, accepted, refusedWith, judged, refused, Call, answered, left, called, leaves, calledBy, leavesBy}
 use Rattle.ostream.specs.Calls.{unsound}
 use Rattle.ostream.specs.Buffer.{badBuffer, countedBy, draining, changing}
-use Rattle.ostream.proofs.Called.{Sound, is-sound, both}
+use Rattle.ostream.proofs.Called.{is-sound, both}
 use Rattle.writes.specs.Series.{Able, Op, callOf, verdict, outputBy, doneBy, numbersBy, Steady, outputs, refusals, Desk, numbersIn, numbersOf, Other, writes, drains, changes}
-use Rattle.writes.specs.Series.{Act, write, drain, change, aside, other, after, wrote, beside, sending, writing, said, act, acts, Refusal, Allowed, Lawful, whole, wholeRefused}
+use Rattle.writes.specs.Series.{Act, write, drain, change, aside, other, wrote, beside, sending, writing, said, act, acts, Refusal, Allowed, Lawful, whole, wholeRefused}
 
 -- ---- what is kept
 

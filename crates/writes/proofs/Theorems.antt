@@ -6,24 +6,22 @@ use native.Mathlib.Omega.{arith}
 use mathlib.Core.Path.{_≡_, refl, sym, ap, _∙_, subst}
 use mathlib.Core.Bool.{Bool, true, false}
 use mathlib.Core.List.{List, [], _∷_, _++_}
-use lib.Dec.{ltb, leb, eqb}
-use borrow.Author.Tests.{leb-false, ltb-false}
-use lib.ListN.{length, take, drop, drop-of-length-le}
+use lib.Dec.{ltb, leb}
+use borrow.Author.Tests.{leb-false, ltb-false, le-ltb}
+use lib.ListN.{length, take, drop-of-length-le}
 use lib.Seq.{length-take-le}
 use Rattle.layout.specs.Limits.{pick}
 use Rattle.layout.specs.Message.{All}
 use Rattle.layout.specs.Field.{each}
 use Rattle.types.specs.Types.{refusal}
-use Rattle.ostream.specs.declared.OStream.{OStream}
 use Rattle.ostream.specs.declared.Answer.the-variants.{Done}
 use Rattle.ostream.specs.declared.Written.{Written}
 use Rattle.ostream.specs.Stream.{at, every, opened}
 use Rattle.ostream.specs.Emission.{refused}
 use Rattle.ostream.specs.Buffer.{opening}
-use Rattle.ostream.proofs.Called.{Sound}
-use Rattle.writes.specs.Series.{Able, Op, outputs, refusals, Desk, Act, drain, act, acts, Lawful, numbersIn, reservedBy, fresh, begun, whole, wholeRefused, Ends, join}
-use Rattle.writes.specs.Written.{itemBytes, Write, written, opsOf, Accepted, taken, series, messageOf, refusedOf}
-use Rattle.writes.proofs.Runs.{Fine, Kept, at-start, outputs-at, refusals-at, kept, all-sent, all-told}
+use Rattle.writes.specs.Series.{Able, Op, outputs, Desk, Act, drain, act, acts, Lawful, numbersIn, reservedBy, fresh, begun, whole, wholeRefused, Ends, join}
+use Rattle.writes.specs.Written.{itemBytes, Write, written, opsOf, Accepted, series, messageOf, refusedOf}
+use Rattle.writes.proofs.Runs.{Fine, at-start, outputs-at, refusals-at, kept, all-sent, all-told}
 use Rattle.writes.proofs.Drains.{Plain, Lean, lean-acts, few-drains}
 use Rattle.writes.proofs.Ends.{calling-ends}
 use Rattle.writes.proofs.Transfers.{Stays, first-drain}
@@ -38,6 +36,11 @@ opening-refused b o drained t = simp t
 opening-taken : (b : List ℕ) (o : ℕ) (drained : Bool) → pick drained (leb (length b) o) (ltb (length b) o) ≡ false → opening (length b) o drained ≡ record { answer = Done; stream = opened o }
 unfolding opening
 opening-taken b o drained t = simp t
+
+-- `OStream::new` is an opening at 0 that is taken over every buffer.
+pub opening-new : (size : ℕ) → opening size 0 false ≡ record { answer = Done; stream = opened 0 }
+unfolding opening
+opening-new size = simp (le-ltb size 0 (omega arith))
 
 -- by what it answers: taken at the offset, or refused with 5
 by-opening : (P : Desk → Type 0) (b : List ℕ) (o : ℕ) (drained : Bool) (ops : List Op) → (o ≤ length b → P (fresh (opened o) b (take o b) ops [])) → P (fresh (opened 0) b [] ops (5 ∷ []))
@@ -67,10 +70,6 @@ fresh-fine b o ws numbers h =
 -- Whatever it answers, the series stands at its start: nothing is sent, and all is still to be put out.
 pub begun-fine : (b : List ℕ) (o : ℕ) (drained : Bool) (ws : List Write) → Fine (series b o drained ws)
 begun-fine b o drained ws = by-opening Fine b o drained (opsOf ws) (fresh-fine b o ws []) (fresh-fine b 0 ws (5 ∷ []) (omega arith))
-
-opened-at : (o : ℕ) → opened o ≡ at (opened 0) o
-unfolding opened
-opened-at o = refl
 
 fresh-whole : (b : List ℕ) (o : ℕ) (ws : List Write) (numbers : List ℕ) → o ≤ length b → whole (fresh (opened o) b (take o b) (opsOf ws) numbers) ≡ messageOf ws
 unfolding whole opened messageOf

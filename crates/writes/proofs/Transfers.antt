@@ -1,20 +1,29 @@
 -- What each drain sends: "Opening at offset o leaves the buffer's first o bytes as they came; they go out with the first drain, after
 -- which writing starts at 0."
-use Prim.Native.Nat.{ℕ, _≤_}
-use mathlib.Core.Path.{_≡_, refl, sym, ap, _∙_, subst}
+use Prim.Native.Nat.{ℕ}
+use mathlib.Core.Path.{_≡_, refl, sym, ap, _∙_}
+use mathlib.Core.Bool.{Bool, true, false}
 use mathlib.Core.List.{List, [], _∷_, _++_, append-assoc, append-nil}
 use lib.ListN.{length, take, drop, take-append-drop}
 use lib.Seq.{take-take}
 use Rattle.layout.specs.Message.{All}
 use Rattle.ostream.specs.declared.Count.the-variants as Counts
-use Rattle.ostream.specs.Stream.{at}
-use Rattle.ostream.specs.Buffer.{sent}
-use Rattle.writes.specs.Series.{Op, Desk, Act, write, drain, change, aside, other, beside, sending, writing, act, acts, Allowed, Lawful, join}
-use Rattle.writes.proofs.Runs.{Fine, Kept, by-write, by-aside, by-other, drained-desk, keeps, kept}
+use Rattle.ostream.specs.declared.Counted.{Counted}
+use Rattle.ostream.specs.Buffer.{badBuffer, sent}
+use Rattle.writes.specs.Series.{Op, Desk, Act, write, drain, change, aside, other, sending, writing, act, acts, Allowed, Lawful, join}
+use Rattle.writes.proofs.Runs.{Fine, by-write, by-aside, by-other, drained-desk, change-taken, keeps, kept}
 
 -- A drain sends the bytes below the position, and what follows it has none reserved.
 pub sends : (d : Desk) → Fine d → (act drain d .transfers ≡ d .transfers ++ (sent (d .stream) (d .buf) ∷ [])) × (act drain d .reserved ≡ [])
 sends d f = (ap (λ (x : Desk). x .transfers) (drained-desk d f), ap (λ (x : Desk). x .reserved) (drained-desk d f))
+
+-- So does a change that is taken, and the buffer lent then has its first bytes reserved.
+pub change-sends : (d : Desk) (b : List ℕ) (o : ℕ) (drained : Bool) → Fine d → badBuffer (length b) o drained .fails ≡ false
+    → (act (change b o drained) d .transfers ≡ d .transfers ++ (sent (d .stream) (d .buf) ∷ [])) × (act (change b o drained) d .reserved ≡ take o b)
+unfolding act
+change-sends d b o drained f t =
+    let e = change-taken d b o drained f t in
+    (ap (λ (r : Counted). sending d (r .answer) (r .stream) b (take o b) .transfers) e, ap (λ (r : Counted). sending d (r .answer) (r .stream) b (take o b) .reserved) e)
 
 -- These are the reserved bytes as they came, and then the message's.
 pub sends-reserved : (d : Desk) → Fine d → sent (d .stream) (d .buf) ≡ d .reserved ++ drop (length (d .reserved)) (sent (d .stream) (d .buf))

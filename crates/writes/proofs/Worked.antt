@@ -1,5 +1,4 @@
 -- Series worked out: 01's example of held sequences, the numbers of refused writes, and a run over a small buffer, drained at "full".
-use Prim.Native.Nat.{ℕ}
 use mathlib.Core.Path.{_≡_, refl}
 use mathlib.Core.Bool.{true}
 use mathlib.Core.List.{List, [], _∷_}
@@ -12,7 +11,7 @@ use Rattle.ostream.specs.Stream.{every, soundStream, heldBytes, committed, hold
 use Rattle.ostream.specs.Emission.{answered, left, called, calledBy, leaves, leavesBy}
 use Rattle.ostream.specs.Calls.{idTooLarge, payloadTooLong, stringSubtype}
 use Rattle.ostream.specs.Buffer.{opening, draining, changing}
-use Rattle.writes.specs.Series.{Desk, Act, write, drain, change, aside, other, drains, writing, act, acts, begun, refusals}
+use Rattle.writes.specs.Series.{Desk, write, drain, change, aside, other, drains, writing, act, acts, begun, refusals}
 use Rattle.writes.specs.Written.{Write, puts, opens, closes, keeps, field, op, written, taken, series, messageOf, refusedOf}
 
 -- "Nine plain opens, ids 1 to 9, then nine plain closes: 0E 16 1E 26 2E 36 3E 46 4E and nine 07. One open and plain close: no bytes."

@@ -3,27 +3,26 @@ use Prim.Native.Nat.{ℕ, zero, suc, _+_, _-_, _≤_, _<_}
 use native.Mathlib.Omega.{arith}
 use native.Mathlib.Nat.{le-refl, not-suc-le-zero}
 use native.Mathlib.Numerals.{add-one}
-use mathlib.Core.Path.{_≡_, refl, sym, ap, _∙_, subst}
-use mathlib.Core.Bool.{Bool, true, false, not, _&&_}
-use mathlib.Core.List.{List, [], _∷_, _++_, append-assoc, append-nil}
+use mathlib.Core.Path.{_≡_, refl, sym, ap, _∙_}
+use mathlib.Core.Bool.{Bool, true, false, not}
+use mathlib.Core.List.{List, [], _∷_, _++_, append-assoc}
 use lib.Dec.{ltb, leb, eqb}
-use borrow.Author.Tests.{ltb-true, ltb-false, leb-true, leb-false, eqb-true, eqb-false, lt-ltb, le-ltb, le-leb, lt-leb, eq-eqb, ne-eqb}
-use lib.ListN.{length, take, drop, set, replicate, length-append, length-set, length-replicate, length-drop, length-take, drop-of-length-le}
+use borrow.Author.Tests.{ltb-true, ltb-false, leb-false, eqb-true, eqb-false, lt-ltb, le-ltb, le-leb}
+use lib.ListN.{length, take, drop, set, replicate, length-set}
 use lib.Seq.{take-suc-set, drop-set-lt, take-set-le, set-split, drop-at, length-take-le}
 use Rattle.layout.specs.Limits.{base, pick}
 use Rattle.layout.specs.Message.{All}
-use Rattle.layout.specs.Field.{Field, header, each, begin, end, T-begin}
+use Rattle.layout.specs.Field.{header, each, begin, end, T-begin}
 use Rattle.layout.specs.Copy.{fieldBytes}
-use Rattle.types.specs.declared.Error.{Error}
 use Rattle.types.specs.Types.{refusal}
 use Rattle.ostream.specs.declared.OStream.{OStream}
-use Rattle.ostream.specs.Stream.{at, every, soundStream, lazyDepth, heldBytes, zeroed, committed, holding, dropped, opened}
+use Rattle.ostream.specs.Stream.{at, every, soundStream, lazyDepth, heldBytes, committed, holding, dropped}
 use Rattle.ostream.specs.Emission.{Test, Verdict, accepted, refusedWith, judged}
 use Rattle.ostream.specs.Calls.{unsound, idTooLarge, tooDeep, noneOpen}
 use Rattle.ostream.proofs.Called.{Sound, is-sound, both, passed}
 use Rattle.ostream.proofs.Places.{length-zeroed}
-use Rattle.writes.specs.Series.{Able, Op, verdict, outputBy, doneBy, numbersBy, Steady, outputs, refusals}
-use Rattle.writes.specs.Written.{Item, field, fixlen, itemBytes, Write, puts, opens, closes, keeps, begins, front, heldBack, written, opOf, op, opsOf, Accepted, takenBy, taken}
+use Rattle.writes.specs.Series.{Able, verdict, outputBy, doneBy, numbersBy, Steady, outputs, refusals}
+use Rattle.writes.specs.Written.{Item, field, itemBytes, Write, puts, opens, closes, keeps, begins, front, heldBack, written, op, opsOf, Accepted, takenBy, taken}
 
 -- ---- sound states
 

@@ -11,10 +11,8 @@ use Rattle.types.specs.Types.{numberOf}
 use Rattle.ostream.specs.declared.OStream.{OStream}
 use Rattle.ostream.specs.declared.Answer.{Answer}
 use Rattle.ostream.specs.declared.Answer.the-variants.{Done, Full, Refused}
-use Rattle.ostream.specs.declared.Written.{Written}
 use Rattle.ostream.specs.declared.Count.{Count}
 use Rattle.ostream.specs.declared.Count.the-variants as Counts
-use Rattle.ostream.specs.declared.Counted.{Counted}
 use Rattle.ostream.specs.Stream.{at, soundStream, lazyDepth}
 use Rattle.ostream.specs.Emission.{Test, Verdict, accepted, refusedWith, judged, Call, called, leaves}
 use Rattle.ostream.specs.Buffer.{opening, draining, changing}

@@ -16,10 +16,10 @@ use Rattle.layout.specs.Field.{each}
 use Rattle.types.specs.Types.{refusal}
 use Rattle.ostream.specs.declared.Answer.the-variants.{Done}
 use Rattle.ostream.specs.declared.Written.{Written}
-use Rattle.ostream.specs.Stream.{at, every, opened}
+use Rattle.ostream.specs.Stream.{every, opened}
 use Rattle.ostream.specs.Emission.{refused}
 use Rattle.ostream.specs.Buffer.{opening}
-use Rattle.writes.specs.Series.{Able, Op, outputs, Desk, Act, drain, act, acts, Lawful, numbersIn, reservedBy, fresh, begun, whole, wholeRefused, Ends, join}
+use Rattle.writes.specs.Series.{Able, Op, outputs, Desk, Act, drain, act, acts, Lawful, numbersIn, reservedBy, fresh, begun, whole, wholeRefused, Frees, Ends, join}
 use Rattle.writes.specs.Written.{itemBytes, Write, written, opsOf, Accepted, series, messageOf, refusedOf}
 use Rattle.writes.proofs.Runs.{Fine, at-start, outputs-at, refusals-at, kept, all-sent, all-told}
 use Rattle.writes.proofs.Drains.{Plain, Lean, lean-acts, few-drains}
@@ -104,15 +104,15 @@ writes-accepted ws h = (ap (λ (l : List Write). each itemBytes (written [] l)) 
 
 -- ---- that it ends
 
--- Such runs exist. Wherever a schedule has come to, over a buffer of one byte or more: some number of turns, each a call or a drain at "full",
--- comes to an end where no write is left, more turns change nothing, and the bytes and numbers are as above.
-pub writes-end : (b : List ℕ) (o : ℕ) (drained : Bool) (ws : List Write) (as′ : List Act) → Lawful as′ (series b o drained ws) → 1 ≤ length (acts as′ (series b o drained ws) .buf)
-    → (n : ℕ) × (e : Desk) × Ends n (acts as′ (series b o drained ws)) e × (act drain e .sent ≡ messageOf ws) × (e .refused ≡ refusedOf ws)
-writes-end b o drained ws as′ h l =
+-- Such runs exist. Wherever a schedule has come to, over a buffer of one byte or more: some number of turns, each a call or, at "full", a drain
+-- or another buffer with a byte free, comes to an end where no write is left, more turns change nothing, and the bytes and numbers are as above.
+pub writes-end : (sink : Desk → Act) → ((d : Desk) → Frees (sink d)) → (b : List ℕ) (o : ℕ) (drained : Bool) (ws : List Write) (as′ : List Act) → Lawful as′ (series b o drained ws) → 1 ≤ length (acts as′ (series b o drained ws) .buf)
+    → (n : ℕ) × (e : Desk) × Ends sink n (acts as′ (series b o drained ws)) e × (act drain e .sent ≡ messageOf ws) × (e .refused ≡ refusedOf ws)
+writes-end sink able b o drained ws as′ h l =
     let x = series b o drained ws in
     let d = acts as′ x in
     let k = kept as′ x (begun-fine b o drained ws) h in
-    let (n, more, m, p, e) = calling-ends d (k .fine) l in (
+    let (n, more, m, p, e) = calling-ends sink able d (k .fine) l in (
       n,
       acts more d,
       e,
@@ -137,16 +137,16 @@ writes-drains b drained ws as′ l h p e =
     (few-drains as′ (series b 0 drained ws) (begun-fine b 0 drained ws) (begun-lean b drained ws l) h p e)
 
 -- Such runs exist too, wherever such a schedule has come to.
-pub writes-drains-end : (b : List ℕ) (drained : Bool) (ws : List Write) (as′ : List Act) → 1 ≤ length b → Lawful as′ (series b 0 drained ws) → All Plain as′
-    → (n : ℕ) × (e : Desk) × Ends n (acts as′ (series b 0 drained ws)) e × (act drain e .sent ≡ messageOf ws) × (act drain e .drains ≤ length (messageOf ws))
-writes-drains-end b drained ws as′ l h p =
+pub writes-drains-end : (sink : Desk → Act) → ((d : Desk) → Frees (sink d)) → ((d : Desk) → Plain (sink d)) → (b : List ℕ) (drained : Bool) (ws : List Write) (as′ : List Act) → 1 ≤ length b → Lawful as′ (series b 0 drained ws) → All Plain as′
+    → (n : ℕ) × (e : Desk) × Ends sink n (acts as′ (series b 0 drained ws)) e × (act drain e .sent ≡ messageOf ws) × (act drain e .drains ≤ length (messageOf ws))
+writes-drains-end sink able even b drained ws as′ l h p =
     let x = series b 0 drained ws in
     let d = acts as′ x in
     let k = kept as′ x (begun-fine b 0 drained ws) h in
     let c = lean-acts as′ x (begun-fine b 0 drained ws) (begun-lean b drained ws l) h p in
-    let (n, more, m, q, e) = calling-ends d (k .fine) (c .room) in
+    let (n, more, m, q, e) = calling-ends sink able d (k .fine) (c .room) in
     let w : whole d ≡ messageOf ws = k .same ∙ begun-whole b 0 drained ws in
-    (n, acts more d, e, all-sent more d (k .fine) m (e .no-more) ∙ w, subst (λ (z : List ℕ). act drain (acts more d) .drains ≤ length z) w (few-drains more d (k .fine) c m q (e .no-more)))
+    (n, acts more d, e, all-sent more d (k .fine) m (e .no-more) ∙ w, subst (λ (z : List ℕ). act drain (acts more d) .drains ≤ length z) w (few-drains more d (k .fine) c m (q even) (e .no-more)))
 
 -- ---- what each drain sends
 

@@ -55,7 +55,3 @@ citedBy (writeArrayFloat id w xs) s size = floatArrayCall s size id w xs
 citedBy (writeSequenceBeginLazy id) s size = beginCall s size id
 citedBy writeSequenceEnd s size = endCall s size
 citedBy writeSequenceEndKeep s size = endKeepCall s size
-
-abbrev pub writesOf : List Public → List Write
-writesOf [] = []
-writesOf (c ∷ cs) = writeOf c ∷ writesOf cs

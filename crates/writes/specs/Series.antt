@@ -1,6 +1,6 @@
 -- A series of writes as its caller makes it: opened over a buffer, each call carried on from its place through every "full", a refused
 -- one passed over, over any buffers, with drains, buffer changes and refused calls anywhere. The caller stores what each call returns.
-use Prim.Native.Nat.{ℕ, zero, suc, _≤_}
+use Prim.Native.Nat.{ℕ, zero, suc, _≤_, _<_}
 use mathlib.Core.Path.{_≡_}
 use mathlib.Core.Bool.{Bool, true, false, _&&_, _||_}
 use mathlib.Core.List.{List, [], _∷_, _++_}
@@ -259,22 +259,30 @@ whole d = d .sent ++ (drop (length (d .reserved)) (take (d .stream .offset) (d .
 unfoldable pub wholeRefused : Desk → List ℕ
 wholeRefused d = d .refused ++ refusals (d .stream) (d .ops)
 
--- "Calling again with that place goes on", and "a sink drains there": a drain at "full", else the next call.
-abbrev pub next : Desk → Act
-next d = pick (d .full) drain write
+-- What a caller may do at "full": a drain, or another buffer lent with a byte free.
+abbrev pub Frees : Act → Type 0
+Frees write = ⊥
+Frees drain = Unit {0}
+Frees (change b o drained) = o < length b
+Frees (aside op place) = ⊥
+Frees (other x) = ⊥
+
+-- "Calling again with that place goes on", and "a sink drains there": at "full" what the sink does, else the next call.
+abbrev pub next : (Desk → Act) → Desk → Act
+next sink d = pick (d .full) (sink d) write
 
 -- Carrying on for a number of turns comes to the desk where no write is left; where the turns run out before, it is under way.
 pub data Outcome : Type 0 where
   ended : Desk → Outcome
   underway : Outcome
 
-unfoldable pub carried : ℕ → Desk → Outcome
-carried zero d = underway
-carried (suc n) d = elim (none (d .ops)) [ true ↦ ended d | false ↦ carried n (act (next d) d) ]
+unfoldable pub carried : (Desk → Act) → ℕ → Desk → Outcome
+carried sink zero d = underway
+carried sink (suc n) d = elim (none (d .ops)) [ true ↦ ended d | false ↦ carried sink n (act (next sink d) d) ]
 
 -- n turns are enough to come to the end e, and more change nothing
-pub record Ends (n : ℕ) (d e : Desk) : Type 0 where
-  pub enough : (m : ℕ) → n ≤ m → carried m d ≡ ended e
+pub record Ends (sink : Desk → Act) (n : ℕ) (d e : Desk) : Type 0 where
+  pub enough : (m : ℕ) → n ≤ m → carried sink m d ≡ ended e
   pub no-more : e .ops ≡ []
 
 -- transfers joined

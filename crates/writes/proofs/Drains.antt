@@ -16,16 +16,8 @@ use Rattle.emit.proofs.Writes.{length-put}
 use Rattle.ostream.specs.declared.Count.the-variants as Counts
 use Rattle.ostream.specs.Stream.{at}
 use Rattle.ostream.proofs.Called.{is-sound}
-use Rattle.writes.specs.Series.{Op, Desk, Act, write, drain, change, aside, other, beside, none, counts, sending, writing, act, acts, Allowed, Lawful, whole}
+use Rattle.writes.specs.Series.{Op, Desk, Act, write, drain, change, aside, other, beside, none, counts, sending, writing, act, acts, Allowed, Lawful, Plain, whole}
 use Rattle.writes.proofs.Runs.{Fine, by-write, by-change, by-aside, by-other, drained-desk, keeps, kept, all-sent}
-
--- every buffer lent has a byte and starts at 0
-abbrev pub Plain : Act → Type 0
-Plain write = Unit {0}
-Plain drain = Unit {0}
-Plain (change b o drained) = (1 ≤ length b) × (o ≡ 0)
-Plain (aside op place) = Unit {0}
-Plain (other x) = Unit {0}
 
 -- Counted so far: no more drains than bytes sent, and at "full" the buffer is written to its end.
 pub record Lean (d : Desk) : Type 0 where

@@ -20,9 +20,8 @@ use Rattle.ostream.specs.declared.Counted.{Counted}
 use Rattle.ostream.specs.Stream.{at}
 use Rattle.ostream.specs.Emission.{Verdict, accepted, refusedWith}
 use Rattle.ostream.proofs.Called.{is-sound}
-use Rattle.writes.specs.Series.{Op, verdict, outputBy, doneBy, Steady, outputs, Desk, Act, write, drain, change, aside, other, sending, writing, act, acts, none, Allowed, Lawful, Frees, next, Outcome, ended, underway, carried, Ends}
+use Rattle.writes.specs.Series.{Op, verdict, outputBy, doneBy, Steady, outputs, Desk, Act, write, drain, change, aside, other, sending, writing, act, acts, none, Allowed, Lawful, Plain, Frees, next, Outcome, ended, underway, carried, Ends}
 use Rattle.writes.proofs.Runs.{Placed, Fine, outputs-at, outputs-first, placed-in, kept-all, kept-part, kept-none, by-write, change-taken, drained-desk, keeps}
-use Rattle.writes.proofs.Drains.{Plain}
 
 -- Only an end is told as one: where the turns run out, none is.
 pub carried-ended : (sink : Desk → Act) (n : ℕ) (d e : Desk) → carried sink n d ≡ ended e → e .ops ≡ []

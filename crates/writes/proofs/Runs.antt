@@ -26,8 +26,8 @@ use Rattle.ostream.specs.Emission.{Verdict, accepted, refusedWith, judged, refu
 use Rattle.ostream.specs.Calls.{unsound}
 use Rattle.ostream.specs.Buffer.{badBuffer, countedBy, draining, changing}
 use Rattle.ostream.proofs.Called.{is-sound, both}
-use Rattle.writes.specs.Series.{Able, Op, callOf, verdict, outputBy, doneBy, numbersBy, Steady, outputs, refusals, Desk, numbersIn, numbersOf, Other, writes, drains, changes}
-use Rattle.writes.specs.Series.{Act, write, drain, change, aside, other, wrote, beside, sending, writing, said, act, acts, Refusal, Allowed, Lawful, whole, wholeRefused}
+use Rattle.writes.specs.Series.{Able, Op, callOf, verdict, outputBy, doneBy, numbersBy, Steady, outputs, refusals, finally, Desk, numbersIn, numbersOf, Other, writes, drains, changes}
+use Rattle.writes.specs.Series.{Act, write, drain, change, aside, other, wrote, beside, sending, writing, said, act, acts, Refusal, Allowed, Lawful, whole, wholeRefused, lastState}
 
 -- ---- what is kept
 
@@ -46,6 +46,7 @@ pub record Kept (d d′ : Desk) : Type 0 where
   pub fine : Fine d′
   pub same : whole d′ ≡ whole d
   pub told : wholeRefused d′ ≡ wholeRefused d
+  pub left : (p : ℕ) → lastState d′ p ≡ lastState d p
 
 -- ---- a write does not look at the position
 
@@ -86,6 +87,14 @@ refusals-at s p (op ∷ ops) h =
     ap (λ (v : Verdict). numbersBy v ++ refusals x ops) (verdict-at op (h .0) s p)
     ∙ ap (λ (l : List ℕ). numbersBy (verdict op s) ++ l)
     (sym (refusals-at x 0 ops (h .1)) ∙ ap (λ (s : OStream). refusals s ops) (done-at op (h .0) s p 0) ∙ refusals-at y 0 ops (h .1))
+
+pub finally-at : (s : OStream) (p : ℕ) (ops : List Op) (q : ℕ) → All Steady ops → at (finally (at s p) ops) q ≡ at (finally s ops) q
+unfolding finally
+finally-at s p [] q h = refl
+finally-at s p (op ∷ ops) q h =
+    let x : OStream = doneBy (verdict op (at s p)) op (at s p) in
+    let y : OStream = doneBy (verdict op s) op s in
+    sym (finally-at x 0 ops q (h .1)) ∙ ap (λ (s : OStream). at (finally s ops) q) (done-at op (h .0) s p 0) ∙ finally-at y 0 ops q (h .1)
 
 -- ---- a write
 
@@ -156,6 +165,10 @@ module _ (d : Desk) (op : Op) (rest : List Op) (f : Fine d) (e : d .ops ≡ op �
   unfolding refusals
   refusals-first v a = ap (refusals s) e ∙ ap (λ (v : Verdict). numbersBy v ++ refusals (doneBy v op s) rest) a
 
+  finally-first : (v : Verdict) → verdict op s ≡ v → (q : ℕ) → at (finally s (d .ops)) q ≡ at (finally (doneBy v op s) rest) q
+  unfolding finally
+  finally-first v a q = ap (λ (ops : List Op). at (finally s ops) q) e ∙ ap (λ (v : Verdict). at (finally (doneBy v op s) rest) q) a
+
   whole-is : (v : Verdict) → verdict op s ≡ v → whole d ≡ d .sent ++ (drop r (take (s .offset) b) ++ drop (d .place) (outputBy v op s ++ outputs (doneBy v op s) rest))
   unfolding whole
   whole-is v a = ap (λ (l : List ℕ). d .sent ++ (drop r (take (s .offset) b) ++ drop (d .place) l)) (outputs-first v a)
@@ -185,7 +198,7 @@ module _ (d : Desk) (op : Op) (rest : List Op) (f : Fine d) (e : d .ops ≡ op �
 
   pub kept-all : verdict op s ≡ accepted → length o - d .place ≤ length b - s .offset
       → Kept d (wrote d rest Done (at (op .done s) (s .offset + (length o - d .place))) (put b (s .offset) (drop (d .place) o)))
-  unfolding whole wholeRefused
+  unfolding whole wholeRefused lastState
   kept-all a g =
       let X : List ℕ = drop (d .place) o in
       let n : length X ≡ length o - d .place = length-drop (d .place) o in
@@ -216,11 +229,12 @@ module _ (d : Desk) (op : Op) (rest : List Op) (f : Fine d) (e : d .ops ≡ op �
         told =
             ap (λ (l : List ℕ). l ++ refusals z rest) (append-nil (d .refused))
             ∙ ap (λ (l : List ℕ). d .refused ++ l) (refusals-at (op .done s) (s .offset + (length o - d .place)) rest (steady .1) ∙ sym (refusals-first accepted a));
+        left = λ q. finally-at (op .done s) (s .offset + (length o - d .place)) rest q (steady .1) ∙ sym (finally-first accepted a q);
       }
 
   pub kept-part : verdict op s ≡ accepted → length b - s .offset < length o - d .place
       → Kept d (wrote d rest (Full (d .place + (length b - s .offset))) (at s (length b)) (put b (s .offset) (drop (d .place) o)))
-  unfolding whole wholeRefused
+  unfolding whole wholeRefused lastState
   kept-part a g =
       let X : List ℕ = drop (d .place) o in
       let room : ℕ = length b - s .offset in
@@ -253,6 +267,7 @@ module _ (d : Desk) (op : Op) (rest : List Op) (f : Fine d) (e : d .ops ≡ op �
             ∙ ap (λ (l : List ℕ). d .sent ++ (drop r (take (s .offset) b) ++ l)) (sym (drop-append-le (d .place) o R (placed-in a)))
             ∙ sym (whole-is accepted a);
         told = ap (λ (l : List ℕ). l ++ refusals (at s (length b)) (d .ops)) (append-nil (d .refused)) ∙ ap (λ (l : List ℕ). d .refused ++ l) (refusals-at s (length b) (d .ops) (f .steady));
+        left = λ q. finally-at s (length b) (d .ops) q (f .steady);
       }
     where
       least : (x y : ℕ) → x ≤ y → min x y ≡ x
@@ -260,7 +275,7 @@ module _ (d : Desk) (op : Op) (rest : List Op) (f : Fine d) (e : d .ops ≡ op �
 
   -- a refused one is passed over: it has written nothing, and its number is kept
   pub kept-none : (x : Error) → verdict op s ≡ refusedWith x → Kept d (wrote d rest (Refused x) s b)
-  unfolding whole wholeRefused
+  unfolding whole wholeRefused lastState
   kept-none x a =
       let z : d .place ≤ 0 = subst (λ (v : Verdict). d .place ≤ length (outputBy v op s)) a placed in
       let y : 0 ≡ d .place = omega arith in
@@ -268,6 +283,7 @@ module _ (d : Desk) (op : Op) (rest : List Op) (f : Fine d) (e : d .ops ≡ op �
         fine = record { sound = f .sound; reserved = f .reserved; as-came = f .as-came; steady = steady .1; placed = at-start s rest };
         same = ap (λ (n : ℕ). d .sent ++ (drop r (take (s .offset) b) ++ drop n (outputs s rest))) y ∙ sym (whole-is (refusedWith x) a);
         told = append-assoc (d .refused) (numberOf x ∷ []) (refusals s rest) ∙ ap (λ (l : List ℕ). d .refused ++ l) (sym (refusals-first (refusedWith x) a));
+        left = λ q. sym (finally-first (refusedWith x) a q);
       }
 
 -- a write, by its answer
@@ -302,7 +318,7 @@ by-write P d op rest f e done part none =
 
 kept-writing : (d : Desk) (ops : List Op) (f : Fine d) → d .ops ≡ ops → Kept d (writing d ops)
 unfolding writing
-kept-writing d [] f e = record { fine = f; same = refl; told = refl }
+kept-writing d [] f e = record { fine = f; same = refl; told = refl; left = λ q. refl }
 kept-writing d (op ∷ rest) f e = by-write (Kept d) d op rest f e (kept-all d op rest f e) (kept-part d op rest f e) (kept-none d op rest f e)
 
 -- ---- a drain, and another buffer
@@ -313,7 +329,7 @@ same-place place s p [] h q = q
 same-place place s p (op ∷ ops) h q = subst (λ (l : List ℕ). place ≤ length l) (sym (output-at op (h .0) s p)) q
 
 kept-sending : (d : Desk) (b : List ℕ) (o : ℕ) → Fine d → o ≤ length b → Kept d (sending d (Counts.Bytes (d .stream .offset)) (at (d .stream) o) b (take o b))
-unfolding whole wholeRefused
+unfolding whole wholeRefused lastState
 kept-sending d b o f h =
     let n : length (take o b) ≡ o = length-take-le o b h in
     let z : drop (length (take o b)) (take o b) ≡ [] = drop-of-length-le (take o b) (le-refl (length (take o b))) in
@@ -332,6 +348,7 @@ kept-sending d b o f h =
           ∙ ap (λ (l : List ℕ). (d .sent ++ y) ++ drop (d .place) l) (outputs-at (d .stream) o (d .ops) (f .steady))
           ∙ append-assoc (d .sent) _ _;
       told = ap (λ (l : List ℕ). d .refused ++ l) (refusals-at (d .stream) o (d .ops) (f .steady));
+      left = λ q. finally-at (d .stream) o (d .ops) q (f .steady);
     }
 
 pub drained-is : (d : Desk) → Fine d → draining (d .stream) (length (d .buf)) ≡ record { answer = Counts.Bytes (d .stream .offset); stream = at (d .stream) 0 }
@@ -354,8 +371,8 @@ change-taken d b o drained f t = simp (t, f .sound .0)
 
 -- a call beside the series leaves all but its number
 kept-beside : (d : Desk) (numbers : List ℕ) → Fine d → Kept d (beside d (d .stream) (d .buf) numbers)
-unfolding whole wholeRefused
-kept-beside d numbers f = record { fine = record { sound = f .sound; reserved = f .reserved; as-came = f .as-came; steady = f .steady; placed = f .placed }; same = refl; told = refl }
+unfolding whole wholeRefused lastState
+kept-beside d numbers f = record { fine = record { sound = f .sound; reserved = f .reserved; as-came = f .as-came; steady = f .steady; placed = f .placed }; same = refl; told = refl; left = λ q. refl }
 
 -- a change, by its answer
 pub by-change : (P : Desk → Type 0) (d : Desk) (b : List ℕ) (o : ℕ) (drained : Bool) → Fine d
@@ -437,11 +454,11 @@ keeps (other x) d f h = by-other (Kept d) d x h (λ numbers. kept-beside d numbe
 
 pub kept : (as′ : List Act) (d : Desk) → Fine d → Lawful as′ d → Kept d (acts as′ d)
 unfolding acts Lawful
-kept [] d f h = record { fine = f; same = refl; told = refl }
+kept [] d f h = record { fine = f; same = refl; told = refl; left = λ q. refl }
 kept (a ∷ as′) d f h =
     let k = keeps a d f (h .0) in
     let r = kept as′ (act a d) (k .fine) (h .1) in
-    record { fine = r .fine; same = r .same ∙ k .same; told = r .told ∙ k .told }
+    record { fine = r .fine; same = r .same ∙ k .same; told = r .told ∙ k .told; left = λ q. r .left q ∙ k .left q }
 
 -- THE RUN THEOREM. Once no write is left, a last drain has sent all: the accepted writes' whole output, each byte once and in order; and
 -- the refused ones were told by their numbers.
@@ -464,3 +481,8 @@ all-told as′ d f h e =
     let r = kept as′ d f h in
     let x = acts as′ d in
     sym (append-nil (x .refused)) ∙ ap (λ (ops : List Op). x .refused ++ refusals (x .stream) ops) (sym e) ∙ r .told
+
+-- And the state is the one that the accepted writes leave, but for its position.
+pub all-left : (as′ : List Act) (d : Desk) → Fine d → Lawful as′ d → acts as′ d .ops ≡ [] → (p : ℕ) → at (acts as′ d .stream) p ≡ lastState d p
+unfolding lastState finally
+all-left as′ d f h e p = let x = acts as′ d in ap (λ (ops : List Op). at (finally (x .stream) ops) p) (sym e) ∙ kept as′ d f h .left p

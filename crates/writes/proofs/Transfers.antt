@@ -10,7 +10,7 @@ use Rattle.layout.specs.Message.{All}
 use Rattle.ostream.specs.declared.Count.the-variants as Counts
 use Rattle.ostream.specs.declared.Counted.{Counted}
 use Rattle.ostream.specs.Buffer.{badBuffer, sent}
-use Rattle.writes.specs.Series.{Op, Desk, Act, write, drain, change, aside, other, sending, writing, act, acts, Allowed, Lawful, join}
+use Rattle.writes.specs.Series.{Op, Desk, Act, write, drain, change, aside, other, sending, writing, act, acts, Allowed, Lawful, Stays, join}
 use Rattle.writes.proofs.Runs.{Fine, by-write, by-aside, by-other, drained-desk, change-taken, keeps, kept}
 
 -- A drain sends the bytes below the position, and what follows it has none reserved.
@@ -33,14 +33,6 @@ sends-reserved d f =
     sym (take-append-drop n x) ∙ ap (λ (l : List ℕ). l ++ drop n x) (take-take n (d .stream .offset) (d .buf) (f .reserved) ∙ f .as-came)
 
 -- ---- over one buffer
-
--- no other buffer is lent
-abbrev pub Stays : Act → Type 0
-Stays write = Unit {0}
-Stays drain = Unit {0}
-Stays (change b o drained) = ⊥
-Stays (aside op place) = Unit {0}
-Stays (other x) = Unit {0}
 
 -- the transfers so far: none, or a first one with the reserved bytes, and the others with message bytes alone
 data Transferred (r : List ℕ) (d : Desk) : Type 0 where

@@ -56,7 +56,7 @@ pub record Steady (op : Op) : Type 0 where
   pub leaves : (s : OStream) (p q : ℕ) → at (op .done (at s p)) q ≡ at (op .done s) q
   pub sound : (s : OStream) (size p q : ℕ) → Able s size → verdict op s ≡ accepted → p ≤ q → Able (at (op .done s) p) q
 
--- the whole output of some writes, one after another, those that are refused passed over; and the numbers of these
+-- The whole output of some writes, one after another, those that are refused passed over; the numbers of these; and the state that is left.
 unfoldable pub outputs : OStream → List Op → List ℕ
 outputs s [] = []
 outputs s (op ∷ ops) = outputBy (verdict op s) op s ++ outputs (doneBy (verdict op s) op s) ops
@@ -64,6 +64,10 @@ outputs s (op ∷ ops) = outputBy (verdict op s) op s ++ outputs (doneBy (verdic
 unfoldable pub refusals : OStream → List Op → List ℕ
 refusals s [] = []
 refusals s (op ∷ ops) = numbersBy (verdict op s) ++ refusals (doneBy (verdict op s) op s) ops
+
+unfoldable pub finally : OStream → List Op → OStream
+finally s [] = s
+finally s (op ∷ ops) = finally (doneBy (verdict op s) op s) ops
 
 -- ---- the caller's side
 
@@ -223,6 +227,22 @@ unfoldable pub Lawful : List Act → Desk → Type 0
 Lawful [] d = Unit {0}
 Lawful (a ∷ as′) d = Allowed a d × Lawful as′ (act a d)
 
+-- "Every buffer lent has at least one byte and starts at offset 0."
+abbrev pub Plain : Act → Type 0
+Plain write = Unit {0}
+Plain drain = Unit {0}
+Plain (change b o drained) = (1 ≤ length b) × (o ≡ 0)
+Plain (aside op place) = Unit {0}
+Plain (other x) = Unit {0}
+
+-- No other buffer is lent.
+abbrev pub Stays : Act → Type 0
+Stays write = Unit {0}
+Stays drain = Unit {0}
+Stays (change b o drained) = ⊥
+Stays (aside op place) = Unit {0}
+Stays (other x) = Unit {0}
+
 -- ---- from the opening to the end
 
 -- the bytes that an opening reserves: none where it is refused, which leaves a writer at 0
@@ -252,12 +272,16 @@ fresh s b reserved ops numbers =
 unfoldable pub begun : List ℕ → ℕ → Bool → List Op → Desk
 begun b o drained ops = let r = opening (length b) o drained in fresh (r .stream) b (reservedBy (r .answer) b o) ops (numbersIn (r .answer))
 
--- all that the series comes to: what was sent, what stands in the buffer, and what is still to be put out; and its refused writes
+-- All that the series comes to: what was sent, what stands in the buffer, and what is still to be put out; its refused writes; and its last
+-- state, at a position.
 unfoldable pub whole : Desk → List ℕ
 whole d = d .sent ++ (drop (length (d .reserved)) (take (d .stream .offset) (d .buf)) ++ drop (d .place) (outputs (d .stream) (d .ops)))
 
 unfoldable pub wholeRefused : Desk → List ℕ
 wholeRefused d = d .refused ++ refusals (d .stream) (d .ops)
+
+unfoldable pub lastState : Desk → ℕ → OStream
+lastState d p = at (finally (d .stream) (d .ops)) p
 
 -- What a caller may do at "full": a drain, or another buffer lent with a byte free.
 abbrev pub Frees : Act → Type 0

@@ -9,10 +9,10 @@ use lib.ListN.{length}
 use Rattle.layout.specs.Field.{Field, Subtype, each, begin, end}
 use Rattle.layout.specs.Copy.{fieldBytes}
 use Rattle.ostream.specs.declared.OStream.{OStream}
-use Rattle.ostream.specs.Stream.{lazyDepth, opened}
+use Rattle.ostream.specs.Stream.{at, lazyDepth, opened}
 use Rattle.ostream.specs.Emission.{Test, Verdict, accepted, refusedWith, Call}
 use Rattle.ostream.specs.Calls.{unsound, content, fixlenBytes, beginCall, endCall, endKeepCall}
-use Rattle.writes.specs.Series.{Op, verdict, doneBy, refusals, Desk, begun}
+use Rattle.writes.specs.Series.{Op, verdict, doneBy, refusals, finally, Desk, begun}
 
 -- what stands in a message: a field of the layout, or what the general fixed-length writer was given, at any length
 pub data Item : Type 0 where
@@ -86,9 +86,12 @@ taken s (w ∷ ws) = takenBy (verdict (op w) s) w (taken (doneBy (verdict (op w)
 abbrev pub series : List ℕ → ℕ → Bool → List Write → Desk
 series b o drained ws = begun b o drained (opsOf ws)
 
--- what a series comes to: the bytes of its accepted writes, and the numbers of the others
+-- What a series comes to: the bytes of its accepted writes, the numbers of the others, and the state that is left, at a position.
 unfoldable pub messageOf : List Write → List ℕ
 messageOf ws = each itemBytes (written [] (taken (opened 0) ws))
 
 unfoldable pub refusedOf : List Write → List ℕ
 refusedOf ws = refusals (opened 0) (opsOf ws)
+
+unfoldable pub stateOf : List Write → ℕ → OStream
+stateOf ws p = at (finally (opened 0) (opsOf ws)) p

@@ -16,8 +16,8 @@ use Rattle.emit.proofs.Writes.{length-put}
 use Rattle.ostream.specs.declared.Count.the-variants as Counts
 use Rattle.ostream.specs.Stream.{at}
 use Rattle.ostream.proofs.Called.{is-sound}
-use Rattle.writes.specs.Series.{Op, Desk, Act, write, drain, change, aside, other, beside, none, counts, sending, writing, act, acts, Allowed, Lawful, Plain, whole}
-use Rattle.writes.proofs.Runs.{Fine, by-write, by-change, by-aside, by-other, drained-desk, keeps, kept, all-sent}
+use Rattle.writes.specs.Series.{Op, Desk, Act, write, drain, change, aside, other, beside, none, counts, sending, writing, act, acts, Allowed, Lawful, Plain}
+use Rattle.writes.proofs.Runs.{whole, Fine, by-write, by-change, by-aside, by-other, drained-desk, keeps, kept, all-sent}
 
 -- Counted so far: no more drains than bytes sent, and at "full" the buffer is written to its end.
 pub record Lean (d : Desk) : Type 0 where

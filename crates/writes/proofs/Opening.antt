@@ -16,9 +16,9 @@ use Rattle.ostream.specs.declared.Written.{Written}
 use Rattle.ostream.specs.Stream.{every, opened}
 use Rattle.ostream.specs.Emission.{refused}
 use Rattle.ostream.specs.Buffer.{opening}
-use Rattle.writes.specs.Series.{Able, Op, outputs, Desk, numbersIn, reservedBy, fresh, begun, whole, wholeRefused, lastState}
+use Rattle.writes.specs.Series.{Able, Op, outputs, Desk, numbersIn, reservedBy, fresh, begun}
 use Rattle.writes.specs.Written.{Write, opsOf, series, messageOf, refusedOf, stateOf}
-use Rattle.writes.proofs.Runs.{Fine, at-start, outputs-at, refusals-at, finally-at}
+use Rattle.writes.proofs.Runs.{whole, wholeRefused, lastState, Fine, at-start, outputs-at, refusals-at, finally-at}
 use Rattle.writes.proofs.Drains.{Lean}
 use Rattle.writes.proofs.Written.{make-sound, steady, outputs-written}
 

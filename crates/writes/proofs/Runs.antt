@@ -27,9 +27,20 @@ use Rattle.ostream.specs.Calls.{unsound}
 use Rattle.ostream.specs.Buffer.{badBuffer, countedBy, draining, changing}
 use Rattle.ostream.proofs.Called.{is-sound, both}
 use Rattle.writes.specs.Series.{Able, Op, callOf, verdict, outputBy, doneBy, numbersBy, Steady, outputs, refusals, finally, Desk, numbersIn, numbersOf, Other, writes, drains, changes}
-use Rattle.writes.specs.Series.{Act, write, drain, change, aside, other, wrote, beside, sending, writing, said, act, acts, Refusal, Allowed, Lawful, whole, wholeRefused, lastState}
+use Rattle.writes.specs.Series.{Act, write, drain, change, aside, other, wrote, beside, sending, writing, said, act, acts, Refusal, Allowed, Lawful}
 
 -- ---- what is kept
+
+-- All that the series comes to: what was sent, what stands in the buffer, and what is still to be put out; its refused writes; and its last
+-- state, at a position.
+unfoldable pub whole : Desk → List ℕ
+whole d = d .sent ++ (drop (length (d .reserved)) (take (d .stream .offset) (d .buf)) ++ drop (d .place) (outputs (d .stream) (d .ops)))
+
+unfoldable pub wholeRefused : Desk → List ℕ
+wholeRefused d = d .refused ++ refusals (d .stream) (d .ops)
+
+unfoldable pub lastState : Desk → ℕ → OStream
+lastState d p = at (finally (d .stream) (d .ops)) p
 
 abbrev pub Placed : ℕ → OStream → List Op → Type 0
 Placed place s [] = place ≡ 0

@@ -9,9 +9,9 @@ use Rattle.layout.specs.Message.{All}
 use Rattle.layout.specs.Field.{each}
 use Rattle.ostream.specs.Stream.{at, opened}
 use Rattle.ostream.specs.Buffer.{opening}
-use Rattle.writes.specs.Series.{Desk, Act, drain, act, acts, Lawful, reservedBy, begun, whole, Plain, Stays, Frees, Ends, join}
+use Rattle.writes.specs.Series.{Desk, Act, drain, act, acts, Lawful, reservedBy, begun, Plain, Stays, Frees, Ends, join}
 use Rattle.writes.specs.Written.{itemBytes, Write, written, Accepted, series, messageOf, refusedOf, stateOf}
-use Rattle.writes.proofs.Runs.{kept, all-sent, all-told, all-left}
+use Rattle.writes.proofs.Runs.{whole, kept, all-sent, all-told, all-left}
 use Rattle.writes.proofs.Drains.{lean-acts, few-drains}
 use Rattle.writes.proofs.Ends.{calling-ends}
 use Rattle.writes.proofs.Transfers.{first-drain}

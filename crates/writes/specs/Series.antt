@@ -272,17 +272,6 @@ fresh s b reserved ops numbers =
 unfoldable pub begun : List ℕ → ℕ → Bool → List Op → Desk
 begun b o drained ops = let r = opening (length b) o drained in fresh (r .stream) b (reservedBy (r .answer) b o) ops (numbersIn (r .answer))
 
--- All that the series comes to: what was sent, what stands in the buffer, and what is still to be put out; its refused writes; and its last
--- state, at a position.
-unfoldable pub whole : Desk → List ℕ
-whole d = d .sent ++ (drop (length (d .reserved)) (take (d .stream .offset) (d .buf)) ++ drop (d .place) (outputs (d .stream) (d .ops)))
-
-unfoldable pub wholeRefused : Desk → List ℕ
-wholeRefused d = d .refused ++ refusals (d .stream) (d .ops)
-
-unfoldable pub lastState : Desk → ℕ → OStream
-lastState d p = at (finally (d .stream) (d .ops)) p
-
 -- What a caller may do at "full": a drain, or another buffer lent with a byte free.
 abbrev pub Frees : Act → Type 0
 Frees write = ⊥

@@ -6,3 +6,4 @@ pub mod Keeps
 pub mod Allowed
 pub mod Sound
 pub mod Reader
+pub mod Bound

@@ -5,7 +5,7 @@ use native.Mathlib.Nat.{not-suc-le-zero}
 use native.Mathlib.Omega.{arith}
 use mathlib.Core.Path.{_≡_, refl, sym, ap, _∙_, subst}
 use mathlib.Core.Bool.{Bool, true, false, _&&_}
-use mathlib.Core.Logic.{_⊎_, inl, inr}
+use mathlib.Core.Logic.{inl}
 use mathlib.Core.List.{List}
 use lib.Dec.{ltb}
 use borrow.Author.Tests.{lt-ltb, eqb-true, eq-eqb}
@@ -24,7 +24,7 @@ use Rattle.copying.specs.Owed.{Owed, nothing, owes, rest, further, depth
 use Rattle.copying.specs.Copy.{Copy, Answer, full, verdict, invalid, unfinished, Copied, after, settled, filled, gone, handed, stuck, heard, fits, allOf, copies, turnsFor, copy}
 use Rattle.copying.specs.Run.{NotPiece, NoPiece}
 use Rattle.copying.proofs.Turns.{goes, goes-on, goes-is, turn-full, turn-goes, fits-false, fits-true, enough, turn-heard, nearer}
-use Rattle.copying.proofs.Pieces.{given-fits}
+use Rattle.copying.proofs.Pieces.{Takes, takes-plain, given-fits}
 use Rattle.copying.proofs.Allowed.{InForce, Gave, Stood, CallOf, all-of, call-sound}
 
 -- ---- sound
@@ -270,9 +270,6 @@ sounds-heard L k c b s j calls.invalid s′ f p l w n fair h go =
     broke-by (owing d id r) h = h
     broke-by broke h = h .1
 
-abbrev Takes : Copy → List ℕ → Type 0
-Takes k b = NoPiece (k .owed) ⊎ (length (rest (k .owed)) ≤ length b - k .pos)
-
 -- what a turn needs of the turns after it
 abbrev Later : Limits → ℕ → ℕ → Type 0
 Later L n most = (k : Copy) (c b : List ℕ) → Mid L k → k .pos ≤ length b → Takes k b → 2 * length c + weight (k .reader) < most → Sounds L k c b (copies L n k c b)
@@ -300,14 +297,10 @@ sounds-goes L n k c b m p o later = subst (Sounds L k c b) (sym (goes-is L n (le
 sounds-turn : (L : Limits) (n : ℕ) (k : Copy) (c b : List ℕ) → Mid L k → k .pos ≤ length b → Takes k b → Later L n (2 * length c + weight (k .reader)) → Sounds L k c b (copies L (suc n) k c b)
 sounds-turn L n k c b m p t later = go (fits k b) refl
   where
-    plain : Takes k b → length b - k .pos < length (rest (k .owed)) → NoPiece (k .owed)
-    plain (inl h) l = h
-    plain (inr h) l = absurd (omega arith)
-
     go : (u : Bool) → fits k b ≡ u → Sounds L k c b (copies L (suc n) k c b)
     go false e =
         let l = fits-false k b e in
-        subst (Sounds L k c b) (sym (turn-full L n k c b l)) (sounds-full L k c b m p (plain t l) l)
+        subst (Sounds L k c b) (sym (turn-full L n k c b l)) (sounds-full L k c b m p (takes-plain k b t l) l)
     go true e =
         let l = fits-true k b e in
         let pos = reached b (k .pos) (rest (k .owed)) in

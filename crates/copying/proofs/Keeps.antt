@@ -68,11 +68,11 @@ put-out sent b p o h =
     ∙ ap (λ (l : List ℕ). (sent ++ take p b) ++ l) (split-at o (length b - p))
 
 -- all else stays
-put-below : (b : List ℕ) (p : ℕ) (o : List ℕ) → p ≤ length b → take p (put b p o) ≡ take p b
+pub put-below : (b : List ℕ) (p : ℕ) (o : List ℕ) → p ≤ length b → take p (put b p o) ≡ take p b
 unfolding put over
 put-below b p o h = take-at (take p b) _ p (length-take-le p b h)
 
-put-beyond : (b : List ℕ) (p : ℕ) (o : List ℕ) → p ≤ length b → drop (reached b p o) (put b p o) ≡ drop (reached b p o) b
+pub put-beyond : (b : List ℕ) (p : ℕ) (o : List ℕ) → p ≤ length b → drop (reached b p o) (put b p o) ≡ drop (reached b p o) b
 unfolding put over
 put-beyond b p o h =
     let t = take (length b - p) o in
@@ -82,10 +82,10 @@ put-beyond b p o h =
     ∙ drop-at (take p b ++ t) (drop (p + length t) b) (p + length t) m ∙ ap (λ (x : ℕ). drop x b) (sym n)
 
 -- two buffers that are the same up to a place or from it on are so up to an earlier one and from a later one on
-take-less : (p q : ℕ) (x y : List ℕ) → p ≤ q → take q x ≡ take q y → take p x ≡ take p y
+pub take-less : (p q : ℕ) (x y : List ℕ) → p ≤ q → take q x ≡ take q y → take p x ≡ take p y
 take-less p q x y h e = sym (take-take p q x h) ∙ ap (take p) e ∙ take-take p q y h
 
-drop-more : (p q : ℕ) (x y : List ℕ) → p ≤ q → drop p x ≡ drop p y → drop q x ≡ drop q y
+pub drop-more : (p q : ℕ) (x y : List ℕ) → p ≤ q → drop p x ≡ drop p y → drop q x ≡ drop q y
 drop-more p q x y h e =
     let n : p + (q - p) ≡ q = omega arith in
     ap (λ (m : ℕ). drop m x) (sym n) ∙ sym (drop-drop (q - p) p x) ∙ ap (drop (q - p)) e ∙ drop-drop (q - p) p y ∙ ap (λ (m : ℕ). drop m y) n

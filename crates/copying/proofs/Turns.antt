@@ -152,11 +152,11 @@ handed-few (reading d p) room c = subst (λ (l : List ℕ). length l ≤ length 
 handed-few (owing d id r) room c = omega arith
 handed-few broke room c = omega arith
 
-take-take : (j m : ℕ) (c : List ℕ) → j ≤ length (take m c) → take j (take m c) ≡ take j c
-take-take zero m c h = refl
-take-take (suc j) zero c h = absurd (not-suc-le-zero h)
-take-take (suc j) (suc m) [] h = refl
-take-take (suc j) (suc m) (x ∷ c) h = ap (λ (l : List ℕ). x ∷ l) (take-take j m c (omega arith))
+pub take-take : (p q : ℕ) (l : List ℕ) → p ≤ q → take p (take q l) ≡ take p l
+take-take zero q l h = refl
+take-take (suc p) zero l h = absurd (not-suc-le-zero h)
+take-take (suc p) (suc q) [] h = refl
+take-take (suc p) (suc q) (x ∷ l) h = ap (λ (m : List ℕ). x ∷ m) (take-take p q l (omega arith))
 
 pub handed-first : (s : State) (room : ℕ) (c : List ℕ) (j : ℕ) → j ≤ length (handed s room c) → take j (handed s room c) ≡ take j c
 unfolding handed
@@ -165,7 +165,7 @@ handed-first (reading d p) room c j h =
   where
     go : (q : Pace) → j ≤ length (paced q room c) → take j (paced q room c) ≡ take j c
     go byte h = refl
-    go (bulk id r total o) h = take-take j room c h
+    go (bulk id r total o) h = take-take j room c (omega (arith, length-take room c))
 handed-first (owing d id r) room c j h = refl
 handed-first broke room c j h = refl
 

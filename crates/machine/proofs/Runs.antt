@@ -142,11 +142,11 @@ plain-at d (inArrayWord id c k v) = (refl, refl, λ n. refl)
 plain-at d (inFloat id w left k v) = (refl, refl, λ n. refl)
 plain-at d (inPayload id r total o) = (refl, refl, λ n. refl)
 
-verdict-at : (L : Limits) (bs : List ℕ) (d : ℕ) (p : Phase) → walk L 0 idle bs .place ≡ at d p → verdictOf L bs ≡ verdictAt d p
+pub verdict-at : (L : Limits) (bs : List ℕ) (d : ℕ) (p : Phase) → walk L 0 idle bs .place ≡ at d p → verdictOf L bs ≡ verdictAt d p
 unfolding endOf
 verdict-at L bs d p e = verdict-walk L bs ∙ ap (λ (q : Place). judge (length bs) (endOf q)) e ∙ same-verdict (length bs) d p
 
-verdict-broken : (L : Limits) (bs : List ℕ) → walk L 0 idle bs .place ≡ brokenBefore [] → verdictOf L bs ≡ brokenAt (length bs)
+pub verdict-broken : (L : Limits) (bs : List ℕ) → walk L 0 idle bs .place ≡ brokenBefore [] → verdictOf L bs ≡ brokenAt (length bs)
 unfolding endOf judge
 verdict-broken L bs e =
     let z : length bs - 0 ≡ length bs = omega arith in

@@ -4,28 +4,8 @@ use istream::IStream;
 use istream::Status;
 use ostream::Count;
 use ostream::OStream;
-use types::ArrayKind;
+use owed::Owed;
 use types::Error;
-use types::FloatType;
-use types::RawType;
-
-// An event that is read and not yet written whole. Only events that the layout allows, but for their numbers' limits: `Element` and
-// `SignedElement` stand in an array, and go out bare as the floats do; `Float` and `Payload` announce a fixed-length field. A payload's
-// piece is never owed: it counts as read only as far as it is out.
-pub enum Owed {
-    Nothing,
-    Unsigned(u32, u64),
-    Signed(u32, i64),
-    Element(u64),
-    SignedElement(i64),
-    Fp32(u32),
-    Fp64(u64),
-    Float(u32, FloatType),
-    Payload(u32, RawType, u32),
-    Array(u32, ArrayKind, u32),
-    Begin(u32),
-    End,
-}
 
 pub struct Copier {
     pub reader: IStream,

@@ -433,7 +433,7 @@ impl OStream {
     }
 
     // Whether the state can be that of a writer over a buffer of this size.
-    fn sound(self, size: usize) -> bool
+    pub fn sound(self, size: usize) -> bool
         ensures { λ r. ⌜ r ≡ soundStream self size ⌝ }
     {
         let offset = self.offset;

@@ -1,38 +1,31 @@
+-- `owed::announced`: by subtype.
 use borrow.Author.Needs.{needs}
 use Rattle.owed.proofs.announced.Statement.{statement}
 use Rattle.owed.proofs.announced.Tie as tie
 use Rattle.owed.proofs.announced.Reads as reads
 use Rattle.owed.proofs.announced.Lts as lts
 
--- src/lib.rt:119:45
 enum-told : tie.Need-enum-told
 enum-told c = search needs
 
--- src/lib.rt:120:45
 enum-told-2 : tie.Need-enum-told-2
 enum-told-2 c = search needs
 
--- src/lib.rt:121:46
 enum-told-3 : tie.Need-enum-told-3
 enum-told-3 c = search needs
 
--- src/lib.rt:122:47
 enum-told-4 : tie.Need-enum-told-4
 enum-told-4 c = search needs
 
--- src/lib.rt:115:1
 returns : tie.Need-returns
 returns c = simp (c .enum-told .given .1)
 
--- src/lib.rt:115:1
 returns-2 : tie.Need-returns-2
 returns-2 c = simp (c .enum-told2 .given .1)
 
--- src/lib.rt:115:1
 returns-3 : tie.Need-returns-3
 returns-3 c = simp (c .enum-told3 .given .1)
 
--- src/lib.rt:115:1
 returns-4 : tie.Need-returns-4
 returns-4 c = simp (c .enum-told4 .given .1)
 

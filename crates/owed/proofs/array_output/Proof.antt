@@ -1,3 +1,4 @@
+-- `owed::array_output`: by kind.
 use borrow.Author.Needs.{needs}
 use Rattle.owed.proofs.array_output.Statement.{statement}
 use Rattle.owed.proofs.array_output.Tie as tie
@@ -5,51 +6,39 @@ use Rattle.owed.proofs.array_output.Reads as reads
 use Rattle.owed.proofs.array_output.Lts as lts
 use Rattle.owed.proofs.tagged.Reads as tagged-reads
 
--- src/lib.rt:75:44
 enum-told : tie.Need-enum-told
 enum-told c = search needs
 
--- src/lib.rt:75:44
 tagged-requires : tie.Need-tagged-requires
 tagged-requires c κs = search needs
 
--- src/lib.rt:76:42
 enum-told-2 : tie.Need-enum-told-2
 enum-told-2 c = search needs
 
--- src/lib.rt:76:42
 tagged-requires-2 : tie.Need-tagged-requires-2
 tagged-requires-2 c κs = search needs
 
--- src/lib.rt:77:42
 enum-told-3 : tie.Need-enum-told-3
 enum-told-3 c = search needs
 
--- src/lib.rt:77:42
 tagged-requires-3 : tie.Need-tagged-requires-3
 tagged-requires-3 c κs = search needs
 
--- src/lib.rt:78:42
 enum-told-4 : tie.Need-enum-told-4
 enum-told-4 c = search needs
 
--- src/lib.rt:78:42
 tagged-requires-4 : tie.Need-tagged-requires-4
 tagged-requires-4 c κs = search needs
 
--- src/lib.rt:70:1
 returns : tie.Need-returns
 returns c = simp (c .before .enum-told .given .1, c .tagged .ensures)
 
--- src/lib.rt:70:1
 returns-2 : tie.Need-returns-2
 returns-2 c = simp (c .before .enum-told2 .given .1, c .tagged2 .ensures)
 
--- src/lib.rt:70:1
 returns-3 : tie.Need-returns-3
 returns-3 c = simp (c .before .enum-told3 .given .1, c .tagged3 .ensures)
 
--- src/lib.rt:70:1
 returns-4 : tie.Need-returns-4
 returns-4 c = simp (c .before .enum-told4 .given .1, c .tagged4 .ensures)
 

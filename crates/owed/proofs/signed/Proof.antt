@@ -1,3 +1,4 @@
+-- `owed::signed`: an element where one is due.
 use mir.Val.{Fits, toZ, ofZ}
 use mir.Syntax.{w64}
 use mathlib.Core.Path.{_≡_, sym, ap, _∙_}
@@ -8,11 +9,9 @@ use Rattle.owed.proofs.signed.Tie as tie
 use Rattle.owed.proofs.signed.Reads as reads
 use Rattle.owed.proofs.signed.Lts as lts
 
--- src/lib.rt:108:1
 returns : tie.Need-returns
 returns c = let f : toZ w64 (ofZ w64 (c .before .args .v)) ≡ c .before .args .v = search needs in simp (c .if1 .taken, f)
 
--- src/lib.rt:108:1
 returns-2 : tie.Need-returns-2
 returns-2 c = let f : toZ w64 (ofZ w64 (c .before .args .v)) ≡ c .before .args .v = search needs in simp f (signed-due (c .before .args .left) (c .before .args .id) (c .before .args .v) (c .if1 .left))
 

@@ -1,14 +1,13 @@
+-- `owed::within`: two tests.
 use borrow.Author.Tests.{lt-leb, le-leb}
 use Rattle.owed.proofs.within.Statement.{statement}
 use Rattle.owed.proofs.within.Tie as tie
 use Rattle.owed.proofs.within.Reads as reads
 use Rattle.owed.proofs.within.Lts as lts
 
--- src/lib.rt:133:9
 returns : tie.Need-returns
 returns c = simp (lt-leb _ _ (c .if1 .taken))
 
--- src/lib.rt:129:1
 returns-2 : tie.Need-returns-2
 returns-2 c = simp (le-leb _ _ (c .if1 .left))
 

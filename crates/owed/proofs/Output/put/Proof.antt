@@ -1,3 +1,4 @@
+-- `owed::Output::put`: its segments in a row.
 use mathlib.Core.Path.{_≡_, ap}
 use Rattle.owed.specs.Owed.{outputBytes}
 use Rattle.emit.proofs.Segments.{joined, joined-three}
@@ -11,103 +12,78 @@ use Rattle.emit.proofs.Cursor.put_fp32.Reads as put-fp32-reads
 use Rattle.emit.proofs.Cursor.put_fp64.Reads as put-fp64-reads
 use Rattle.emit.proofs.Cursor.put_varint.Reads as put-varint-reads
 
--- src/lib.rt:220:30
 enum-told : tie.Need-enum-told
 enum-told c = search needs
 
--- src/lib.rt:221:25
 enum-known-self : tie.Need-enum-known-self
 enum-known-self c = search needs
 
--- src/lib.rt:222:21
 put-varint-requires : tie.Need-put-varint-requires
 put-varint-requires c κs = search needs
 
--- src/lib.rt:225:25
 enum-known-self-2 : tie.Need-enum-known-self-2
 enum-known-self-2 c = search needs
 
--- src/lib.rt:226:21
 put-varint-requires-2 : tie.Need-put-varint-requires-2
 put-varint-requires-2 c κs = search needs
 
--- src/lib.rt:227:21
 put-varint-requires-3 : tie.Need-put-varint-requires-3
 put-varint-requires-3 c κs = search needs
 
--- src/lib.rt:230:27
 enum-known-self-3 : tie.Need-enum-known-self-3
 enum-known-self-3 c = search needs
 
--- src/lib.rt:231:21
 put-varint-requires-4 : tie.Need-put-varint-requires-4
 put-varint-requires-4 c κs = search needs
 
--- src/lib.rt:232:21
 put-varint-requires-5 : tie.Need-put-varint-requires-5
 put-varint-requires-5 c κs = search needs
 
--- src/lib.rt:233:21
 put-varint-requires-6 : tie.Need-put-varint-requires-6
 put-varint-requires-6 c κs = search needs
 
--- src/lib.rt:236:26
 enum-known-self-4 : tie.Need-enum-known-self-4
 enum-known-self-4 c = search needs
 
--- src/lib.rt:237:21
 put-fp32-requires : tie.Need-put-fp32-requires
 put-fp32-requires c κs = search needs
 
--- src/lib.rt:240:27
 enum-known-self-5 : tie.Need-enum-known-self-5
 enum-known-self-5 c = search needs
 
--- src/lib.rt:241:21
 put-fp64-requires : tie.Need-put-fp64-requires
 put-fp64-requires c κs = search needs
 
--- src/lib.rt:214:5
 returns : tie.Need-returns
 returns c = landed-none (c .before .before .before .args .buf .now) (c .before .before .before .args .pos) (c .before .before .before .args .place) (outputBytes (c .before .before .before .args .self)) (ap outputBytes (c .enum-told .given .1))
 
--- src/lib.rt:214:5
 same-length : tie.Need-same-length
 same-length c = search needs
 
--- src/lib.rt:214:5
 returns-2 : tie.Need-returns-2
 returns-2 c = landed _ _ _ _ _ _ (ap outputBytes (c .before .before .before .before .before .self .given .1)) (c .before .before .put-varint .ensures)
 
--- src/lib.rt:214:5
 same-length-2 : tie.Need-same-length-2
 same-length-2 c = search needs
 
--- src/lib.rt:214:5
 returns-3 : tie.Need-returns-3
 returns-3 c = landed _ _ _ _ _ _ (ap outputBytes (c .before .before .before .before .before .before .before .before .before .self2 .given .1)) (joined _ _ _ _ _ _ _ _ (c .before .before .before .before .before .before .before .before .before .before .before .before .pre) (c .before .before .before .before .before .before .put-varint2 .ensures) (c .before .before .put-varint3 .ensures))
 
--- src/lib.rt:214:5
 same-length-3 : tie.Need-same-length-3
 same-length-3 c = search needs
 
--- src/lib.rt:214:5
 returns-4 : tie.Need-returns-4
 returns-4 c = landed _ _ _ _ _ _ (ap outputBytes (c .before .before .before .before .before .before .before .before .before .before .before .before .before .self3 .given .1)) (joined-three _ _ _ _ _ _ _ _ _ _ _ (c .before .before .before .before .before .before .before .before .before .before .before .before .before .before .before .before .pre) (c .before .before .before .before .before .before .before .before .before .before .put-varint4 .ensures) (c .before .before .before .before .before .before .put-varint5 .ensures) (c .before .before .put-varint6 .ensures))
 
--- src/lib.rt:214:5
 same-length-4 : tie.Need-same-length-4
 same-length-4 c = search needs
 
--- src/lib.rt:214:5
 returns-5 : tie.Need-returns-5
 returns-5 c = landed _ _ _ _ _ _ (ap outputBytes (c .before .before .before .before .before .self4 .given .1)) (c .before .before .put-fp32 .ensures)
 
--- src/lib.rt:214:5
 same-length-5 : tie.Need-same-length-5
 same-length-5 c = search needs
 
--- src/lib.rt:214:5
 returns-6 : tie.Need-returns-6
 returns-6 c = landed _ _ _ _ _ _ (ap outputBytes (c .before .before .before .before .before .self5 .given .1)) (c .before .before .put-fp64 .ensures)
 

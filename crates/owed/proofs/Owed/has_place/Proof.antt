@@ -1,3 +1,4 @@
+-- `owed::Owed::has_place`: nothing has no place.
 use mathlib.Core.Path.{_≡_, ap, _∙_}
 use lib.Dec.{ltb}
 use lib.ListN.{length}
@@ -12,23 +13,18 @@ use Rattle.owed.proofs.Owed.has_place.Lts as lts
 use Rattle.owed.proofs.Output.len.Reads as len-reads
 use Rattle.owed.proofs.Owed.output.Reads as output-reads
 
--- src/lib.rt:185:13
 enum-told : tie.Need-enum-told
 enum-told c = search needs
 
--- src/lib.rt:185:13
 returns : tie.Need-returns
 returns c = search needs
 
--- src/lib.rt:187:28
 output-requires : tie.Need-output-requires
 output-requires c κs = search needs
 
--- src/lib.rt:187:28
 len-requires : tie.Need-len-requires
 len-requires c κs = search needs
 
--- src/lib.rt:181:5
 returns-2 : tie.Need-returns-2
 returns-2 c = ap (ltb (c .before .before .before .args .place)) (c .len .ensures .0 ∙ ap (λ (o : Output). length (outputBytes o)) (c .before .output .ensures)) ∙ place-else (c .before .before .before .args .self) (c .before .before .before .args .place) (c .before .before .match .keys2)
 

@@ -1,3 +1,4 @@
+-- `owed::Owed::level`: by what the event does to the depth.
 use Rattle.owed.proofs.Laws.{level-else}
 use borrow.Author.Needs.{needs}
 use Rattle.owed.proofs.Owed.level.Statement.{statement}
@@ -5,31 +6,24 @@ use Rattle.owed.proofs.Owed.level.Tie as tie
 use Rattle.owed.proofs.Owed.level.Reads as reads
 use Rattle.owed.proofs.Owed.level.Lts as lts
 
--- src/lib.rt:159:36
 enum-told : tie.Need-enum-told
 enum-told c = search needs
 
--- src/lib.rt:159:36
 add-result : tie.Need-add-result
 add-result c = search needs
 
--- src/lib.rt:160:26
 enum-told-2 : tie.Need-enum-told-2
 enum-told-2 c = search needs
 
--- src/lib.rt:160:26
 add-result-2 : tie.Need-add-result-2
 add-result-2 c = search needs
 
--- src/lib.rt:153:5
 returns : tie.Need-returns
 returns c = simp (c .enum-told .given .1)
 
--- src/lib.rt:153:5
 returns-2 : tie.Need-returns-2
 returns-2 c = simp (c .enum-told2 .given .1)
 
--- src/lib.rt:153:5
 returns-3 : tie.Need-returns-3
 returns-3 c = level-else (c .before .args .reader) (c .before .args .writer) (c .before .args .self) (c .match .keys3)
 

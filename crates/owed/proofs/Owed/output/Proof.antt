@@ -1,3 +1,4 @@
+-- `owed::Owed::output`: variant by variant.
 use Prim.Native.Nat.{ℕ, _+_, _*_}
 use Rattle.layout.specs.Field.{Subtype, bytesOf, subtypeNumber, float, raw}
 use Rattle.types.specs.Types.{width, rawSort}
@@ -19,167 +20,126 @@ use Rattle.types.proofs.FloatType.fixlen.Reads as FloatType-fixlen-reads
 use Rattle.types.proofs.RawType.fixlen.Reads as RawType-fixlen-reads
 use Rattle.varint.proofs.zigzag_encode.Reads as zigzag-encode-reads
 
--- src/lib.rt:132:30
 enum-told : tie.Need-enum-told
 enum-told c = search needs
 
--- src/lib.rt:133:28
 enum-known-self : tie.Need-enum-known-self
 enum-known-self c = search needs
 
--- src/lib.rt:133:50
 tagged-requires : tie.Need-tagged-requires
 tagged-requires c κs = search needs
 
--- src/lib.rt:134:26
 enum-known-self-2 : tie.Need-enum-known-self-2
 enum-known-self-2 c = search needs
 
--- src/lib.rt:134:48
 tagged-requires-2 : tie.Need-tagged-requires-2
 tagged-requires-2 c κs = search needs
 
--- src/lib.rt:134:77
 zigzag-encode-requires : tie.Need-zigzag-encode-requires
 zigzag-encode-requires c κs = search needs
 
--- src/lib.rt:135:27
 enum-known-self-3 : tie.Need-enum-known-self-3
 enum-known-self-3 c = search needs
 
--- src/lib.rt:136:33
 enum-known-self-4 : tie.Need-enum-known-self-4
 enum-known-self-4 c = search needs
 
--- src/lib.rt:136:51
 zigzag-encode-requires-2 : tie.Need-zigzag-encode-requires-2
 zigzag-encode-requires-2 c κs = search needs
 
--- src/lib.rt:137:24
 enum-known-self-5 : tie.Need-enum-known-self-5
 enum-known-self-5 c = search needs
 
--- src/lib.rt:138:24
 enum-known-self-6 : tie.Need-enum-known-self-6
 enum-known-self-6 c = search needs
 
--- src/lib.rt:139:25
 enum-known-self-7 : tie.Need-enum-known-self-7
 enum-known-self-7 c = search needs
 
--- src/lib.rt:140:35
 bytes-requires : tie.Need-bytes-requires
 bytes-requires c κs = search needs
 
--- src/lib.rt:140:35
 cast-tagged : tie.Need-cast-tagged
 cast-tagged c = search needs
 
--- src/lib.rt:140:53
 fixlen-requires : tie.Need-fixlen-requires
 fixlen-requires c κs = search needs
 
--- src/lib.rt:140:53
 raw-requires : tie.Need-raw-requires
 raw-requires c κs = search needs
 
--- src/lib.rt:140:21
 tagged-requires-3 : tie.Need-tagged-requires-3
 tagged-requires-3 c κs = search needs
 
--- src/lib.rt:141:29
 tagged-requires-4 : tie.Need-tagged-requires-4
 tagged-requires-4 c κs = search needs
 
--- src/lib.rt:143:27
 enum-known-self-8 : tie.Need-enum-known-self-8
 enum-known-self-8 c = search needs
 
--- src/lib.rt:144:29
 tagged-requires-5 : tie.Need-tagged-requires-5
 tagged-requires-5 c κs = search needs
 
--- src/lib.rt:144:65
 fixlen-requires-2 : tie.Need-fixlen-requires-2
 fixlen-requires-2 c κs = search needs
 
--- src/lib.rt:144:65
 raw-requires-2 : tie.Need-raw-requires-2
 raw-requires-2 c κs = search needs
 
--- src/lib.rt:144:51
 tagged-requires-6 : tie.Need-tagged-requires-6
 tagged-requires-6 c κs = search needs
 
--- src/lib.rt:146:25
 enum-known-self-9 : tie.Need-enum-known-self-9
 enum-known-self-9 c = search needs
 
--- src/lib.rt:146:45
 array-output-requires : tie.Need-array-output-requires
 array-output-requires c κs = search needs
 
--- src/lib.rt:147:25
 enum-known-self-10 : tie.Need-enum-known-self-10
 enum-known-self-10 c = search needs
 
--- src/lib.rt:147:44
 tagged-requires-7 : tie.Need-tagged-requires-7
 tagged-requires-7 c κs = search needs
 
--- src/lib.rt:148:38
 enum-told-2 : tie.Need-enum-told-2
 enum-told-2 c = search needs
 
--- src/lib.rt:148:38
 cast-t35 : tie.Need-cast-t35
 cast-t35 c = search needs
 
--- src/lib.rt:128:5
 returns : tie.Need-returns
 returns c = search needs
 
--- src/lib.rt:128:5
 returns-2 : tie.Need-returns-2
 returns-2 c = simp (c .before .before .self .given .1, c .tagged .ensures)
 
--- src/lib.rt:128:5
 returns-3 : tie.Need-returns-3
 returns-3 c = let f : toZ w64 (ofZ w64 (c .before .before .before .self2 .given .0 .1 .0)) ≡ c .before .before .before .self2 .given .0 .1 .0 = search needs in simp (c .before .before .before .self2 .given .1, c .before .tagged2 .ensures, c .zigzag-encode .ensures, f)
 
--- src/lib.rt:128:5
 returns-4 : tie.Need-returns-4
 returns-4 c = simp (c .before .self3 .given .1)
 
--- src/lib.rt:128:5
 returns-5 : tie.Need-returns-5
 returns-5 c = let f : toZ w64 (ofZ w64 (c .before .before .self4 .given .0 .0)) ≡ c .before .before .self4 .given .0 .0 = search needs in simp (c .before .before .self4 .given .1, c .zigzag-encode2 .ensures, f)
 
--- src/lib.rt:128:5
 returns-6 : tie.Need-returns-6
 returns-6 c = simp (c .before .self5 .given .1)
 
--- src/lib.rt:128:5
 returns-7 : tie.Need-returns-7
 returns-7 c = simp (c .before .self6 .given .1)
 
--- src/lib.rt:128:5
 returns-8 : tie.Need-returns-8
 returns-8 c = simp (c .before .before .before .before .before .before .self7 .given .1, c .tagged4 .ensures, c .before .tagged3 .ensures, c .before .before .raw .ensures, c .before .before .before .fixlen .ensures, c .before .before .before .before .bytes .ensures) (ap (λ (x : Subtype). Two (c .before .before .before .before .before .before .self7 .given .0 .0 * 8 + 2) (bytesOf (width (c .before .before .before .before .before .before .self7 .given .0 .1 .0)) * 8 + subtypeNumber x)) (subtype-back (float (width (c .before .before .before .before .before .before .self7 .given .0 .1 .0)))))
 
--- src/lib.rt:128:5
 returns-9 : tie.Need-returns-9
 returns-9 c = simp (c .before .before .before .before .before .self8 .given .1, c .before .before .before .tagged5 .ensures, c .tagged6 .ensures, c .before .raw2 .ensures, c .before .before .fixlen2 .ensures) (ap (λ (x : Subtype). Two (c .before .before .before .before .before .self8 .given .0 .0 * 8 + 2) (c .before .before .before .before .before .self8 .given .0 .1 .1 .0 * 8 + subtypeNumber x)) (subtype-back (raw (rawSort (c .before .before .before .before .before .self8 .given .0 .1 .0)))))
 
--- src/lib.rt:128:5
 returns-10 : tie.Need-returns-10
 returns-10 c = simp (c .before .before .self9 .given .1, c .array-output .ensures)
 
--- src/lib.rt:128:5
 returns-11 : tie.Need-returns-11
 returns-11 c = simp (c .before .before .self10 .given .1, c .tagged7 .ensures)
 
--- src/lib.rt:128:5
 returns-12 : tie.Need-returns-12
 returns-12 c = simp (c .enum-told2 .given .1)
 

@@ -1,3 +1,4 @@
+-- `owed::Owed::sound`: three tests.
 use mathlib.Core.Path.{_≡_, sym, _∙_}
 use borrow.Author.Tests.{not-true, not-false}
 use Rattle.owed.proofs.Laws.{not-level, not-legal, level-and-legal}
@@ -10,27 +11,21 @@ use Rattle.owed.proofs.Owed.has_place.Reads as has-place-reads
 use Rattle.owed.proofs.Owed.legal.Reads as legal-reads
 use Rattle.owed.proofs.Owed.level.Reads as level-reads
 
--- src/lib.rt:206:13
 level-requires : tie.Need-level-requires
 level-requires c κs = search needs
 
--- src/lib.rt:207:13
 returns : tie.Need-returns
 returns c = not-level (c .before .before .args .reader) (c .before .before .args .writer) (c .before .before .args .self) (c .before .before .args .place) (sym (c .before .level .ensures) ∙ not-true _ (c .if1 .taken))
 
--- src/lib.rt:209:13
 legal-requires : tie.Need-legal-requires
 legal-requires c κs = search needs
 
--- src/lib.rt:210:13
 returns-2 : tie.Need-returns-2
 returns-2 c = not-legal (c .before .before .before .before .args .reader) (c .before .before .before .before .args .writer) (c .before .before .before .before .args .self) (c .before .before .before .before .args .place) (sym (c .before .before .before .level .ensures) ∙ not-false _ (c .before .before .if1 .left)) (sym (c .before .legal .ensures) ∙ not-true _ (c .if2 .taken))
 
--- src/lib.rt:212:9
 has-place-requires : tie.Need-has-place-requires
 has-place-requires c κs = search needs
 
--- src/lib.rt:203:5
 returns-3 : tie.Need-returns-3
 returns-3 c = c .has-place .ensures ∙ sym (level-and-legal (c .before .before .before .before .before .args .reader) (c .before .before .before .before .before .args .writer) (c .before .before .before .before .before .args .self) (c .before .before .before .before .before .args .place) (sym (c .before .before .before .before .level .ensures) ∙ not-false _ (c .before .before .before .if1 .left)) (sym (c .before .before .legal .ensures) ∙ not-false _ (c .before .if2 .left)))
 

@@ -165,7 +165,7 @@ impl Owed {
             }
             Owed::Array(id, kind, count) => array_output(id, kind, count),
             Owed::Begin(id) => Output::One(tagged(id, T_SEQUENCE_START)),
-            Owed::End => Output::One(T_SEQUENCE_END as u64),
+            Owed::End => Output::One(tagged(0, T_SEQUENCE_END)),
         }
     }
 

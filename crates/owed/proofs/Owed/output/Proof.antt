@@ -104,8 +104,8 @@ tagged-requires-7 c κs = search needs
 enum-told-2 : tie.Need-enum-told-2
 enum-told-2 c = search needs
 
-cast-t35 : tie.Need-cast-t35
-cast-t35 c = search needs
+tagged-requires-8 : tie.Need-tagged-requires-8
+tagged-requires-8 c κs = search needs
 
 returns : tie.Need-returns
 returns c = search needs
@@ -141,7 +141,7 @@ returns-11 : tie.Need-returns-11
 returns-11 c = simp (c .before .before .self10 .given .1, c .tagged7 .ensures)
 
 returns-12 : tie.Need-returns-12
-returns-12 c = simp (c .enum-told2 .given .1)
+returns-12 c = simp (c .before .enum-told2 .given .1, c .tagged8 .ensures)
 
 pub output-spec : {M : Type 1} → statement M
 output-spec =
@@ -175,7 +175,7 @@ output-spec =
     enum-known-self-10
     tagged-requires-7
     enum-told-2
-    cast-t35
+    tagged-requires-8
     returns
     returns-2
     returns-3

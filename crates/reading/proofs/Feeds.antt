@@ -113,7 +113,7 @@ small-step d (inPayload id r total o) b s c l = let z : _≡_ {A = ℕ} 0 1 = cc
 
 -- ---- an answer's event is in range of the chunk
 
-abbrev Ranged : List ℕ → ℕ → Answer → Type 0
+abbrev pub Ranged : List ℕ → ℕ → Answer → Type 0
 Ranged c n (event e) = InRange c (n - covered e) e
 Ranged c n (verdict v) = Unit {0}
 Ranged c n invalid = Unit {0}
@@ -166,7 +166,7 @@ unfolding scan
 payload-range [] d id r total o = tt
 payload-range (b ∷ bs) d id r total o = piece-range (b ∷ bs) d id r total o (min (total - o) (length (b ∷ bs))) (omega arith)
 
-call-range : (st : State) (c : List ℕ) → SoundState st → Bytes c → Ranged c (call base st c .read) (call base st c .answer)
+pub call-range : (st : State) (c : List ℕ) → SoundState st → Bytes c → Ranged c (call base st c .read) (call base st c .answer)
 unfolding call
 call-range (reading d (inHeader k v)) c h b = scan-range c 0 d _ c b (h .0, (h .1, refl))
 call-range (reading d (inUnsigned id left k v)) c h b = scan-range c 0 d _ c b (h .0, (h .1, refl))
@@ -189,7 +189,7 @@ fed-is (reading d p) c h = sym (fed-sound (streamIn (reading d p)) (reading d p)
 fed-is (owing d id r) c h = sym (fed-sound (streamIn (owing d id r)) (owing d id r) c (state-of-stream (owing d id r)) tt (sound-is (owing d id r) h))
 fed-is broke c h = sym (fed-broken (streamIn broke) c refl)
 
-each-byte : (c : List ℕ) → Bytes c → (i : ℕ) → getD c i 0 < 256
+pub each-byte : (c : List ℕ) → Bytes c → (i : ℕ) → getD c i 0 < 256
 each-byte [] h zero = omega arith
 each-byte [] h (suc i) = omega arith
 each-byte (b ∷ bs) h zero = h .0

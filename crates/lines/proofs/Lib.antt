@@ -1,0 +1,3 @@
+-- `Texts` joins texts put one after another; `Numbers` has the digits.
+pub mod Texts
+pub mod Numbers

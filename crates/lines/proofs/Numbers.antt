@@ -15,10 +15,10 @@ next-digit : (k n : ℕ) → decimalIn (suc k) n ≡ pick (ltb n 10) (glyph n �
 unfolding decimalIn
 next-digit k n = refl
 
-one-digit : (k n : ℕ) → n < 10 → decimalIn (suc k) n ≡ glyph n ∷ []
+pub one-digit : (k n : ℕ) → n < 10 → decimalIn (suc k) n ≡ glyph n ∷ []
 one-digit k n h = next-digit k n ∙ ap (λ (b : Bool). pick b (glyph n ∷ []) (decimalIn k (n / 10) ++ (glyph (n % 10) ∷ []))) (lt-ltb n 10 h)
 
-more-digits : (k n : ℕ) → 10 ≤ n → decimalIn (suc k) n ≡ decimalIn k (n / 10) ++ (glyph (n % 10) ∷ [])
+pub more-digits : (k n : ℕ) → 10 ≤ n → decimalIn (suc k) n ≡ decimalIn k (n / 10) ++ (glyph (n % 10) ∷ [])
 more-digits k n h = next-digit k n ∙ ap (λ (b : Bool). pick b (glyph n ∷ []) (decimalIn k (n / 10) ++ (glyph (n % 10) ∷ []))) (le-ltb n 10 h)
 
 -- k digits, the fewest, where f hold the number too

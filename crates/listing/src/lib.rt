@@ -1,13 +1,17 @@
 // The event list of a message, chunk by chunk: the reader's calls on a chunk, the lines of each event put into a lent buffer, and the
 // verdict once the chunk is spent. The caller empties the buffer in between; nothing of the message is held but the reader's state.
+ghost use mathlib.Core.Path.{_≡_};
+ghost use Prim.Native.Nat.{_+_, _*_};
+ghost use lib.Dec.{leb};
+ghost use lib.ListN.{length};
 use istream::Answer;
 use istream::IStream;
 use istream::Status;
 use lines::Verdict;
 use lines::put_event;
 
-// No line is longer: `S`, an id of ten digits and a signed value of twenty characters; nor that of a payload byte.
-const LINE: usize = 64;
+// No line is longer, nor that of a payload byte (`lines-short` of `lines`).
+const LINE: usize = 80;
 
 const BYTE_LINE: usize = 6;
 
@@ -62,11 +66,6 @@ fn onward(len: usize, from: usize, read: usize) -> usize {
     len
 }
 
-// Whether the lines of any event of this chunk fit after `at`.
-fn room(free: usize, chunk: usize) -> bool {
-    LINE <= free && chunk <= (free - LINE) / BYTE_LINE
-}
-
 fn stop(stream: IStream, from: usize, at: usize, verdict: Verdict) -> Listing {
     Listing {
         stream,
@@ -115,8 +114,18 @@ fn step(l: Listing, chunk: &[u8], out: &mut [u8]) -> Listing {
     }
 }
 
-fn roomy(at: usize, chunk: &[u8], out: &[u8]) -> bool {
-    at <= out.len() && room(out.len() - at, chunk.len())
+// Whether the lines of any event of this chunk fit after `at`: `lines` has the law that none is then cut off (`whole-lines`).
+fn roomy(at: usize, chunk: &[u8], out: &[u8]) -> bool
+    ensures { λ r. ⌜ r ≡ leb (at + (80 + 6 * length (now (chunk .entry)))) (length (now (out .entry))) ⌝ }
+{
+    if out.len() < at {
+        return false;
+    }
+    let free = out.len() - at;
+    if free < LINE {
+        return false;
+    }
+    chunk.len() <= (free - LINE) / BYTE_LINE
 }
 
 // The calls on a chunk, as far as there is room for their lines; where `more` is left, the caller empties the text and calls again. They

@@ -1,22 +1,26 @@
--- `events::list` is safe and ends.
-use Prim.Native.Nat.{_≤_, _-_, _+_}
+-- `listing::list` is safe and ends.
+use Prim.Native.Nat.{_≤_, _-_}
 use mathlib.Core.Path.{_≡_}
 use lib.ListN.{length}
 use borrow.Author.Needs.{needs}
-use Rattle.events.proofs.list.Statement.{statement}
-use Rattle.events.proofs.list.Tie as tie
-use Rattle.events.proofs.list.Reads as reads
-use Rattle.events.proofs.list.Lts as lts
-use Rattle.events.proofs.step.Reads as step-reads
+use Rattle.listing.proofs.list.Statement.{statement}
+use Rattle.listing.proofs.list.Tie as tie
+use Rattle.listing.proofs.list.Reads as reads
+use Rattle.listing.proofs.list.Lts as lts
+use Rattle.listing.proofs.roomy.Reads as roomy-reads
+use Rattle.listing.proofs.step.Reads as step-reads
 
 abbrev Inv-loop : tie.InvT-loop
-Inv-loop chunk out₀ at l₀ turns₀ out l turns = length out ≡ length out₀
+Inv-loop chunk out₀ l₀ turns₀ out l turns = length out ≡ length out₀
 
 abbrev μ-loop : tie.MeasureT-loop
-μ-loop chunk out₀ at l₀ turns₀ out l turns = turns
+μ-loop chunk out₀ l₀ turns₀ out l turns = turns
 
 loop-holds : tie.Need-loop-holds Inv-loop μ-loop
 loop-holds c = search needs
+
+roomy-requires : tie.Need-roomy-requires Inv-loop μ-loop
+roomy-requires c κs = search needs
 
 same-length : tie.Need-same-length Inv-loop μ-loop
 same-length c = search needs
@@ -49,6 +53,7 @@ list-spec =
     Inv-loop
     μ-loop
     loop-holds
+    roomy-requires
     same-length
     returns
     step-requires

@@ -122,25 +122,25 @@ same-verdict m d (inPayload id r total o) = refl
 
 -- and that is complete or incomplete
 abbrev Plain : Verdict → Type 0
-Plain v = (heardOf v ≡ status v) × (standingOf v ≡ unbroken (standingOf v)) × ((n : ℕ) → readOf n v ≡ n)
+Plain v = (heardOf v ≡ status v) × (standingOf v ≡ unbroken (standingOf v))
 
 plain-pick : (t : Bool) → Plain (pick t complete incomplete)
-plain-pick true = (refl, refl, λ n. refl)
-plain-pick false = (refl, refl, λ n. refl)
+plain-pick true = (refl, refl)
+plain-pick false = (refl, refl)
 
 plain-at : (d : ℕ) (p : Phase) → Plain (verdictAt d p)
 unfolding judge ending
 plain-at d (inHeader zero v) = plain-pick (eqb d 0)
-plain-at d (inHeader (suc k) v) = (refl, refl, λ n. refl)
-plain-at d (inUnsigned id left k v) = (refl, refl, λ n. refl)
-plain-at d (inSigned id left k v) = (refl, refl, λ n. refl)
-plain-at d (inWord id k v) = (refl, refl, λ n. refl)
-plain-at d (inUnsignedCount id k v) = (refl, refl, λ n. refl)
-plain-at d (inSignedCount id k v) = (refl, refl, λ n. refl)
-plain-at d (inFloatCount id k v) = (refl, refl, λ n. refl)
-plain-at d (inArrayWord id c k v) = (refl, refl, λ n. refl)
-plain-at d (inFloat id w left k v) = (refl, refl, λ n. refl)
-plain-at d (inPayload id r total o) = (refl, refl, λ n. refl)
+plain-at d (inHeader (suc k) v) = (refl, refl)
+plain-at d (inUnsigned id left k v) = (refl, refl)
+plain-at d (inSigned id left k v) = (refl, refl)
+plain-at d (inWord id k v) = (refl, refl)
+plain-at d (inUnsignedCount id k v) = (refl, refl)
+plain-at d (inSignedCount id k v) = (refl, refl)
+plain-at d (inFloatCount id k v) = (refl, refl)
+plain-at d (inArrayWord id c k v) = (refl, refl)
+plain-at d (inFloat id w left k v) = (refl, refl)
+plain-at d (inPayload id r total o) = (refl, refl)
 
 pub verdict-at : (L : Limits) (bs : List ℕ) (d : ℕ) (p : Phase) → walk L 0 idle bs .place ≡ at d p → verdictOf L bs ≡ verdictAt d p
 unfolding endOf
@@ -209,8 +209,14 @@ unfolding standing
 stands-standing L bs es n (reading d p) (clear f m) = ap standingOf (sym (verdict-at L bs d p (f .place)))
 stands-standing L bs es n broke (gone v e) = ap standingOf (sym v)
 
+-- of a message that is not broken, all
+all-read : (v : Verdict) (n : ℕ) → heardOf v ≡ status v → readOf n v ≡ n
+all-read complete n e = refl
+all-read incomplete n e = refl
+all-read (brokenAt k) n e = let z : _≡_ {A = ℕ} 0 1 = cc in absurd (omega arith)
+
 stands-read : (L : Limits) (bs : List ℕ) (es : List Event) (n : ℕ) (s : State) → Stands L bs es n s → n ≡ readOf (length bs) (verdictOf L bs)
-stands-read L bs es n (reading d p) (clear f m) = m ∙ sym (ap (readOf (length bs)) (verdict-at L bs d p (f .place)) ∙ plain-at d p .2 (length bs))
+stands-read L bs es n (reading d p) (clear f m) = m ∙ sym (ap (readOf (length bs)) (verdict-at L bs d p (f .place)) ∙ all-read (verdictAt d p) (length bs) (plain-at d p .0))
 stands-read L bs es n broke (gone v e) = ap (readOf (length bs)) (sym v)
 
 -- For every list of chunks: the events given, bytewise, are the layout's for the bytes handed, and so is the verdict after each chunk.

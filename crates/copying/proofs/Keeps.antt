@@ -25,7 +25,7 @@ use Rattle.emit.proofs.Writes.{put-is, reached-is, take-over, length-put, reach
 use Rattle.copying.specs.Owed.{Owed, nothing, owes, rest, further, dueIn}
 use Rattle.copying.specs.Copy.{Copy, Answer, full, verdict, invalid, unfinished, Copied, after, settled, filled, gone, handed, stuck, heard, fits, allOf, copies, turnsFor, copy}
 use Rattle.copying.specs.Run.{Keeps, InPayload, Bulk, Final, NoPiece, Kept}
-use Rattle.copying.proofs.Turns.{goes, goes-on, goes-is, turn-full, turn-goes, fits-false, fits-true, enough, handed-first, take-take, turn-heard}
+use Rattle.copying.proofs.Turns.{goes, goes-on, turn-full, turn-goes, fits-false, fits-true, enough, handed-first, take-take, turn-heard}
 use Rattle.copying.proofs.Due.{walk-due}
 use Rattle.copying.proofs.Pieces.{Takes, takes-plain, given-fits}
 
@@ -299,7 +299,7 @@ Later L n reserved most =
 kept-goes : (L : Limits) (n : ℕ) (reserved bs sent : List ℕ) (k : Copy) (c b : List ℕ) → Keeps L reserved bs (sent ++ take (k .pos) b) k → k .pos ≤ length b → k .owed ≡ nothing
     → Later L n reserved (2 * length c + weight (k .reader)) → Kept L reserved bs sent k c b (goes L n (length b - k .pos) k c b)
 unfolding goes-on rest
-kept-goes L n reserved bs sent k c b q p o later = subst (Kept L reserved bs sent k c b) (sym (goes-is L n (length b - k .pos) k c b)) (go (stuck (k .reader) (length b - k .pos) c) refl)
+kept-goes L n reserved bs sent k c b q p o later = go (stuck (k .reader) (length b - k .pos) c) refl
   where
     go : (t : Bool) → stuck (k .reader) (length b - k .pos) c ≡ t → Kept L reserved bs sent k c b (goes-on L n (length b - k .pos) k c b t)
     go true e = kept-stuck L reserved bs sent k c b q p o e

@@ -23,7 +23,7 @@ use Rattle.emit.proofs.Writes.{reached-is, length-put, reached-le}
 use Rattle.copying.specs.Owed.{Owed, nothing, owes, rest, further, depthBy, depthOnce, dueIn, legal, level, agrees, soundOwed}
 use Rattle.copying.specs.Copy.{Copy, Answer, full, verdict, invalid, unfinished, Copied, after, settled, filled, gone, handed, stuck, heard, fits, allOf, copies, turnsFor, copy}
 use Rattle.copying.specs.Run.{NotPiece, NoPiece}
-use Rattle.copying.proofs.Turns.{goes, goes-on, goes-is, turn-full, turn-goes, fits-false, fits-true, enough, turn-heard, nearer}
+use Rattle.copying.proofs.Turns.{goes, goes-on, turn-full, turn-goes, fits-false, fits-true, enough, turn-heard, nearer}
 use Rattle.copying.proofs.Pieces.{Takes, takes-plain, given-fits}
 use Rattle.copying.proofs.Keeps.{put-below, put-beyond, take-less, drop-more}
 use Rattle.copying.proofs.Allowed.{InForce, Gave, Stood, CallOf, all-of, call-sound}
@@ -296,7 +296,7 @@ Later L n most = (k : Copy) (c b : List ℕ) → Mid L k → k .pos ≤ length b
 sounds-goes : (L : Limits) (n : ℕ) (k : Copy) (c b : List ℕ) → Mid L k → k .pos ≤ length b → k .owed ≡ nothing → Later L n (2 * length c + weight (k .reader))
     → Sounds L k c b (goes L n (length b - k .pos) k c b)
 unfolding goes-on rest
-sounds-goes L n k c b m p o later = subst (Sounds L k c b) (sym (goes-is L n (length b - k .pos) k c b)) (go (stuck (k .reader) (length b - k .pos) c) refl)
+sounds-goes L n k c b m p o later = go (stuck (k .reader) (length b - k .pos) c) refl
   where
     go : (t : Bool) → stuck (k .reader) (length b - k .pos) c ≡ t → Sounds L k c b (goes-on L n (length b - k .pos) k c b t)
     go true e =

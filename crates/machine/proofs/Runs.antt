@@ -100,7 +100,7 @@ data Stands (L : Limits) (bs : List ℕ) (es : List Event) (n : ℕ) : State →
   gone : verdictOf L bs ≡ brokenAt n → eventsOf L bs ≡ bytewise es → Stands L bs es n broke
 
 -- a verdict has no word for a broken reader, which is refused
-abbrev unbroken : Standing → Standing
+abbrev pub unbroken : Standing → Standing
 unbroken Call.complete = Call.complete
 unbroken Call.incomplete = Call.incomplete
 unbroken Call.broken = Call.incomplete
@@ -121,14 +121,14 @@ same-verdict m d (inFloat id w left k v) = refl
 same-verdict m d (inPayload id r total o) = refl
 
 -- and that is complete or incomplete
-abbrev Plain : Verdict → Type 0
+abbrev pub Plain : Verdict → Type 0
 Plain v = (heardOf v ≡ status v) × (standingOf v ≡ unbroken (standingOf v))
 
 plain-pick : (t : Bool) → Plain (pick t complete incomplete)
 plain-pick true = (refl, refl)
 plain-pick false = (refl, refl)
 
-plain-at : (d : ℕ) (p : Phase) → Plain (verdictAt d p)
+pub plain-at : (d : ℕ) (p : Phase) → Plain (verdictAt d p)
 unfolding judge ending
 plain-at d (inHeader zero v) = plain-pick (eqb d 0)
 plain-at d (inHeader (suc k) v) = (refl, refl)

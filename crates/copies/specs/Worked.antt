@@ -1,0 +1,62 @@
+-- A worked run: 88 00 AC 82 00 in four chunks, one of them empty, through a buffer of one byte, with a feed too many, a drain too many and
+-- calls for other buffers between.
+use Prim.Native.Nat.{ℕ}
+use mathlib.Core.Path.{_≡_, refl}
+use mathlib.Core.List.{List, [], _∷_, _++_}
+use Rattle.layout.specs.Varint.{push, shortestIn, shortest}
+use Rattle.layout.specs.Field.{lowBytes}
+use Rattle.layout.specs.Message.{complete, incomplete}
+use Rattle.laws.specs.Events.{eventBytes}
+use Rattle.machine.specs.Machine.{atHeader, atWord, atUnsignedCount, atSignedCount, atFloatCount, atArrayWord, atUnsigned, atSigned, within, atFloat, atByte, step, ending, judge}
+use Rattle.machine.specs.Call.{scanned, scan, call}
+use Rattle.machine.specs.Run.{Heard, status}
+use Rattle.emit.specs.Put.{over, put, reached}
+use Rattle.varint.specs.Varint.{soundAcc}
+use Rattle.istream.specs.Stream as reader
+use Rattle.ostream.specs.Stream as writer
+use Rattle.ostream.specs.Buffer.{opening, draining, changing}
+use Rattle.copying.specs.Owed.{rest, further, depthBy, depthOnce, dueIn, legal, level, agrees, soundOwed}
+use Rattle.copying.specs.Copy.{handed, stuck, heard, copies, copy}
+use Rattle.copier.specs.Copier.{soundWriter}
+use Rattle.copier.specs.Calls.{copied, started, drained, changed}
+use Rattle.copies.specs.Desk.{Desk, start, feeds, drains, changes, opens, Act, feed, drain, change, stray, feeding, act, acts, refusedWith}
+
+-- what was sent, how each chunk ended, the drains counted, and the numbers that stray calls were refused with
+pub record Row : Type 0 where
+  pub sent : List ℕ
+  pub heard : List Heard
+  pub drains : ℕ
+  pub numbers : List ℕ
+
+abbrev pub number : Act → Desk → List ℕ
+number feed d = []
+number drain d = []
+number (change b) d = []
+number (stray x) d = refusedWith x (d .copier) ∷ []
+
+unfoldable pub numbers : List Act → Desk → List ℕ
+numbers [] d = []
+numbers (a ∷ as′) d = number a d ++ numbers as′ (act a d)
+
+abbrev row : List Act → Desk → Row
+row as′ d = record { sent = acts as′ d .sent; heard = acts as′ d .heard; drains = acts as′ d .drains; numbers = numbers as′ d }
+
+abbrev chunks : List (List ℕ)
+chunks = (0x88 ∷ []) ∷ [] ∷ (0x00 ∷ 0xAC ∷ 0x82 ∷ []) ∷ (0x00 ∷ []) ∷ []
+
+-- After the fourth feed the buffer is full: a feed without a drain changes nothing, and no call for a buffer of no bytes is taken.
+abbrev schedule : List Act
+schedule =
+    feed ∷ drain ∷ feed ∷ feed ∷ feed ∷ feed
+    ∷ stray (feeds (0x07 ∷ []) []) ∷ stray (drains 0) ∷ stray (changes 0 3 0) ∷ stray (changes 1 3 3) ∷ stray (opens 0 0) ∷ stray (opens 2 3)
+    ∷ drain ∷ feed ∷ drain ∷ feed ∷ drain ∷ drain ∷ []
+
+pub worked : row schedule (start (0xEE ∷ []) chunks)
+    ≡ record {
+      sent = 0x08 ∷ 0xAC ∷ 0x02 ∷ [];
+      heard = status incomplete ∷ status incomplete ∷ status incomplete ∷ status complete ∷ [];
+      drains = 3;
+      numbers = 6 ∷ 6 ∷ 6 ∷ 5 ∷ 5 ∷ 5 ∷ [];
+    }
+unfolding acts act numbers feeding copied soundWriter started drained changed opening draining changing writer.opened writer.soundStream writer.every reader.soundStream soundAcc soundOwed agrees level legal copy copies heard handed stuck rest further depthBy depthOnce dueIn eventBytes over put reached call scan scanned step within atHeader atWord atUnsignedCount atSignedCount atFloatCount atArrayWord atUnsigned atSigned atFloat atByte ending judge push shortest shortestIn lowBytes
+worked = refl

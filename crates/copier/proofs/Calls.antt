@@ -12,11 +12,13 @@ use Rattle.layout.specs.Limits.{base, pick}
 use Rattle.machine.specs.Call.{State, reading, owing, broke, fresh}
 use Rattle.types.specs.declared.Error.the-variants.{UnsoundReader, UnsoundWriter, InvalidMsg}
 use Rattle.istream.specs.declared.IStream.{IStream}
-use Rattle.istream.specs.declared.Phase as code
-use Rattle.istream.specs.declared.Phase.the-variants as phases
-use Rattle.istream.specs.Stream.{stateAt, stateOf, streamIn, soundPhase, soundStream}
-use Rattle.istream.proofs.Calls.{Live, stream-back}
-use Rattle.istream.proofs.Laws.{both}
+use Rattle.phase.specs.declared.Phase as code
+use Rattle.phase.specs.declared.Phase.the-variants as phases
+use Rattle.phase.specs.Phases.{stateAt, soundPhase}
+use Rattle.istream.specs.Stream.{stateOf, streamIn, soundStream}
+use Rattle.phase.proofs.Phases.{Live}
+use Rattle.istream.proofs.Calls.{stream-back}
+use Rattle.phase.proofs.Phases.{both}
 use Rattle.emit.specs.Put.{put, reached}
 use Rattle.emit.proofs.Writes.{length-put, reached-le}
 use Rattle.ostream.specs.declared.OStream.{OStream}

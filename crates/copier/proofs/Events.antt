@@ -22,13 +22,15 @@ use Rattle.machine.specs.Call.{State, reading, owing, broke, Answer, event, ver
 use Rattle.machine.specs.Run.{placeOf}
 use Rattle.machine.proofs.Calls.{FairPlace}
 use Rattle.istream.specs.declared.IStream.{IStream}
-use Rattle.istream.specs.declared.Phase as code
-use Rattle.istream.specs.declared.Phase.the-variants as phases
-use Rattle.istream.specs.Stream.{stateAt, stateOf, streamIn, soundStream}
-use Rattle.istream.specs.Sound.{SoundState, AtBytes, Kept}
-use Rattle.istream.proofs.Phase.{the-type}
-use Rattle.istream.proofs.Keeps.{step-keeps}
-use Rattle.istream.proofs.Calls.{Live, scan-byte, scan-end}
+use Rattle.phase.specs.declared.Phase as code
+use Rattle.phase.specs.declared.Phase.the-variants as phases
+use Rattle.phase.specs.Phases.{stateAt}
+use Rattle.istream.specs.Stream.{stateOf, streamIn, soundStream}
+use Rattle.phase.specs.Sound.{SoundState, AtBytes, Kept}
+use Rattle.phase.proofs.Phase.{the-type}
+use Rattle.phase.proofs.Keeps.{step-keeps}
+use Rattle.phase.proofs.Phases.{Live}
+use Rattle.phase.proofs.Scans.{scan-byte, scan-end}
 use Rattle.istream.proofs.Laws.{is-sound}
 use Rattle.copying.specs.Owed.{depthBy}
 use Rattle.owed.proofs.Laws.{Spelt}

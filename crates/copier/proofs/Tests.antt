@@ -20,10 +20,11 @@ use Rattle.istream.specs.declared.Fed.{Fed}
 use Rattle.istream.specs.declared.Status as verdicts
 use Rattle.istream.specs.declared.Answer as answers
 use Rattle.istream.specs.declared.Answer.the-variants as heard
-use Rattle.istream.specs.declared.Phase as code
-use Rattle.istream.specs.declared.Phase.the-variants as phases
-use Rattle.istream.specs.Stream.{stateAt, stateOf, fedOf}
-use Rattle.istream.proofs.Phase as readers
+use Rattle.phase.specs.declared.Phase as code
+use Rattle.phase.specs.declared.Phase.the-variants as phases
+use Rattle.phase.specs.Phases.{stateAt}
+use Rattle.istream.specs.Stream.{stateOf, fedOf}
+use Rattle.phase.proofs.Phase as readers
 use Rattle.emit.specs.Put.{put, reached}
 use Rattle.copying.specs.Owed.{dueIn, agrees, owesNothing, soundOwed}
 use Rattle.owed.specs.declared.Owed.{Owed}

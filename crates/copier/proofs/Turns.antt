@@ -26,12 +26,15 @@ use Rattle.event.specs.Event.{eventOf, declared}
 use Rattle.event.proofs.Laws.{InRange, declared-back}
 use Rattle.istream.specs.declared.IStream.{IStream}
 use Rattle.istream.specs.declared.Fed.{Fed}
-use Rattle.istream.specs.declared.Phase as code
-use Rattle.istream.specs.declared.Phase.the-variants as phases
+use Rattle.phase.specs.declared.Phase as code
+use Rattle.phase.specs.declared.Phase.the-variants as phases
 use Rattle.istream.specs.declared.Status.the-variants.{Incomplete}
-use Rattle.istream.specs.Stream.{stateAt, stateOf, streamIn, soundStream, covered, statusIn, fedIn, fedOf}
-use Rattle.istream.specs.Sound.{SoundState}
-use Rattle.istream.proofs.Calls.{Live, state-of-stream, stream-back}
+use Rattle.phase.specs.Phases.{stateAt}
+use Rattle.stepped.specs.Steps.{covered}
+use Rattle.istream.specs.Stream.{stateOf, streamIn, soundStream, statusIn, fedIn, fedOf}
+use Rattle.phase.specs.Sound.{SoundState}
+use Rattle.phase.proofs.Phases.{Live}
+use Rattle.istream.proofs.Calls.{state-of-stream, stream-back}
 use Rattle.istream.proofs.Laws.{is-sound, sound-is, fed-sound, feed-keeps}
 use Rattle.reading.proofs.Feeds.{Ranged, call-range}
 use Rattle.emit.specs.Put.{put, reached}

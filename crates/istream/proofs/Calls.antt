@@ -46,7 +46,7 @@ state-of-stream (reading d p) = state-back d p
 state-of-stream (owing d id r) = ap (owing d id) (sort-back r)
 state-of-stream broke = refl
 
-stream-back : (d : ℕ) (p : Phase) → Live (stateAt d p) → streamIn (stateAt d p) ≡ record { phase = p; depth = d }
+pub stream-back : (d : ℕ) (p : Phase) → Live (stateAt d p) → streamIn (stateAt d p) ≡ record { phase = p; depth = d }
 stream-back d p l = λ i. record { phase = phase-back d p l i; depth = depth-back d p l i }
 
 -- ---- reading on from a state, n bytes being read

@@ -1,7 +1,7 @@
 -- `copier::due`: by phase.
 use mathlib.Core.Path.{_≡_, refl, sym, ap, _∙_, subst}
-use Rattle.istream.specs.declared.Phase.{Phase}
-use Rattle.istream.specs.Stream.{stateAt}
+use Rattle.phase.specs.declared.Phase.{Phase}
+use Rattle.phase.specs.Phases.{stateAt}
 use Rattle.copying.specs.Owed.{dueIn}
 use Rattle.copier.proofs.Tests.{none-due}
 use borrow.Author.Needs.{needs}

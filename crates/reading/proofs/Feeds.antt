@@ -29,7 +29,7 @@ use Rattle.istream.specs.declared.IStream.{IStream}
 use Rattle.istream.specs.declared.Answer.the-variants as Answers
 use Rattle.istream.specs.declared.Fed as Given
 use Rattle.types.specs.Types.{refusal}
-use Rattle.istream.specs.Stream.{stateOf, streamIn, soundStream, statusIn, answerIn, fedIn, fedOf}
+use Rattle.istream.specs.Stream.{stateOf, streamIn, soundStream, standingIn, statusOf, statusIn, answerIn, fedIn, fedOf}
 use Rattle.stepped.specs.Steps.{covered}
 use Rattle.phase.specs.Sound.{SoundAt, SoundState, AtBytes, Kept}
 use Rattle.phase.proofs.Phases.{byte-below}
@@ -438,3 +438,13 @@ reached-follows {bs} {es} {s} h =
 -- And the reader stands as the layout's verdict for the bytes read, or within a field while an event is due.
 pub reached-standing : {bs : List ℕ} {es : List Event} {s : IStream} → Reached bs es s → standing (stateOf s) ≡ standingWith (due (stateOf s)) (verdictOf base bs)
 reached-standing {bs} {es} {s} h = standing-is base bs es (stateOf s) (reached-follows h)
+
+-- What `IStream::status` answers after any calls,
+pub reached-status : {bs : List ℕ} {es : List Event} {s : IStream} → Reached bs es s → statusOf s ≡ standingIn (standingWith (due (stateOf s)) (verdictOf base bs))
+unfolding statusOf
+reached-status h = ap standingIn (reached-standing h)
+
+-- and after chunks, each handed in to its end, or none: the layout's verdict for all the bytes.
+pub feeds-status : (cs : List (List ℕ)) → All Bytes cs → statusOf (feedAll (streamIn fresh) 0 cs .stream) ≡ standingIn (standingOf (verdictOf base (join cs)))
+unfolding statusOf
+feeds-status cs b = ap standingIn (feeds-read cs b .2)

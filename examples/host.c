@@ -1,4 +1,5 @@
 /* A host in C: says of each file named on the command line whether it is a complete message.
+ * It ends with 0 where all are readable and none is broken, 1 where one is broken, 2 where a file cannot be read or the answers not written.
  *
  *   rt staticlib host
  *   cc -Iinclude examples/host.c target/staticlib/libhost.a -o target/host
@@ -9,31 +10,37 @@
 
 #include "sofab.h"
 
-/* The whole of a file, or NULL with a message. */
-static uint8_t *slurp(const char *path, size_t *len)
+/* What is left of a file, with its length; NULL where it cannot be read or held. */
+static uint8_t *rest_of(FILE *f, size_t *len)
 {
-    FILE *f = fopen(path, "rb");
-    if (!f) {
-        perror(path);
-        return NULL;
-    }
     size_t room = 4096, used = 0;
     uint8_t *bytes = malloc(room);
     while (bytes) {
-        size_t got = fread(bytes + used, 1, room - used, f);
-        if (got == 0)
+        used += fread(bytes + used, 1, room - used, f);
+        if (used < room)
             break;
-        used += got;
-        if (used == room) {
-            uint8_t *more = realloc(bytes, room * 2);
-            if (!more)
-                free(bytes);
-            bytes = more;
-            room *= 2;
-        }
+        uint8_t *more = realloc(bytes, room *= 2);
+        if (!more)
+            free(bytes);
+        bytes = more;
     }
-    fclose(f);
+    if (bytes && ferror(f)) {
+        free(bytes);
+        bytes = NULL;
+    }
     *len = used;
+    return bytes;
+}
+
+/* The whole of a file; NULL, with a message, where it cannot be had. */
+static uint8_t *slurp(const char *path, size_t *len)
+{
+    FILE *f = fopen(path, "rb");
+    uint8_t *bytes = f ? rest_of(f, len) : NULL;
+    if (!bytes)
+        perror(path);
+    if (f)
+        fclose(f);
     return bytes;
 }
 
@@ -49,6 +56,10 @@ int main(int argc, char **argv)
         printf("%s: %s\n", argv[i], verdict == 0 ? "complete" : verdict == 1 ? "incomplete" : "broken");
         broken |= verdict < 0;
         free(bytes);
+    }
+    if (fclose(stdout)) {
+        perror("standard output");
+        return 2;
     }
     return broken;
 }

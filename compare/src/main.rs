@@ -23,6 +23,7 @@ compare/run DIR COMMAND
                         each planted fault in turn, until it is found
   sample SEED FILE      writes a list of cases with the Rust's answers
   replay FILE           gives a list's cases to the port
+  listing ..            the program that lists events (`listing help`)
   answer KIND HEX       both answers to one case (KIND: reader, gatherer, writer)
   bench                 times of both sides";
 

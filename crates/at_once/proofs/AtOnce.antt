@@ -28,16 +28,16 @@ use Rattle.phase.specs.declared.Phase.{Phase}
 use Rattle.phase.specs.declared.Phase.the-variants.{Header, Unsigned, Signed}
 use Rattle.at_once.specs.declared.Quick.{Quick}
 use Rattle.at_once.specs.declared.Quick.the-variants as Quicks
-use Rattle.field.specs.declared.Stepped as given
-use Rattle.field.specs.declared.Stepped.the-variants.{On, Raised, Bad}
+use Rattle.stepped.specs.declared.Stepped as given
+use Rattle.stepped.specs.declared.Stepped.the-variants.{On, Raised, Bad}
 use Rattle.phase.specs.Phases.{stateAt, phaseIn, idIn, countIn, soundPhase}
-use Rattle.field.specs.Steps.{stepped, covered}
+use Rattle.stepped.specs.Steps.{stepped, covered}
 use Rattle.phase.specs.Sound.{Kept}
 use Rattle.at_once.specs.AtOnce.{Varying, onward, Reads, Right, RightFrom, raisedOf}
 use Rattle.phase.proofs.Phases.{next-first, both}
 use Rattle.phase.proofs.Keeps.{wire-keeps, subtype-keeps}
 use Rattle.phase.proofs.Scans.{scan-byte}
-use Rattle.field.proofs.Stepped.{the-type}
+use Rattle.stepped.proofs.Stepped.{the-type}
 
 -- ---- a varint
 
@@ -58,7 +58,7 @@ module _ {c : List ℕ} {first place : ℕ} {a : Acc} (u : Under c first place a
       ∙ ap (scan base place d (P (a .taken) (a .value))) (drop-cons c place 0 h)
       ∙ scan-byte place d (P (a .taken) (a .value)) (getD c place 0) (drop (suc place) c) (w .paced (a .taken) (a .value))
       ∙ ap (λ (m : machine.Stepped). scanned (suc place) m (λ d′ p′. scan base (suc place) d′ p′ (drop (suc place) c)))
-      (w .steps (a .taken) (a .value) (getD c place 0) ∙ ap (λ (x : varints.Push). within d x P F) (layout-step a (getD c place 0) ∙ ap unanswer e))
+      (w .steps (a .taken) (a .value) (getD c place 0) ∙ ap (λ (x : varints.Push). within d x P F) (layout-step a (getD c place 0) (u .sound) ∙ ap unanswer e))
 
   pub under-more : (x : Acc) → pushed a (getD c place 0) ≡ More x → Under c first (place + 1) x
   unfolding scanned within

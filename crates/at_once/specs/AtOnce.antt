@@ -15,9 +15,9 @@ use Rattle.event.specs.declared.Event as Given
 use Rattle.event.specs.Event.{declared}
 use Rattle.phase.specs.declared.Phase as phases
 use Rattle.phase.specs.Phases.{phaseOf, depthOf, soundPhase}
-use Rattle.field.specs.declared.Stepped as given
-use Rattle.field.specs.declared.Stepped.the-variants.{On, Raised, Bad}
-use Rattle.field.specs.Steps.{covered}
+use Rattle.stepped.specs.declared.Stepped as given
+use Rattle.stepped.specs.declared.Stepped.the-variants.{On, Raised, Bad}
+use Rattle.stepped.specs.Steps.{covered}
 use Rattle.at_once.specs.declared.Found.{Found}
 use Rattle.at_once.specs.declared.Found.the-variants as Founds
 use Rattle.at_once.specs.declared.Quick.{Quick}

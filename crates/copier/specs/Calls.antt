@@ -21,7 +21,7 @@ use Rattle.copier.specs.declared.Copier.{Copier}
 use Rattle.copier.specs.declared.Answer.{Answer}
 use Rattle.copier.specs.declared.Answer.the-variants.{Full, Status, Refused}
 use Rattle.copier.specs.declared.Copied.{Copied}
-use Rattle.copier.specs.declared.Owed.the-variants.{Nothing}
+use Rattle.owed.specs.declared.Owed.the-variants.{Nothing}
 use Rattle.copier.specs.declared.Opening.{Opening}
 use Rattle.copier.specs.declared.Opening.the-variants as openings
 use Rattle.copier.specs.declared.Opened.{Opened}

@@ -1,3 +1,4 @@
 -- The copier's calls. Read in this order: Copier (the state, and which are sound), Calls (feeding, opening, draining, changing the buffer).
 pub mod Copier
 pub mod Calls
+pub mod Turns

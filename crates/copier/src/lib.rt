@@ -1,31 +1,29 @@
 // The copier: each event of a message is written out again into a lent buffer, so that what is drained from it is the message's plain
 // copy. Reader and writer by value, the event still owed and the place reached in it.
+ghost use mathlib.Core.Path.{_≡_};
+ghost use mathlib.Core.Bool.{true};
+ghost use Prim.Native.Nat.{_+_, _<_, _≤_, min};
+ghost use lib.ListN.{length};
+ghost use Rattle.machine.specs.Call.{broke};
+ghost use Rattle.copying.specs.Owed.{dueIn, owesNothing};
+ghost use Rattle.istream.specs.Stream.{stateOf, soundStream};
+ghost use Rattle.istream.proofs.Calls.{Live};
+ghost use Rattle.owed.specs.Owed.{owedOf};
+ghost use Rattle.layout.specs.Limits.{base};
+ghost use Rattle.copying.specs.Copy.{copy};
+ghost use Rattle.copier.specs.Copier.{soundWriter, copyOf};
+ghost use Rattle.copier.specs.Calls.{leftBy, copied, opensOf, opensIn, startedBy, started, sentBy, drained, changed};
+ghost use Rattle.copier.specs.Turns.{isBroke, refused, finished, eventTurn, eventBuf, heardTurn, heardBuf, InPayload, Turned, Stops, Ran, Ready, later};
+use emit::put_rest;
+use istream::Fed;
 use istream::IStream;
+use istream::Phase;
 use istream::Status;
 use ostream::Count;
 use ostream::OStream;
-use types::ArrayKind;
+use owed::Owed;
+use owed::owe;
 use types::Error;
-use types::FloatType;
-use types::RawType;
-
-// An event that is read and not yet written whole. Only events that the layout allows, but for their numbers' limits: `Element` and
-// `SignedElement` stand in an array, and go out bare as the floats do; `Float` and `Payload` announce a fixed-length field. A payload's
-// piece is never owed: it counts as read only as far as it is out.
-pub enum Owed {
-    Nothing,
-    Unsigned(u32, u64),
-    Signed(u32, i64),
-    Element(u64),
-    SignedElement(i64),
-    Fp32(u32),
-    Fp64(u64),
-    Float(u32, FloatType),
-    Payload(u32, RawType, u32),
-    Array(u32, ArrayKind, u32),
-    Begin(u32),
-    End,
-}
 
 pub struct Copier {
     pub reader: IStream,
@@ -62,4 +60,379 @@ pub struct Opened {
 pub struct Drained {
     pub answer: Count,
     pub copier: Copier,
+}
+
+// Where a call stops: the bytes used, what it answers, and the state, but for the writer's places.
+struct Stop {
+    pub used: usize,
+    pub answer: Answer,
+    pub reader: IStream,
+    pub depth: u16,
+    pub pos: usize,
+    pub owed: Owed,
+    pub place: u8,
+}
+
+// What one event comes to, nothing being owed before it: it is out, and the call goes on from this reader, with so many bytes of the
+// chunk used, at this position; or the call stops.
+enum Turn {
+    On(IStream, usize, usize),
+    Stop(Stop),
+}
+
+fn is_broken(reader: IStream) -> bool
+    ensures { λ r. ⌜ r ≡ isBroke (stateOf reader) ⌝ }
+{
+    let phase = reader.phase;
+    if let Phase::Broken = phase {
+        return true;
+    }
+    false
+}
+
+fn is_nothing(owed: Owed) -> bool
+    ensures { λ r. ⌜ r ≡ owesNothing (owedOf owed 0) ⌝ }
+{
+    if let Owed::Nothing = owed {
+        return true;
+    }
+    false
+}
+
+fn least(a: usize, b: usize) -> usize
+    ensures { λ r. ⌜ r ≡ min a b ⌝ }
+{
+    if a < b { a } else { b }
+}
+
+// How many elements of an array are due, the one under way included.
+fn due(reader: IStream) -> u32
+    ensures { λ r. ⌜ r ≡ dueIn (stateOf reader) ⌝ }
+{
+    let phase = reader.phase;
+    match phase {
+        Phase::Unsigned(_, left, _) => left,
+        Phase::Signed(_, left, _) => left,
+        Phase::Float(_, _, left, _, _) => left,
+        _ => 0,
+    }
+}
+
+// An event that was read with so many bytes goes out, or as much of it as there is room for.
+fn written(depth: u8, owed: Owed, read: usize, reader: IStream, pos: usize, buf: &mut [u8]) -> Turn
+    requires { ⌜ pos ≤ length (now buf) ⌝ }
+    ensures { λ r. ⌜ (r ≡ eventTurn depth owed read reader pos (now (buf .entry))) × (now (buf .exit) ≡ eventBuf owed pos (now (buf .entry))) ⌝ }
+{
+    let output = owed.output();
+    let len = output.len();
+    let room = buf.len() - pos;
+    let end = output.put(buf, pos, 0);
+    if room < len {
+        return Turn::Stop(Stop {
+            used: read,
+            answer: Answer::Full,
+            reader,
+            depth: depth as u16,
+            pos: end,
+            owed,
+            place: (end - pos) as u8,
+        });
+    }
+    Turn::On(reader, read, end)
+}
+
+// What a call of the reader, at a depth, with so many elements due, comes to.
+fn heard(depth: u8, left: u32, fed: Fed, pos: usize, buf: &mut [u8]) -> Turn
+    requires { ⌜ pos ≤ length (now buf) ⌝ }
+    ensures { λ r. ⌜ (r ≡ heardTurn depth left fed pos (now (buf .entry))) × (now (buf .exit) ≡ heardBuf left fed pos (now (buf .entry))) ⌝ }
+{
+    let read = fed.read;
+    let answer = fed.answer;
+    let reader = fed.stream;
+    match answer {
+        istream::Answer::Event(e) => written(depth, owe(left, e), read, reader, pos, buf),
+        istream::Answer::Status(s) => Turn::Stop(Stop {
+            used: read,
+            answer: Answer::Status(s),
+            reader,
+            depth: depth as u16,
+            pos,
+            owed: Owed::Nothing,
+            place: 0,
+        }),
+        istream::Answer::Refused(e) => Turn::Stop(Stop {
+            used: read,
+            answer: Answer::Refused(e),
+            reader,
+            depth: depth as u16,
+            pos,
+            owed: Owed::Nothing,
+            place: 0,
+        }),
+    }
+}
+
+// A call that stops within a payload, with nothing owed.
+fn within(reader: IStream, answer: Answer, pos: usize) -> Turn
+    ensures { λ r. ⌜ r ≡ Turn.Stop (record { used = 0; answer = answer; reader = reader; depth = reader .depth; pos = pos; owed = Owed.Nothing; place = 0 }) ⌝ }
+{
+    Turn::Stop(Stop {
+        used: 0,
+        answer,
+        reader,
+        depth: reader.depth as u16,
+        pos,
+        owed: Owed::Nothing,
+        place: 0,
+    })
+}
+
+// A payload's bytes go out straight away, as many as there is room for.
+fn piece(reader: IStream, pos: usize, rest: &[u8], buf: &mut [u8]) -> Turn
+    requires { ⌜ InPayload reader × (pos ≤ length (now buf)) ⌝ }
+    ensures { λ r. ⌜ Turned reader pos (now (rest .entry)) (now (buf .entry)) r (now (buf .exit)) ⌝ }
+{
+    if rest.len() == 0 {
+        return within(reader, Answer::Status(Status::Incomplete), pos);
+    }
+    let room = buf.len() - pos;
+    if room == 0 {
+        return within(reader, Answer::Full, pos);
+    }
+    let n = least(rest.len(), room);
+    let fed = reader.feed(&rest[..n]);
+    let read = fed.read;
+    let end = put_rest(buf, pos, &rest[..read], 0);
+    let next = fed.stream;
+    Turn::On(next, read, end)
+}
+
+// One event, nothing being owed.
+fn one_event(reader: IStream, pos: usize, rest: &[u8], buf: &mut [u8]) -> Turn
+    requires { ⌜ (soundStream reader ≡ true) × (Live (stateOf reader) × (pos ≤ length (now buf))) ⌝ }
+    ensures { λ r. ⌜ Turned reader pos (now (rest .entry)) (now (buf .entry)) r (now (buf .exit)) ⌝ }
+{
+    let phase = reader.phase;
+    if let Phase::Payload(_, _, _, _) = phase {
+        return piece(reader, pos, rest, buf);
+    }
+    heard(reader.depth, due(reader), reader.feed(rest), pos, buf)
+}
+
+impl Stop {
+    // The same, so many bytes of the chunk later.
+    fn later(self, used: usize) -> Stop
+        requires { ⌜ used + self .used < 18446744073709551616 ⌝ }
+        ensures { λ r. ⌜ r ≡ later used self ⌝ }
+    {
+        let answer = self.answer;
+        let reader = self.reader;
+        let owed = self.owed;
+        Stop {
+            used: used + self.used,
+            answer,
+            reader,
+            depth: self.depth,
+            pos: self.pos,
+            owed,
+            place: self.place,
+        }
+    }
+}
+
+// Events one after another, nothing being owed at first.
+fn run(reader: IStream, start: usize, chunk: &[u8], buf: &mut [u8]) -> Stop
+    requires { ⌜ (soundStream reader ≡ true) × (Live (stateOf reader) × (start ≤ length (now buf))) ⌝ }
+    ensures { λ r. ⌜ Ran reader start (now (chunk .entry)) (now (buf .entry)) r (now (buf .exit)) ⌝ }
+{
+    let mut at = reader;
+    let mut pos = start;
+    let mut used: usize = 0;
+    loop {
+        let t = one_event(at, pos, &chunk[used..], buf);
+        match t {
+            Turn::On(next, n, end) => {
+                at = next;
+                pos = end;
+                used += n;
+            }
+            Turn::Stop(s) => {
+                return s.later(used);
+            }
+        }
+    }
+}
+
+// What a call leaves: where it stopped, and the writer's places.
+fn finish(writer: OStream, stop: Stop) -> Copied
+    ensures { λ r. ⌜ r ≡ finished writer stop ⌝ }
+{
+    let answer = stop.answer;
+    let reader = stop.reader;
+    let owed = stop.owed;
+    let pending = writer.pending;
+    Copied {
+        used: stop.used,
+        answer,
+        copier: Copier {
+            reader,
+            writer: OStream {
+                offset: stop.pos,
+                pending,
+                depth: stop.depth,
+                npending: writer.npending,
+            },
+            owed,
+            place: stop.place,
+        },
+    }
+}
+
+// Whether a writer took its buffer.
+fn taken(answer: ostream::Answer) -> Opening
+    ensures { λ r. ⌜ opensOf r ≡ opensIn answer ⌝ }
+{
+    match answer {
+        ostream::Answer::Done => Opening::Open,
+        ostream::Answer::Full(_) => Opening::Open,
+        ostream::Answer::Refused(e) => Opening::Refused(e),
+    }
+}
+
+impl Copier {
+    // A copier over a buffer from the offset on.
+    pub fn new(buf: &[u8], offset: usize) -> Opened
+        ensures { λ r. ⌜ startedBy r ≡ started (length (now (buf .entry))) offset ⌝ }
+    {
+        let opened = OStream::with_flush(buf, offset);
+        let answer = opened.answer;
+        let writer = opened.stream;
+        Opened {
+            answer: taken(answer),
+            copier: Copier {
+                reader: IStream::new(),
+                writer,
+                owed: Owed::Nothing,
+                place: 0,
+            },
+        }
+    }
+
+    // The caller drains the buffer: as many bytes as answered are to be sent, and writing starts at 0.
+    pub fn flush(self, buf: &[u8]) -> Drained
+        ensures { λ r. ⌜ sentBy r ≡ drained self (length (now (buf .entry))) ⌝ }
+    {
+        let reader = self.reader;
+        let writer = self.writer;
+        let owed = self.owed;
+        let counted = writer.flush(buf);
+        let answer = counted.answer;
+        let stream = counted.stream;
+        Drained {
+            answer,
+            copier: Copier {
+                reader,
+                writer: stream,
+                owed,
+                place: self.place,
+            },
+        }
+    }
+
+    // Another buffer from the offset on. The answer counts the old one's bytes, which the caller still sends.
+    pub fn buffer_set(self, old: &[u8], new: &[u8], offset: usize) -> Drained
+        ensures { λ r. ⌜ sentBy r ≡ changed self (length (now (old .entry))) (length (now (new .entry))) offset ⌝ }
+    {
+        let reader = self.reader;
+        let writer = self.writer;
+        let owed = self.owed;
+        let counted = writer.buffer_set(old, new, offset, true);
+        let answer = counted.answer;
+        let stream = counted.stream;
+        Drained {
+            answer,
+            copier: Copier {
+                reader,
+                writer: stream,
+                owed,
+                place: self.place,
+            },
+        }
+    }
+
+    // Reads the chunk event by event and writes each out again, until the buffer is full, the chunk is spent or the message is broken.
+    pub fn feed(self, chunk: &[u8], buf: &mut [u8]) -> Copied
+        ensures { λ r. ⌜ leftBy r (now (buf .exit)) ≡ copied self (now (chunk .entry)) (now (buf .entry)) ⌝ }
+    {
+        let reader = self.reader;
+        if !reader.sound() {
+            return self.refuse(Error::UnsoundReader);
+        }
+        if !self.sound_writer(buf.len()) {
+            return self.refuse(Error::UnsoundWriter);
+        }
+        if is_broken(reader) {
+            return self.refuse(Error::InvalidMsg);
+        }
+        let writer = self.writer;
+        finish(writer, self.carry(chunk, buf))
+    }
+
+    // The same of a sound copier whose reader goes on: what is owed goes out first.
+    fn carry(self, chunk: &[u8], buf: &mut [u8]) -> Stop
+        requires { ⌜ Ready self (length (now buf)) ⌝ }
+        ensures { λ r. ⌜ Stops (copy base (copyOf self) (now (chunk .entry)) (now (buf .entry))) r (now (buf .exit)) ⌝ }
+    {
+        let reader = self.reader;
+        let writer = self.writer;
+        let owed = self.owed;
+        let pos = writer.offset;
+        let place = self.place as usize;
+        let output = owed.output();
+        let len = output.len();
+        let room = buf.len() - pos;
+        let end = output.put(buf, pos, place);
+        if room + place < len {
+            return Stop {
+                used: 0,
+                answer: Answer::Full,
+                reader,
+                depth: writer.depth,
+                pos: end,
+                owed,
+                place: (place + (end - pos)) as u8,
+            };
+        }
+        run(reader, end, chunk, buf)
+    }
+
+    // The state as it came, and a refusal.
+    fn refuse(self, error: Error) -> Copied
+        ensures { λ r. ⌜ r ≡ refused error self ⌝ }
+    {
+        Copied {
+            used: 0,
+            answer: Answer::Refused(error),
+            copier: self,
+        }
+    }
+
+    // Whether the writer is sound for a buffer of this size, and the copier's own conditions hold.
+    fn sound_writer(self, size: usize) -> bool
+        ensures { λ r. ⌜ r ≡ soundWriter self size ⌝ }
+    {
+        let reader = self.reader;
+        let writer = self.writer;
+        let owed = self.owed;
+        if !writer.sound(size) {
+            return false;
+        }
+        if writer.npending != 0 {
+            return false;
+        }
+        if is_broken(reader) {
+            return is_nothing(owed);
+        }
+        owed.sound(self.place, reader.depth, writer.depth)
+    }
 }

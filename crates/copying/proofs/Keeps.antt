@@ -9,8 +9,8 @@ use mathlib.Core.Logic.{_⊎_, inl, inr}
 use mathlib.Core.List.{List, [], _∷_, _++_, append-assoc, append-nil}
 use lib.Dec.{leb}
 use borrow.Author.Tests.{leb-true, leb-false}
-use lib.ListN.{length, take, drop, length-take, length-drop, take-append-drop, drop-of-length-le}
-use lib.Seq.{take-add, take-all, drop-drop}
+use lib.ListN.{length, take, drop, length-append, length-take, length-drop, take-append-drop, drop-of-length-le}
+use lib.Seq.{length-take-le, take-add, take-all, take-at, drop-at, drop-drop}
 use Rattle.layout.specs.Limits.{Limits}
 use Rattle.layout.specs.Event.{Event}
 use Rattle.laws.specs.Events.{eventBytes, dueAfterAll, encodeEvents}
@@ -20,14 +20,14 @@ use Rattle.machine.specs.Call.{State, reading, owing, broke, Pace, byte, bulk, 
 use Rattle.machine.specs.Call as calls
 use Rattle.machine.specs.Run.{given, placeOf, Follows}
 use Rattle.machine.proofs.Calls.{FairPlace, fair-walk, weight, Closes, call-follows}
-use Rattle.emit.specs.Put.{put, reached}
+use Rattle.emit.specs.Put.{over, put, reached}
 use Rattle.emit.proofs.Writes.{put-is, reached-is, take-over, length-put, reached-le}
 use Rattle.copying.specs.Owed.{Owed, nothing, owes, rest, further, dueIn}
 use Rattle.copying.specs.Copy.{Copy, Answer, full, verdict, invalid, unfinished, Copied, after, settled, filled, gone, handed, stuck, heard, fits, allOf, copies, turnsFor, copy}
 use Rattle.copying.specs.Run.{Keeps, InPayload, Bulk, Final, NoPiece, Kept}
-use Rattle.copying.proofs.Turns.{goes, goes-on, goes-is, turn-full, turn-goes, fits-false, fits-true, enough, handed-first, turn-heard}
+use Rattle.copying.proofs.Turns.{goes, goes-on, turn-full, turn-goes, fits-false, fits-true, enough, handed-first, take-take, turn-heard}
 use Rattle.copying.proofs.Due.{walk-due}
-use Rattle.copying.proofs.Pieces.{given-fits}
+use Rattle.copying.proofs.Pieces.{Takes, takes-plain, given-fits}
 
 -- ---- what goes out
 
@@ -67,6 +67,29 @@ put-out sent b p o h =
     ∙ append-assoc (sent ++ take p b) (take (length b - p) o) (drop (min (length o) (length b - p)) o)
     ∙ ap (λ (l : List ℕ). (sent ++ take p b) ++ l) (split-at o (length b - p))
 
+-- all else stays
+pub put-below : (b : List ℕ) (p : ℕ) (o : List ℕ) → p ≤ length b → take p (put b p o) ≡ take p b
+unfolding put over
+put-below b p o h = take-at (take p b) _ p (length-take-le p b h)
+
+pub put-beyond : (b : List ℕ) (p : ℕ) (o : List ℕ) → p ≤ length b → drop (reached b p o) (put b p o) ≡ drop (reached b p o) b
+unfolding put over
+put-beyond b p o h =
+    let t = take (length b - p) o in
+    let n : reached b p o ≡ p + length t = reached-is b p o ∙ ap (λ (m : ℕ). p + m) (least (length o) (length b - p) ∙ sym (length-take (length b - p) o)) in
+    let m : length (take p b ++ t) ≡ p + length t = length-append (take p b) t ∙ ap (λ (x : ℕ). x + length t) (length-take-le p b h) in
+    ap (λ (x : ℕ). drop x (put b p o)) n ∙ ap (drop (p + length t)) (sym (append-assoc (take p b) t (drop (p + length t) b)))
+    ∙ drop-at (take p b ++ t) (drop (p + length t) b) (p + length t) m ∙ ap (λ (x : ℕ). drop x b) (sym n)
+
+-- two buffers that are the same up to a place or from it on are so up to an earlier one and from a later one on
+pub take-less : (p q : ℕ) (x y : List ℕ) → p ≤ q → take q x ≡ take q y → take p x ≡ take p y
+take-less p q x y h e = sym (take-take p q x h) ∙ ap (take p) e ∙ take-take p q y h
+
+pub drop-more : (p q : ℕ) (x y : List ℕ) → p ≤ q → drop p x ≡ drop p y → drop q x ≡ drop q y
+drop-more p q x y h e =
+    let n : p + (q - p) ≡ q = omega arith in
+    ap (λ (m : ℕ). drop m x) (sym n) ∙ sym (drop-drop (q - p) p x) ∙ ap (drop (q - p)) e ∙ drop-drop (q - p) p y ∙ ap (λ (m : ℕ). drop m y) n
+
 rest-further : (o : Owed) (n : ℕ) → rest (further o n) ≡ drop n (rest o)
 unfolding rest further
 rest-further nothing n = sym (drop-of-length-le [] {i = n} (omega arith))
@@ -78,10 +101,6 @@ further-plain nothing n h = tt
 further-plain (owes due e place) n h = h
 
 -- ---- the parts of a turn
-
--- what is owed is no piece, or there is room for it
-abbrev Takes : Copy → List ℕ → Type 0
-Takes k b = NoPiece (k .owed) ⊎ (length (rest (k .owed)) ≤ length b - k .pos)
 
 follows-nil : (L : Limits) (bs c : List ℕ) (es : List Event) (s : State) → Follows L bs es s → Follows L (bs ++ take 0 c) es s
 follows-nil L bs c es s f = subst (λ (l : List ℕ). Follows L l es s) (sym (append-nil bs)) f
@@ -102,6 +121,8 @@ kept-full L reserved bs sent k c b q p n h =
       size = length-put b (k .pos) o p;
       ahead = omega arith;
       within = omega arith;
+      below = put-below b (k .pos) o p;
+      beyond = put-beyond b (k .pos) o p;
       keeps =
           record {
             events = q .events;
@@ -129,8 +150,9 @@ keeps-settled L reserved bs sent k b q p h =
     }
 
 -- a call from a state and buffer that are further on
-kept-from : (L : Limits) (reserved bs sent : List ℕ) (k j : Copy) (c b d : List ℕ) (r : Copied) → k .pos ≤ j .pos → length d ≡ length b → Kept L reserved bs sent j c d r → Kept L reserved bs sent k c b r
-kept-from L reserved bs sent k j c b d r p n h =
+kept-from : (L : Limits) (reserved bs sent : List ℕ) (k j : Copy) (c b d : List ℕ) (r : Copied) → k .pos ≤ j .pos → length d ≡ length b → take (k .pos) d ≡ take (k .pos) b
+    → drop (j .pos) d ≡ drop (j .pos) b → Kept L reserved bs sent j c d r → Kept L reserved bs sent k c b r
+kept-from L reserved bs sent k j c b d r p n e f h =
     let a = h .ahead in
     let w = h .within in
     record {
@@ -138,6 +160,8 @@ kept-from L reserved bs sent k j c b d r p n h =
       size = h .size ∙ n;
       ahead = omega arith;
       within = omega arith;
+      below = take-less (k .pos) (j .pos) (r .buf) d p (h .below) ∙ e;
+      beyond = h .beyond ∙ drop-more (j .pos) (r .copy .pos) d b a f;
       keeps = h .keeps;
       whole = h .whole;
       final = subst (Final (r .answer) (r .copy) (r .used) c) n (h .final);
@@ -164,6 +188,8 @@ kept-after L reserved bs sent k j c b n r p l h =
       size = h .size;
       ahead = omega arith;
       within = h .within;
+      below = subst (λ (x : ℕ). take x (r .buf) ≡ take x b) p (h .below);
+      beyond = h .beyond;
       keeps = subst (λ (x : List ℕ). Keeps L reserved x (sent ++ take (r .copy .pos) (r .buf)) (r .copy)) e (h .keeps);
       whole = h .whole;
       final = final-later (r .copy) c (length b) n (r .used) (r .answer) l f (h .final);
@@ -194,6 +220,8 @@ kept-stuck L reserved bs sent k c b q p o t =
       size = refl;
       ahead = omega arith;
       within = p;
+      below = refl;
+      beyond = refl;
       keeps = record { events = q .events; follows = follows-nil L bs c (q .events) (k .reader) (q .follows); bytes = q .bytes };
       whole = subst NoPiece (sym o) tt;
       final = (z, inr (o, s .1, s .2));
@@ -251,6 +279,8 @@ kept-heard L reserved bs sent k c b j (calls.verdict v) (reading d p′) f q p o
       size = refl;
       ahead = omega arith;
       within = p;
+      below = refl;
+      beyond = refl;
       keeps = keeps-end L reserved bs sent k c b j (reading d p′) q o g;
       whole = tt;
       final = (h .0, refl, (d, p′, refl, h .1));
@@ -258,7 +288,7 @@ kept-heard L reserved bs sent k c b j (calls.verdict v) (reading d p′) f q p o
 kept-heard L reserved bs sent k c b j (calls.verdict v) (owing d id r) f q p o l h g go = absurd (h .1)
 kept-heard L reserved bs sent k c b j (calls.verdict v) broke f q p o l h g go = absurd (h .1)
 kept-heard L reserved bs sent k c b j calls.invalid s f q p o l h g go =
-    record { few = l; size = refl; ahead = omega arith; within = p; keeps = keeps-end L reserved bs sent k c b j s q o g; whole = tt; final = (refl, h) }
+    record { few = l; size = refl; ahead = omega arith; within = p; below = refl; beyond = refl; keeps = keeps-end L reserved bs sent k c b j s q o g; whole = tt; final = (refl, h) }
 
 -- what a turn needs of the turns after it
 abbrev Later : Limits → ℕ → List ℕ → ℕ → Type 0
@@ -269,7 +299,7 @@ Later L n reserved most =
 kept-goes : (L : Limits) (n : ℕ) (reserved bs sent : List ℕ) (k : Copy) (c b : List ℕ) → Keeps L reserved bs (sent ++ take (k .pos) b) k → k .pos ≤ length b → k .owed ≡ nothing
     → Later L n reserved (2 * length c + weight (k .reader)) → Kept L reserved bs sent k c b (goes L n (length b - k .pos) k c b)
 unfolding goes-on rest
-kept-goes L n reserved bs sent k c b q p o later = subst (Kept L reserved bs sent k c b) (sym (goes-is L n (length b - k .pos) k c b)) (go (stuck (k .reader) (length b - k .pos) c) refl)
+kept-goes L n reserved bs sent k c b q p o later = go (stuck (k .reader) (length b - k .pos) c) refl
   where
     go : (t : Bool) → stuck (k .reader) (length b - k .pos) c ≡ t → Kept L reserved bs sent k c b (goes-on L n (length b - k .pos) k c b t)
     go true e = kept-stuck L reserved bs sent k c b q p o e
@@ -292,14 +322,10 @@ kept-turn : (L : Limits) (n : ℕ) (reserved bs sent : List ℕ) (k : Copy) (c b
     → Later L n reserved (2 * length c + weight (k .reader)) → Kept L reserved bs sent k c b (copies L (suc n) k c b)
 kept-turn L n reserved bs sent k c b q p t later = go (fits k b) refl
   where
-    plain : Takes k b → length b - k .pos < length (rest (k .owed)) → NoPiece (k .owed)
-    plain (inl h) l = h
-    plain (inr h) l = absurd (omega arith)
-
     go : (u : Bool) → fits k b ≡ u → Kept L reserved bs sent k c b (copies L (suc n) k c b)
     go false e =
         let l = fits-false k b e in
-        subst (Kept L reserved bs sent k c b) (sym (turn-full L n k c b l)) (kept-full L reserved bs sent k c b q p (plain t l) l)
+        subst (Kept L reserved bs sent k c b) (sym (turn-full L n k c b l)) (kept-full L reserved bs sent k c b q p (takes-plain k b t l) l)
     go true e =
         let l = fits-true k b e in
         let pos = reached b (k .pos) (rest (k .owed)) in
@@ -311,7 +337,7 @@ kept-turn L n reserved bs sent k c b q p t later = go (fits k b) refl
         kept-goes L n reserved bs sent (settled k pos) c d (keeps-settled L reserved bs sent k b q p l) (omega arith) refl later in
         subst (Kept L reserved bs sent k c b)
         (ap (λ (y : ℕ). goes L n (y - pos) (settled k pos) c d) m ∙ sym (turn-goes L n k c b l))
-        (kept-from L reserved bs sent k (settled k pos) c b d _ (omega arith) m x)
+        (kept-from L reserved bs sent k (settled k pos) c b d _ (omega arith) m (put-below b (k .pos) (rest (k .owed)) p) (put-beyond b (k .pos) (rest (k .owed)) p) x)
 
 kept-turns : (L : Limits) (n : ℕ) (reserved bs sent : List ℕ) (k : Copy) (c b : List ℕ) → Keeps L reserved bs (sent ++ take (k .pos) b) k → k .pos ≤ length b → Takes k b
     → 2 * length c + weight (k .reader) < n → Kept L reserved bs sent k c b (copies L n k c b)

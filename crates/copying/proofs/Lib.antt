@@ -1,4 +1,5 @@
--- Proofs about the copier's call.
+-- Proofs about the copier's call. Turns: the laws of its loop. Due, Pieces, Keeps: no byte is lost or made up. Allowed, Sound, Reader: a
+-- sound state stays sound. Bound: what is out is bounded. Whole: a message given whole.
 pub mod Turns
 pub mod Due
 pub mod Pieces
@@ -6,3 +7,5 @@ pub mod Keeps
 pub mod Allowed
 pub mod Sound
 pub mod Reader
+pub mod Bound
+pub mod Whole

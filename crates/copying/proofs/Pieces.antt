@@ -1,5 +1,5 @@
 -- A piece goes out whole in the turn that reads it: it is never more than the room that its bytes were handed for.
-use Prim.Native.Nat.{ℕ, zero, suc, _+_, _-_, _/_, _%_, _≤_, min}
+use Prim.Native.Nat.{ℕ, zero, suc, _+_, _-_, _/_, _%_, _<_, _≤_, min}
 use native.Mathlib.Omega.{arith}
 use mathlib.Core.Path.{_≡_, refl, sym, ap, _∙_, subst}
 use mathlib.Core.Bool.{Bool, true, false}
@@ -18,8 +18,9 @@ use Rattle.machine.specs.Machine.{Stepped, on, bad, atWire, atHeader, atPayload
 use Rattle.machine.specs.Machine.{atElement, atArrayWord, atUnsigned, atSigned, within, atFloat, step}
 use Rattle.machine.specs.Call.{State, reading, owing, broke, Pace, byte, bulk, paceOf, Called, piece, scan, scanned, call}
 use Rattle.machine.specs.Call as calls
-use Rattle.copying.specs.Copy.{handed}
-use Rattle.copying.specs.Run.{Bulk, NotPiece}
+use Rattle.copying.specs.Owed.{rest}
+use Rattle.copying.specs.Copy.{Copy, handed}
+use Rattle.copying.specs.Run.{Bulk, NotPiece, NoPiece}
 use Rattle.copying.proofs.Turns.{handed-room, bulk-event}
 
 -- ---- a byte that is no payload's raises no piece first, and leads on to another such byte
@@ -137,3 +138,13 @@ given-fits L due (reading d p) room c e h =
     fitting-scan L due room d p (handed (reading d p) room c) e (paceOf p) refl (λ i. handed-room (reading d p) room c i) h
 given-fits L due (owing d id r) room c e h = let w : Piece id r 0 0 [] ≡ e = cc in subst (Fitting due room) w (inr (omega arith))
 given-fits L due broke room c e h = let w : _≡_ {A = ℕ} 0 1 = cc in absurd (omega arith)
+
+-- ---- between turns
+
+-- what is owed is no piece, or there is room for it
+abbrev pub Takes : Copy → List ℕ → Type 0
+Takes k b = NoPiece (k .owed) ⊎ (length (rest (k .owed)) ≤ length b - k .pos)
+
+pub takes-plain : (k : Copy) (b : List ℕ) → Takes k b → length b - k .pos < length (rest (k .owed)) → NoPiece (k .owed)
+takes-plain k b (inl h) l = h
+takes-plain k b (inr h) l = absurd (omega arith)

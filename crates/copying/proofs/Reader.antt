@@ -10,7 +10,7 @@ use Rattle.layout.specs.Message.{All}
 use Rattle.machine.specs.Call.{State, reading, owing, broke, Pace, byte, bulk, paceOf, call}
 use Rattle.machine.specs.Call as calls
 use Rattle.copying.specs.Copy.{Copy, Copied, gone, handed, stuck, heard, fits, allOf, copies, turnsFor, copy}
-use Rattle.copying.proofs.Turns.{turned-by, turn-is, goes, goes-on, goes-is, paced, handed-is}
+use Rattle.copying.proofs.Turns.{turned-by, turn-is, goes, goes-on, paced, handed-is}
 
 all-take : (Q : ℕ → Type 0) (n : ℕ) (c : List ℕ) → All Q c → All Q (take n c)
 all-take Q zero c h = tt
@@ -43,7 +43,7 @@ module _ (L : Limits) (P : State → Type 0) (Q : ℕ → Type 0) (keeps : (s : 
   goes-keeps : (n room : ℕ) (k : Copy) (c b : List ℕ) → All Q c → P (k .reader) → ((k : Copy) (c : List ℕ) → All Q c → P (k .reader) → P (copies L n k c b .copy .reader))
       → P (goes L n room k c b .copy .reader)
   unfolding goes-on
-  goes-keeps n room k c b h p later = subst (λ (r : Copied). P (r .copy .reader)) (sym (goes-is L n room k c b)) (go (stuck (k .reader) room c))
+  goes-keeps n room k c b h p later = go (stuck (k .reader) room c)
     where
       go : (t : Bool) → P (goes-on L n room k c b t .copy .reader)
       go true = p

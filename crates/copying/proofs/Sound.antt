@@ -5,11 +5,11 @@ use native.Mathlib.Nat.{not-suc-le-zero}
 use native.Mathlib.Omega.{arith}
 use mathlib.Core.Path.{_≡_, refl, sym, ap, _∙_, subst}
 use mathlib.Core.Bool.{Bool, true, false, _&&_}
-use mathlib.Core.Logic.{_⊎_, inl, inr}
+use mathlib.Core.Logic.{inl}
 use mathlib.Core.List.{List}
 use lib.Dec.{ltb}
 use borrow.Author.Tests.{lt-ltb, eqb-true, eq-eqb}
-use lib.ListN.{length, drop, length-drop}
+use lib.ListN.{length, take, drop, length-drop}
 use Rattle.layout.specs.Limits.{Limits}
 use Rattle.layout.specs.Event.{Event, Unsigned, Signed, Float, Piece, Fixlen, Array, Begin, End}
 use Rattle.laws.specs.Events.{eventBytes}
@@ -23,8 +23,9 @@ use Rattle.emit.proofs.Writes.{reached-is, length-put, reached-le}
 use Rattle.copying.specs.Owed.{Owed, nothing, owes, rest, further, depthBy, depthOnce, dueIn, legal, level, agrees, soundOwed}
 use Rattle.copying.specs.Copy.{Copy, Answer, full, verdict, invalid, unfinished, Copied, after, settled, filled, gone, handed, stuck, heard, fits, allOf, copies, turnsFor, copy}
 use Rattle.copying.specs.Run.{NotPiece, NoPiece}
-use Rattle.copying.proofs.Turns.{goes, goes-on, goes-is, turn-full, turn-goes, fits-false, fits-true, enough, turn-heard, nearer}
-use Rattle.copying.proofs.Pieces.{given-fits}
+use Rattle.copying.proofs.Turns.{goes, goes-on, turn-full, turn-goes, fits-false, fits-true, enough, turn-heard, nearer}
+use Rattle.copying.proofs.Pieces.{Takes, takes-plain, given-fits}
+use Rattle.copying.proofs.Keeps.{put-below, put-beyond, take-less, drop-more}
 use Rattle.copying.proofs.Allowed.{InForce, Gave, Stood, CallOf, all-of, call-sound}
 
 -- ---- sound
@@ -164,6 +165,8 @@ pub record Sounds (L : Limits) (k : Copy) (c b : List ℕ) (r : Copied) : Type 0
   pub size : length (r .buf) ≡ length b
   pub ahead : k .pos ≤ r .copy .pos
   pub within : r .copy .pos ≤ length b
+  pub below : take (k .pos) (r .buf) ≡ take (k .pos) b
+  pub beyond : drop (r .copy .pos) (r .buf) ≡ drop (r .copy .pos) b
   pub sound : Sound L (r .copy)
   pub ends : r .answer ≡ unfinished → ⊥
 
@@ -179,6 +182,8 @@ sounds-full L k c b m p n h =
       size = length-put b (k .pos) (rest (k .owed)) p;
       ahead = omega arith;
       within = omega arith;
+      below = put-below b (k .pos) (rest (k .owed)) p;
+      beyond = put-beyond b (k .pos) (rest (k .owed)) p;
       sound =
           record {
             reader = m .reader;
@@ -189,18 +194,28 @@ sounds-full L k c b m p n h =
       ends = λ q. let w : _≡_ {A = ℕ} 0 1 = cc in omega arith;
     }
 
-sounds-from : (L : Limits) (k j : Copy) (c b d : List ℕ) (r : Copied) → k .pos ≤ j .pos → length d ≡ length b → Sounds L j c d r → Sounds L k c b r
-sounds-from L k j c b d r p n h =
+sounds-from : (L : Limits) (k j : Copy) (c b d : List ℕ) (r : Copied) → k .pos ≤ j .pos → length d ≡ length b → take (k .pos) d ≡ take (k .pos) b → drop (j .pos) d ≡ drop (j .pos) b
+    → Sounds L j c d r → Sounds L k c b r
+sounds-from L k j c b d r p n e f h =
     let a = h .ahead in
     let w = h .within in
-    record { few = h .few; size = h .size ∙ n; ahead = omega arith; within = omega arith; sound = h .sound; ends = h .ends }
+    record {
+      few = h .few;
+      size = h .size ∙ n;
+      ahead = omega arith;
+      within = omega arith;
+      below = take-less (k .pos) (j .pos) (r .buf) d p (h .below) ∙ e;
+      beyond = h .beyond ∙ drop-more (j .pos) (r .copy .pos) d b a f;
+      sound = h .sound;
+      ends = h .ends;
+    }
 
 sounds-after : (L : Limits) (k j : Copy) (c b : List ℕ) (n : ℕ) (r : Copied) → j .pos ≡ k .pos → n ≤ length c → Sounds L j (drop n c) b r → Sounds L k c b (after n r)
 sounds-after L k j c b n r p l h =
     let m : length (drop n c) ≡ length c - n = length-drop n c in
     let f = h .few in
     let a = h .ahead in
-    record { few = omega arith; size = h .size; ahead = omega arith; within = h .within; sound = h .sound; ends = h .ends }
+    record { few = omega arith; size = h .size; ahead = omega arith; within = h .within; below = subst (λ (x : ℕ). take x (r .buf) ≡ take x b) p (h .below); beyond = h .beyond; sound = h .sound; ends = h .ends }
 
 -- the state that the reader's event leaves
 mid-gave : (L : Limits) (k : Copy) (d due : ℕ) (e : Event) (s : State) → d ≡ k .depth → k .depth ≤ L .depth → FairPlace (placeOf s) → Gave L d e s → Mid L (gone k s (owes due e 0))
@@ -247,6 +262,8 @@ sounds-heard L k c b s j (calls.verdict v) s′ f p l w n fair h go =
       size = refl;
       ahead = omega arith;
       within = p;
+      below = refl;
+      beyond = refl;
       sound = free-sound L (gone k s′ nothing) refl (stood-by s w h);
       ends = λ q. let w : _≡_ {A = ℕ} 0 1 = cc in omega arith;
     }
@@ -261,6 +278,8 @@ sounds-heard L k c b s j calls.invalid s′ f p l w n fair h go =
       size = refl;
       ahead = omega arith;
       within = p;
+      below = refl;
+      beyond = refl;
       sound = free-sound L (gone k s′ nothing) refl (mid-broke L k s′ (broke-by s h) l);
       ends = λ q. let w : _≡_ {A = ℕ} 0 1 = cc in omega arith;
     }
@@ -270,9 +289,6 @@ sounds-heard L k c b s j calls.invalid s′ f p l w n fair h go =
     broke-by (owing d id r) h = h
     broke-by broke h = h .1
 
-abbrev Takes : Copy → List ℕ → Type 0
-Takes k b = NoPiece (k .owed) ⊎ (length (rest (k .owed)) ≤ length b - k .pos)
-
 -- what a turn needs of the turns after it
 abbrev Later : Limits → ℕ → ℕ → Type 0
 Later L n most = (k : Copy) (c b : List ℕ) → Mid L k → k .pos ≤ length b → Takes k b → 2 * length c + weight (k .reader) < most → Sounds L k c b (copies L n k c b)
@@ -280,11 +296,11 @@ Later L n most = (k : Copy) (c b : List ℕ) → Mid L k → k .pos ≤ length b
 sounds-goes : (L : Limits) (n : ℕ) (k : Copy) (c b : List ℕ) → Mid L k → k .pos ≤ length b → k .owed ≡ nothing → Later L n (2 * length c + weight (k .reader))
     → Sounds L k c b (goes L n (length b - k .pos) k c b)
 unfolding goes-on rest
-sounds-goes L n k c b m p o later = subst (Sounds L k c b) (sym (goes-is L n (length b - k .pos) k c b)) (go (stuck (k .reader) (length b - k .pos) c) refl)
+sounds-goes L n k c b m p o later = go (stuck (k .reader) (length b - k .pos) c) refl
   where
     go : (t : Bool) → stuck (k .reader) (length b - k .pos) c ≡ t → Sounds L k c b (goes-on L n (length b - k .pos) k c b t)
     go true e =
-        record { few = omega arith; size = refl; ahead = omega arith; within = p; sound = free-sound L k o m; ends = λ q. let w : _≡_ {A = ℕ} 0 1 = cc in omega arith }
+        record { few = omega arith; size = refl; ahead = omega arith; within = p; below = refl; beyond = refl; sound = free-sound L k o m; ends = λ q. let w : _≡_ {A = ℕ} 0 1 = cc in omega arith }
     go false e =
         let h = handed (k .reader) (length b - k .pos) c in
         let r = call L (k .reader) h in
@@ -300,14 +316,10 @@ sounds-goes L n k c b m p o later = subst (Sounds L k c b) (sym (goes-is L n (le
 sounds-turn : (L : Limits) (n : ℕ) (k : Copy) (c b : List ℕ) → Mid L k → k .pos ≤ length b → Takes k b → Later L n (2 * length c + weight (k .reader)) → Sounds L k c b (copies L (suc n) k c b)
 sounds-turn L n k c b m p t later = go (fits k b) refl
   where
-    plain : Takes k b → length b - k .pos < length (rest (k .owed)) → NoPiece (k .owed)
-    plain (inl h) l = h
-    plain (inr h) l = absurd (omega arith)
-
     go : (u : Bool) → fits k b ≡ u → Sounds L k c b (copies L (suc n) k c b)
     go false e =
         let l = fits-false k b e in
-        subst (Sounds L k c b) (sym (turn-full L n k c b l)) (sounds-full L k c b m p (plain t l) l)
+        subst (Sounds L k c b) (sym (turn-full L n k c b l)) (sounds-full L k c b m p (takes-plain k b t l) l)
     go true e =
         let l = fits-true k b e in
         let pos = reached b (k .pos) (rest (k .owed)) in
@@ -319,7 +331,7 @@ sounds-turn L n k c b m p t later = go (fits k b) refl
         sounds-goes L n (settled k pos) c d (settled-mid L k pos m) (omega arith) refl later in
         subst (Sounds L k c b)
         (ap (λ (y : ℕ). goes L n (y - pos) (settled k pos) c d) z ∙ sym (turn-goes L n k c b l))
-        (sounds-from L k (settled k pos) c b d _ (omega arith) z x)
+        (sounds-from L k (settled k pos) c b d _ (omega arith) z (put-below b (k .pos) (rest (k .owed)) p) (put-beyond b (k .pos) (rest (k .owed)) p) x)
 
 sounds-turns : (L : Limits) (n : ℕ) (k : Copy) (c b : List ℕ) → Mid L k → k .pos ≤ length b → Takes k b → 2 * length c + weight (k .reader) < n → Sounds L k c b (copies L n k c b)
 sounds-turns L zero k c b m p t h = absurd (not-suc-le-zero h)

@@ -47,15 +47,17 @@ fits-is k b h = go (fits k b) refl
     go true e = refl
     go false e = let l = fits-false k b e in absurd (omega arith)
 
--- the half after what is owed is out
-unfoldable pub goes : Limits → ℕ → ℕ → Copy → List ℕ → List ℕ → Copied
-goes L n room k c b =
-    elim (stuck (k .reader) room c) [
+-- the half after what is owed is out, where the reader is stuck and where it isn't
+unfoldable pub goes-on : Limits → ℕ → ℕ → Copy → List ℕ → List ℕ → Bool → Copied
+goes-on L n room k c b t =
+    let r = call L (k .reader) (handed (k .reader) room c) in
+    elim t [
       | true ↦ record { used = 0; answer = full; copy = k; buf = b }
-      | false ↦
-          (let r = call L (k .reader) (handed (k .reader) room c) in
-          heard k c b r (λ e. copies L n (gone k (r .state) (allOf (k .reader) e)) (drop (r .read) c) b))
+      | false ↦ heard k c b r (λ e. copies L n (gone k (r .state) (allOf (k .reader) e)) (drop (r .read) c) b)
     ]
+
+abbrev pub goes : Limits → ℕ → ℕ → Copy → List ℕ → List ℕ → Copied
+goes L n room k c b = goes-on L n room k c b (stuck (k .reader) room c)
 
 -- the whole, where there is room for what is owed and where there isn't
 unfoldable pub turned-by : Limits → ℕ → Copy → List ℕ → List ℕ → Bool → Copied
@@ -68,7 +70,7 @@ turned-by L n k c b t =
     ]
 
 pub turn-is : (L : Limits) (n : ℕ) (k : Copy) (c b : List ℕ) → copies L (suc n) k c b ≡ turned-by L n k c b (fits k b)
-unfolding copies turned-by goes
+unfolding copies turned-by goes-on
 turn-is L n k c b = refl
 
 pub turn-full : (L : Limits) (n : ℕ) (k : Copy) (c b : List ℕ) → length b - k .pos < length (rest (k .owed))
@@ -152,11 +154,11 @@ handed-few (reading d p) room c = subst (λ (l : List ℕ). length l ≤ length 
 handed-few (owing d id r) room c = omega arith
 handed-few broke room c = omega arith
 
-take-take : (j m : ℕ) (c : List ℕ) → j ≤ length (take m c) → take j (take m c) ≡ take j c
-take-take zero m c h = refl
-take-take (suc j) zero c h = absurd (not-suc-le-zero h)
-take-take (suc j) (suc m) [] h = refl
-take-take (suc j) (suc m) (x ∷ c) h = ap (λ (l : List ℕ). x ∷ l) (take-take j m c (omega arith))
+pub take-take : (p q : ℕ) (l : List ℕ) → p ≤ q → take p (take q l) ≡ take p l
+take-take zero q l h = refl
+take-take (suc p) zero l h = absurd (not-suc-le-zero h)
+take-take (suc p) (suc q) [] h = refl
+take-take (suc p) (suc q) (x ∷ l) h = ap (λ (m : List ℕ). x ∷ m) (take-take p q l (omega arith))
 
 pub handed-first : (s : State) (room : ℕ) (c : List ℕ) (j : ℕ) → j ≤ length (handed s room c) → take j (handed s room c) ≡ take j c
 unfolding handed
@@ -165,7 +167,7 @@ handed-first (reading d p) room c j h =
   where
     go : (q : Pace) → j ≤ length (paced q room c) → take j (paced q room c) ≡ take j c
     go byte h = refl
-    go (bulk id r total o) h = take-take j room c h
+    go (bulk id r total o) h = take-take j room c (omega (arith, length-take room c))
 handed-first (owing d id r) room c j h = refl
 handed-first broke room c j h = refl
 
@@ -247,25 +249,13 @@ nearer s s′ (calls.event x) j m e i h = h
 nearer s s′ (calls.verdict v) j m e i h = let z : _≡_ {A = ℕ} 0 1 = cc in absurd (omega arith)
 nearer s s′ calls.invalid j m e i h = let z : _≡_ {A = ℕ} 0 1 = cc in absurd (omega arith)
 
-unfoldable pub goes-on : Limits → ℕ → ℕ → Copy → List ℕ → List ℕ → Bool → Copied
-goes-on L n room k c b t =
-    let r = call L (k .reader) (handed (k .reader) room c) in
-    elim t [
-      | true ↦ record { used = 0; answer = full; copy = k; buf = b }
-      | false ↦ heard k c b r (λ e. copies L n (gone k (r .state) (allOf (k .reader) e)) (drop (r .read) c) b)
-    ]
-
-pub goes-is : (L : Limits) (n room : ℕ) (k : Copy) (c b : List ℕ) → goes L n room k c b ≡ goes-on L n room k c b (stuck (k .reader) room c)
-unfolding goes goes-on
-goes-is L n room k c b = refl
-
 -- the same half turn, where the turns after it are the same
 same-goes : (L : Limits) (n m room : ℕ) (k : Copy) (c b : List ℕ) → FairPlace (placeOf (k .reader))
     → ((s : State) (e : Event) (j : ℕ) → FairPlace (placeOf s) → j ≤ length c → 2 * (length c - j) + weight s < 2 * length c + weight (k .reader)
     → copies L n (gone k s (allOf (k .reader) e)) (drop j c) b ≡ copies L m (gone k s (allOf (k .reader) e)) (drop j c) b)
     → goes L n room k c b ≡ goes L m room k c b
 unfolding goes-on
-same-goes L n m room k c b f h = goes-is L n room k c b ∙ go (stuck (k .reader) room c) refl ∙ sym (goes-is L m room k c b)
+same-goes L n m room k c b f h = go (stuck (k .reader) room c) refl
   where
     go : (t : Bool) → stuck (k .reader) room c ≡ t → goes-on L n room k c b t ≡ goes-on L m room k c b t
     go true e = refl
@@ -330,7 +320,7 @@ pub copy-stuck : (L : Limits) (k : Copy) (c b : List ℕ) → k .owed ≡ nothin
     → copy L k c b ≡ record { used = 0; answer = full; copy = k; buf = b }
 unfolding goes-on
 copy-stuck L k c b o t =
-    copy-is L k c b ∙ turn-free L (turnsFor c - 1) k c b o ∙ goes-is L (turnsFor c - 1) (length b - k .pos) k c b
+    copy-is L k c b ∙ turn-free L (turnsFor c - 1) k c b o
     ∙ ap (goes-on L (turnsFor c - 1) (length b - k .pos) k c b) t
 
 turn-after : (L : Limits) (k : Copy) (c b : List ℕ) → FairPlace (placeOf (k .reader)) → stuck (k .reader) (length b - k .pos) c ≡ false
@@ -354,6 +344,6 @@ pub copy-turn : (L : Limits) (k : Copy) (c b : List ℕ) → FairPlace (placeOf 
 unfolding goes-on
 copy-turn L k c b f o t =
     let r = call L (k .reader) (handed (k .reader) (length b - k .pos) c) in
-    copy-is L k c b ∙ turn-free L (turnsFor c - 1) k c b o ∙ goes-is L (turnsFor c - 1) (length b - k .pos) k c b
+    copy-is L k c b ∙ turn-free L (turnsFor c - 1) k c b o
     ∙ ap (goes-on L (turnsFor c - 1) (length b - k .pos) k c b) t
     ∙ heard-ext k c b (r .read) (r .answer) (r .state) _ _ (turn-after L k c b f t)

@@ -55,12 +55,15 @@ abbrev pub NoPiece : Owed → Type 0
 NoPiece nothing = Unit {0}
 NoPiece (owes due e place) = NotPiece e
 
--- A call from k with chunk c and buffer b, `sent` being what went out before with earlier buffers and bs what was read before.
+-- A call from k with chunk c and buffer b, `sent` being what went out before with earlier buffers and bs what was read before. The buffer
+-- alters only between the position before and the position after.
 pub record Kept (L : Limits) (reserved bs sent : List ℕ) (k : Copy) (c b : List ℕ) (r : Copied) : Type 0 where
   pub few : r .used ≤ length c
   pub size : length (r .buf) ≡ length b
   pub ahead : k .pos ≤ r .copy .pos
   pub within : r .copy .pos ≤ length b
+  pub below : take (k .pos) (r .buf) ≡ take (k .pos) b
+  pub beyond : drop (r .copy .pos) (r .buf) ≡ drop (r .copy .pos) b
   pub keeps : Keeps L reserved (bs ++ take (r .used) c) (sent ++ take (r .copy .pos) (r .buf)) (r .copy)
   pub whole : NoPiece (r .copy .owed)
   pub final : Final (r .answer) (r .copy) (r .used) c (length b)

@@ -1,5 +1,5 @@
--- Worked calls: tickets copied through buffers of one to four bytes, and the theorem that each row holds.
-use Prim.Native.Nat.{ℕ, zero, suc, _+_}
+-- Worked calls: tickets copied through buffers of one to three bytes, and the theorem that each row holds.
+use Prim.Native.Nat.{ℕ, zero, suc}
 use mathlib.Core.Path.{_≡_, refl}
 use mathlib.Core.List.{List, [], _∷_}
 use lib.ListN.{take, drop, replicate}

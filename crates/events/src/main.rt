@@ -1,128 +1,22 @@
 // Lists the events of the message on standard input, a line each, and last its verdict.
-// It streams: a message of any length is read in chunks, and nothing of it is held but the reader's state.
-use istream::Answer;
-use istream::IStream;
-use istream::Status;
+// Where a read or a write fails there is no verdict: the list ends without one, and a line on standard error says why.
+use libc::STDERR_FILENO;
 use libc::STDIN_FILENO;
+use libc::STDOUT_FILENO;
+use lines::Verdict;
+use listing::Listing;
 
-mod text;
-
-use text::flush;
-use text::line;
-use text::room;
-use text::words;
-
-enum Verdict {
-    Complete,
-    Incomplete,
-    Invalid,
+// How far the list has come: more input may follow, the input is at its end or the message is broken, or a read or a write failed.
+enum State {
+    Open,
+    Ended,
+    Unread,
+    Unwritten,
 }
 
-// The reader, how much of the chunk it has read, where the text stands, whether an event came last, so that the rest of the chunk is to be
-// handed in again, and the verdict so far.
-struct Listing {
-    stream: IStream,
-    from: usize,
-    at: usize,
-    more: bool,
-    verdict: Verdict,
-}
-
-fn stop(stream: IStream, from: usize, at: usize, verdict: Verdict) -> Listing {
-    Listing {
-        stream,
-        from,
-        at,
-        more: false,
-        verdict,
-    }
-}
-
-// The place that many bytes on, within the chunk.
-fn onward(chunk: &[u8], from: usize, read: usize) -> usize {
-    let len = chunk.len();
-    if from <= len {
-        if read <= len - from {
-            return from + read;
-        }
-    }
-    len
-}
-
-// One call on the rest of the chunk, and the lines of its event.
-fn call(
-    stream: IStream,
-    chunk: &[u8],
-    from: usize,
-    rest: &[u8],
-    out: &mut [u8],
-    at: usize,
-) -> Listing {
-    let fed = stream.feed(rest);
-    let answer = fed.answer;
-    let next = fed.stream;
-    let read = onward(chunk, from, fed.read);
-    match answer {
-        Answer::Event(e) => Listing {
-            stream: next,
-            from: read,
-            at: line(out, at, rest, e),
-            more: true,
-            verdict: Verdict::Incomplete,
-        },
-        Answer::Status(s) => match s {
-            Status::Complete => stop(next, read, at, Verdict::Complete),
-            Status::Incomplete => stop(next, read, at, Verdict::Incomplete),
-        },
-        Answer::Refused(_) => stop(next, read, at, Verdict::Invalid),
-    }
-}
-
-fn step(l: Listing, chunk: &[u8], out: &mut [u8]) -> Listing {
-    let from = l.from;
-    let at = l.at;
-    let stream = l.stream;
-    if from <= chunk.len() {
-        call(stream, chunk, from, &chunk[from..], out, at)
-    } else {
-        stop(stream, from, at, Verdict::Incomplete)
-    }
-}
-
-// The calls on a chunk. They end (two a byte and two more are enough); the count only says so to the prover.
-fn list(stream: IStream, chunk: &[u8], out: &mut [u8], at: usize) -> Listing {
-    let mut l = Listing {
-        stream,
-        from: 0,
-        at,
-        more: true,
-        verdict: Verdict::Incomplete,
-    };
-    let mut turns = u64::MAX;
-    while 0 < turns {
-        if !l.more {
-            return l;
-        }
-        l = step(l, chunk, out);
-        turns -= 1;
-    }
-    l
-}
-
-// The last line.
-fn last_line(out: &mut [u8], at: usize, verdict: Verdict) -> usize {
-    match verdict {
-        Verdict::Complete => words(out, at, b"complete\n"),
-        Verdict::Incomplete => words(out, at, b"incomplete\n"),
-        Verdict::Invalid => words(out, at, b"invalid\n"),
-    }
-}
-
-// The last line, and the text goes out.
-fn conclude(out: &mut [u8], at: usize, verdict: Verdict) {
-    let start = room(out, at);
-    let end = last_line(out, start, verdict);
-    flush(out, end);
+struct Listed {
+    listing: Listing,
+    state: State,
 }
 
 // What the next read brings: a chunk, the end of the input, or a failure.
@@ -143,63 +37,125 @@ fn get(chunk: &mut [u8]) -> Got {
     }
 }
 
-// The listing so far, and whether input is still to come.
-struct Listed {
-    listing: Listing,
-    open: bool,
+// The text so far goes out; whether it did.
+fn flush(out: &[u8], at: usize) -> bool {
+    at <= out.len() && io::write_all(STDOUT_FILENO, &out[0..at])
 }
 
-// One chunk of the input. A message found invalid is read no further.
-fn take_chunk(l: Listing, input: &mut [u8], out: &mut [u8]) -> Listed {
-    let got = get(input);
-    let Got::Chunk(n) = got else {
-        return Listed {
-            listing: l,
-            open: false,
-        };
-    };
-    if input.len() < n {
-        return Listed {
-            listing: l,
-            open: false,
-        };
-    }
-    let stream = l.stream;
-    let at = l.at;
-    let next = list(stream, &input[0..n], out, at);
-    let verdict = next.verdict;
+// A message found broken is read no further.
+fn unless_broken(l: Listing) -> Listed {
+    let verdict = l.verdict;
     match verdict {
         Verdict::Invalid => Listed {
-            listing: next,
-            open: false,
+            listing: l,
+            state: State::Ended,
         },
         _ => Listed {
-            listing: next,
-            open: true,
+            listing: l,
+            state: State::Open,
+        },
+    }
+}
+
+// The lines of a chunk, the text emptied as often as it takes. Nothing but the count says to the prover that this ends.
+fn list_chunk(listing: Listing, chunk: &[u8], out: &mut [u8]) -> Listed {
+    let mut l = listing.chunk();
+    let mut turns = u64::MAX;
+    while 0 < turns {
+        l = listing::list(l, chunk, out);
+        if !l.more {
+            return unless_broken(l);
+        }
+        if !flush(out, l.at) {
+            return Listed {
+                listing: l,
+                state: State::Unwritten,
+            };
+        }
+        l = l.emptied();
+        turns -= 1;
+    }
+    unless_broken(l)
+}
+
+// One chunk of the input.
+fn take_chunk(l: Listing, input: &mut [u8], out: &mut [u8]) -> Listed {
+    let got = get(input);
+    match got {
+        Got::Chunk(n) => {
+            if n <= input.len() {
+                list_chunk(l, &input[0..n], out)
+            } else {
+                Listed {
+                    listing: l,
+                    state: State::Unread,
+                }
+            }
+        }
+        Got::End => Listed {
+            listing: l,
+            state: State::Ended,
+        },
+        Got::Failed => Listed {
+            listing: l,
+            state: State::Unread,
         },
     }
 }
 
 // Chunk by chunk to the end of the input. Nothing says that an input ends, so the count of chunks falls from a number that no run uses up.
-fn list_all(input: &mut [u8], out: &mut [u8]) -> Listing {
-    let mut l = stop(IStream::new(), 0, 0, Verdict::Complete);
+fn list_all(input: &mut [u8], out: &mut [u8]) -> Listed {
+    let mut l = Listed {
+        listing: Listing::new(),
+        state: State::Open,
+    };
     let mut turns = u64::MAX;
     while 0 < turns {
-        let next = take_chunk(l, input, out);
-        let open = next.open;
-        l = next.listing;
-        if !open {
+        let state = l.state;
+        let State::Open = state else {
             return l;
-        }
+        };
+        l = take_chunk(l.listing, input, out);
         turns -= 1;
     }
     l
 }
 
+// The text so far and the last line go out; whether they did.
+fn conclude(l: Listing, out: &mut [u8]) -> bool {
+    let verdict = l.verdict;
+    if !flush(out, l.at) {
+        return false;
+    }
+    let end = lines::put_verdict(out, 0, verdict);
+    flush(out, end)
+}
+
+fn complain(what: &[u8]) {
+    io::write_all(STDERR_FILENO, what);
+}
+
+fn finish(l: Listed, out: &mut [u8]) {
+    let state = l.state;
+    let listing = l.listing;
+    match state {
+        State::Unread => {
+            flush(out, listing.at);
+            complain(b"events: standard input cannot be read\n");
+        }
+        State::Unwritten => complain(b"events: standard output cannot be written\n"),
+        _ => {
+            if !conclude(listing, out) {
+                complain(b"events: standard output cannot be written\n");
+            }
+        }
+    }
+}
+
+// A chunk of 4,096 bytes, whose lines fit the text.
 fn main() {
-    let mut input = io::large_buffer();
+    let mut input = io::buffer();
     let mut out = io::large_buffer();
     let l = list_all(&mut input, &mut out);
-    let verdict = l.verdict;
-    conclude(&mut out, l.at, verdict);
+    finish(l, &mut out);
 }

@@ -24,18 +24,20 @@ use Rattle.event.specs.declared.Event.the-variants.{Str, Blob}
 use Rattle.phase.specs.declared.Phase.{Phase}
 use Rattle.phase.specs.declared.Phase.the-variants.{Payload}
 use Rattle.istream.specs.declared.IStream.{IStream}
+use Rattle.istream.specs.declared.Status.{Status}
 use Rattle.istream.specs.declared.Status.the-variants.{Incomplete}
 use Rattle.istream.specs.declared.Answer.the-variants as Answers
-use Rattle.field.specs.declared.Stepped.{Stepped}
-use Rattle.field.specs.declared.Stepped.the-variants.{On, Raised}
+use Rattle.stepped.specs.declared.Stepped.{Stepped}
+use Rattle.stepped.specs.declared.Stepped.the-variants.{On, Raised}
 use Rattle.phase.specs.Phases.{stateAt, phaseIn, phaseOf, depthOf}
 use Rattle.istream.specs.Stream.{stateOf, streamIn, statusIn, statusOf, fedIn, stopped}
-use Rattle.field.specs.Steps.{stepped, stepOn, covered, pieceIn}
+use Rattle.stepped.specs.Steps.{stepped, stepOn, covered, pieceIn}
 use Rattle.phase.specs.Sound.{AtBytes, Kept}
 use Rattle.phase.proofs.Phases.{raw-back, sort-back, state-back, Live, phase-back, depth-back, at-bytes-live}
 use Rattle.phase.proofs.Keeps.{step-keeps}
 use Rattle.phase.proofs.Scans.{scan-byte}
-use Rattle.field.proofs.Stepped.{the-type}
+use Rattle.stepped.proofs.Stepped.{the-type}
+use Rattle.istream.proofs.Tests.{verdict-is}
 
 -- ---- the state there and back
 
@@ -44,7 +46,7 @@ state-of-stream (reading d p) = state-back d p
 state-of-stream (owing d id r) = ap (owing d id) (sort-back r)
 state-of-stream broke = refl
 
-stream-back : (d : ℕ) (p : Phase) → Live (stateAt d p) → streamIn (stateAt d p) ≡ record { phase = p; depth = d }
+pub stream-back : (d : ℕ) (p : Phase) → Live (stateAt d p) → streamIn (stateAt d p) ≡ record { phase = p; depth = d }
 stream-back d p l = λ i. record { phase = phase-back d p l i; depth = depth-back d p l i }
 
 -- ---- reading on from a state, n bytes being read
@@ -104,7 +106,9 @@ goes-on n broke b bs q d₁ a h e = absurd a
 -- the chunk's end
 spent : (n : ℕ) (s : IStream) (st : State) → stateOf s ≡ st → streamIn st ≡ s → AtBytes st → stopped n (On (s .phase) (s .depth)) ≡ fedIn (scanOn n st [])
 unfolding statusOf verdictSo scan fedIn
-spent n s (reading d p) e f a = λ i. record { read = n; answer = Answers.Status (statusIn (verdictSo (e i))); stream = sym f i }
+spent n s (reading d p) e f a =
+    ap (λ (v : Status). record { read = n; answer = Answers.Status v; stream = s }) (verdict-is (stateOf s))
+    ∙ (λ i. record { read = n; answer = Answers.Status (statusIn (verdictSo (e i))); stream = sym f i })
 spent n s (owing d id r) e f a = absurd a
 spent n s broke e f a = absurd a
 

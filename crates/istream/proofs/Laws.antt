@@ -26,7 +26,7 @@ use Rattle.at_once.specs.declared.Quick.the-variants.{Done}
 use Rattle.at_once.specs.AtOnce.{StopsAt, RightFrom}
 use Rattle.istream.specs.declared.Fed.{Fed}
 use Rattle.istream.specs.Stream.{stateOf, streamIn, soundStream, answerIn, fedIn, still, fedFrom, fedOf}
-use Rattle.field.specs.Steps.{pieceIn}
+use Rattle.stepped.specs.Steps.{pieceIn}
 use Rattle.phase.specs.Sound.{SoundState, AtBytes, Kept}
 use Rattle.phase.proofs.Phases.{width-back, Live, both, join, phase-is, varint-is, broken-sound}
 use Rattle.phase.proofs.Keeps.{step-keeps}

@@ -5,17 +5,19 @@ use mathlib.Core.List.{List}
 use lib.Dec.{leb}
 use Rattle.layout.specs.Limits.{base, pick}
 use Rattle.layout.specs.Message.{Verdict, complete, incomplete, brokenAt}
-use Rattle.machine.specs.Call.{State, reading, owing, broke, Called, call, verdictSo}
+use Rattle.machine.specs.Call.{State, reading, owing, broke, Called, call, standing}
 use Rattle.machine.specs.Call as calls
 use Rattle.types.specs.Types.{refusal}
 use Rattle.event.specs.Event.{declared}
 use Rattle.phase.specs.Phases.{stateAt, phaseOf, depthOf, soundPhase}
-use Rattle.field.specs.Steps.{covered}
-use Rattle.field.specs.declared.Stepped.{Stepped}
-use Rattle.field.specs.declared.Stepped.the-variants.{On, Raised, Bad}
+use Rattle.stepped.specs.Steps.{covered}
+use Rattle.stepped.specs.declared.Stepped.{Stepped}
+use Rattle.stepped.specs.declared.Stepped.the-variants.{On, Raised, Bad}
 use Rattle.istream.specs.declared.IStream.{IStream}
 use Rattle.istream.specs.declared.Status.{Status}
 use Rattle.istream.specs.declared.Status.the-variants.{Complete, Incomplete}
+use Rattle.istream.specs.declared.Standing.{Standing}
+use Rattle.istream.specs.declared.Standing.the-variants as Standings
 use Rattle.istream.specs.declared.Answer.{Answer}
 use Rattle.istream.specs.declared.Answer.the-variants as Answers
 use Rattle.istream.specs.declared.Fed.{Fed}
@@ -36,14 +38,26 @@ soundStream s = leb (s .depth) (base .depth) && soundPhase (s .phase)
 
 -- ---- a call
 
+-- where the message stands: "complete when no field is under way and depth is 0, else incomplete"; a broken reader stays so
+abbrev pub standingIn : calls.Standing → Standing
+standingIn calls.complete = Standings.Complete
+standingIn calls.incomplete = Standings.Incomplete
+standingIn calls.broken = Standings.Invalid
+
+unfoldable pub statusOf : IStream → Standing
+statusOf s = standingIn (standing (stateOf s))
+
 -- a verdict so far is never broken: a broken reader is refused
 abbrev pub statusIn : Verdict → Status
 statusIn complete = Complete
 statusIn incomplete = Incomplete
 statusIn (brokenAt n) = Incomplete
 
-unfoldable pub statusOf : IStream → Status
-statusOf s = statusIn (verdictSo (stateOf s))
+-- the verdict of where a message stands
+abbrev pub verdictIn : Standing → Status
+verdictIn Standings.Complete = Complete
+verdictIn Standings.Incomplete = Incomplete
+verdictIn Standings.Invalid = Incomplete
 
 -- the machine's answer after n bytes as this crate's: a piece ends at the bytes read
 abbrev pub answerIn : ℕ → calls.Answer → Answer
@@ -56,7 +70,7 @@ fedIn c = record { read = c .read; answer = answerIn (c .read) (c .answer); stre
 
 -- where a byte leaves a call that has read n: at an event, broken, or at the chunk's end
 abbrev pub stopped : ℕ → Stepped → Fed
-stopped n (On p d) = record { read = n; answer = Answers.Status (statusOf (record { phase = p; depth = d })); stream = record { phase = p; depth = d } }
+stopped n (On p d) = record { read = n; answer = Answers.Status (verdictIn (statusOf (record { phase = p; depth = d }))); stream = record { phase = p; depth = d } }
 stopped n (Raised e p d) = record { read = n; answer = Answers.Event e; stream = record { phase = p; depth = d } }
 stopped n Bad = record { read = n; answer = Answers.Refused (refusal 2); stream = streamIn broke }
 

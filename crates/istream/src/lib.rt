@@ -8,18 +8,18 @@ ghost use Rattle.machine.specs.Machine.{inPayload};
 ghost use Rattle.machine.specs.Call.{reading, fresh, call};
 ghost use Rattle.types.specs.Types.{rawSort};
 ghost use Rattle.phase.specs.Sound.{AtBytes};
-ghost use Rattle.istream.specs.Stream.{stateOf, streamIn, soundStream, statusOf, stopped, fedIn, fedOf, takenOf};
+ghost use Rattle.istream.specs.Stream.{stateOf, streamIn, soundStream, statusOf, verdictIn, stopped, fedIn, fedOf, takenOf};
 use at_once::Quick;
 use at_once::at_once;
 use event::Event;
-use field::Stepped;
-use field::piece;
 use phase::Phase;
 use phase::anew;
 use phase::idle;
 use phase::sound;
 use phase::sound_payload;
 use step::step;
+use stepped::Stepped;
+use stepped::piece;
 use types::Error;
 use types::RawType;
 
@@ -28,10 +28,17 @@ pub struct IStream {
     pub depth: u8,
 }
 
-// Where the bytes end so far: at a field boundary with no sequence open, or within something.
+// A verdict, once a chunk is spent: the bytes so far end at a field boundary with no sequence open, or within something.
 pub enum Status {
     Complete,
     Incomplete,
+}
+
+// Where a reader stands between two calls: as a verdict says, or broken, after which every call is refused.
+pub enum Standing {
+    Complete,
+    Incomplete,
+    Invalid,
 }
 
 pub enum Answer {
@@ -58,6 +65,16 @@ pub struct Taken {
     pub stream: IStream,
 }
 
+// The verdict of a reader that isn't broken.
+fn verdict(s: Standing) -> Status
+    ensures { λ r. ⌜ r ≡ verdictIn s ⌝ }
+{
+    match s {
+        Standing::Complete => Status::Complete,
+        _ => Status::Incomplete,
+    }
+}
+
 // Where a byte leaves a call that has read n.
 fn stop(n: usize, s: Stepped) -> Fed
     ensures { λ r. ⌜ r ≡ stopped n s ⌝ }
@@ -67,7 +84,7 @@ fn stop(n: usize, s: Stepped) -> Fed
             let stream = IStream { phase, depth };
             Fed {
                 read: n,
-                answer: Answer::Status(stream.status()),
+                answer: Answer::Status(verdict(stream.status())),
                 stream,
             }
         }
@@ -155,22 +172,24 @@ impl IStream {
         }
     }
 
-    // The verdict so far.
-    pub fn status(self) -> Status
+    // Where the message stands after the bytes read so far; incomplete while an event is due.
+    pub fn status(self) -> Standing
         ensures { λ r. ⌜ r ≡ statusOf self ⌝ }
     {
         let phase = self.phase;
         let depth = self.depth;
-        let Phase::Header(a) = phase else {
-            return Status::Incomplete;
-        };
-        let taken = a.taken;
-        if taken == 0 {
-            if depth == 0 {
-                return Status::Complete;
+        match phase {
+            Phase::Header(a) => {
+                if a.taken == 0 {
+                    if depth == 0 {
+                        return Standing::Complete;
+                    }
+                }
+                Standing::Incomplete
             }
+            Phase::Broken => Standing::Invalid,
+            _ => Standing::Incomplete,
         }
-        Status::Incomplete
     }
 
     // Whether a reader can be in this state; a depth beyond 255 has no place in its byte.

@@ -7,7 +7,7 @@ use native.Mathlib.Omega.{arith}
 use mathlib.Core.Path.{_≡_, refl, sym, ap, _∙_, subst}
 use mathlib.Core.Bool.{Bool, true, false, _&&_}
 use mathlib.Core.Logic.{_⊎_, inl, inr, ⊎-elim}
-use mathlib.Core.List.{List, [], _∷_, _++_, append-nil}
+use mathlib.Core.List.{List, [], _∷_, append-nil}
 use lib.ListN.{length}
 use lib.IntN.{ℤ}
 use lib.Dec.{ltb, leb, eqb}
@@ -15,19 +15,19 @@ use borrow.Author.Tests.{ltb-true, ltb-false}
 use Rattle.layout.specs.Limits.{Limits, pick, lastPlace, lastBound}
 use Rattle.layout.specs.Varint.{Outcome, whole, short, broken, Push, more, value, overrun, push, digit, varintFrom, varint}
 use Rattle.layout.specs.Zigzag.{unzigzag}
-use Rattle.layout.specs.Field.{Width, fp32, fp64, Raw, Subtype, Subtyped, Wire, Field, bytesOf, subtypeOf, wireOf}
+use Rattle.layout.specs.Field.{Width, fp32, fp64, Raw, Subtyped, Wire, Field, bytesOf, subtypeOf, wireOf}
 use Rattle.layout.specs.Field.{float, raw, known, unknown, unsigneds, signeds, floats}
 use Rattle.layout.specs.Field.{T-unsigned, T-signed, T-fixlen, T-unsigneds, T-signeds, T-floats, T-begin, T-end}
-use Rattle.layout.specs.Field.{unsigned, signed, payload, unsignedArray, signedArray, floatArray, begin, end}
-use Rattle.layout.specs.Event.{Event, Unsigned, Signed, Float, Piece, Fixlen, Array, Begin, End}
+use Rattle.layout.specs.Field.{unsigned, signed, payload, unsignedArray, signedArray, floatArray, end}
+use Rattle.layout.specs.Event.{Event, Unsigned, Signed, Float, Piece, Fixlen, Array, End}
 use Rattle.layout.specs.Reading.{Reading, quiet, raise, given, follow, andThen, becoming, lowFrom}
 use Rattle.layout.specs.Message.{checked, headerOf, countOf, unzigzagged, signedVarint, elements, scalar, payloadFrom, payloadOf, fixlen, floatArrayOf}
 use Rattle.layout.specs.Message.{body, field, depthAfter, Fields, prepend, fieldsFrom, message, eventsOf, verdictOf, judged}
 use Rattle.machine.specs.Machine.{Phase, inHeader, inUnsigned, inSigned, inWord, inUnsignedCount, inSignedCount, inFloatCount, inArrayWord, inFloat, inPayload}
 use Rattle.machine.specs.Machine.{idle, Stepped, on, bad, nextOr, firstOr, atWire, atHeader, atPayload, atSubtype, atWord}
 use Rattle.machine.specs.Machine.{atUnsignedCount, atSignedCount, atFloatCount, atElement, atArrayWord, atUnsigned, atSigned, within, atFloat, atByte}
-use Rattle.machine.specs.Machine.{step, Place, at, brokenBefore, Walk, onward, walk, ending, endOf, judge}
-use Rattle.machine.proofs.Readings.{raise-raise, andThen-raise, andThen-andThen, andThen-quiet, andThen-given, given-ext, follow-ext, becoming-then}
+use Rattle.machine.specs.Machine.{step, at, onward, walk, ending, endOf, judge}
+use Rattle.machine.proofs.Readings.{andThen-raise, andThen-andThen, andThen-given, given-ext, follow-ext, becoming-then}
 
 -- ---- a walk, as a reading
 

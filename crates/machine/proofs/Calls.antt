@@ -1,25 +1,25 @@
 -- One call: the bytes that it reads lead where its state stands, and the event that it gives, with the one due, is theirs.
-use Prim.Native.Nat.{ℕ, zero, suc, _+_, _-_, _*_, _^_, _/_, _%_, _<_, _≤_, min}
+use Prim.Native.Nat.{ℕ, zero, suc, _+_, _-_, _*_, _/_, _%_, _<_, _≤_, min}
 use native.Mathlib.Nat.{not-suc-le-zero}
 use native.Mathlib.Omega.{arith}
 use mathlib.Core.Path.{_≡_, refl, sym, ap, _∙_, subst}
 use mathlib.Core.Bool.{Bool, true, false}
 use mathlib.Core.List.{List, [], _∷_, _++_, append-assoc, append-nil}
-use lib.ListN.{length, take, drop, length-take}
+use lib.ListN.{length, take, length-take}
 use lib.Dec.{ltb, leb, eqb}
 use borrow.Author.Tests.{ltb-true, ltb-false, lt-ltb}
 use Rattle.layout.specs.Limits.{Limits, pick}
 use Rattle.layout.specs.Varint.{Push, more, value, overrun, push}
-use Rattle.layout.specs.Field.{Width, Raw, Subtyped, Wire, bytesOf, subtypeOf, wireOf, float, raw, known, unknown, unsigneds, signeds, floats}
+use Rattle.layout.specs.Field.{Raw, Subtyped, Wire, bytesOf, subtypeOf, wireOf, float, raw, known, unknown}
 use Rattle.layout.specs.Field.{T-unsigned, T-signed, T-fixlen, T-unsigneds, T-signeds, T-floats, T-begin, T-end}
-use Rattle.layout.specs.Event.{Event, Unsigned, Signed, Float, Piece, Fixlen, Array, Begin, End, cutFrom, cutPiece, cut, bytewise}
-use Rattle.layout.specs.Message.{Verdict, complete, incomplete, brokenAt, verdictOf, eventsOf}
+use Rattle.layout.specs.Event.{Event, Piece, cutFrom, cutPiece, cut, bytewise}
+use Rattle.layout.specs.Message.{Verdict}
 use Rattle.machine.specs.Machine.{Phase, inHeader, inUnsigned, inSigned, inWord, inUnsignedCount, inSignedCount, inFloatCount, inArrayWord, inFloat, inPayload}
-use Rattle.machine.specs.Machine.{idle, Stepped, on, bad, nextOr, atWire, atHeader, atPayload, atSubtype, atWord, atUnsignedCount, atSignedCount, atFloatCount}
+use Rattle.machine.specs.Machine.{idle, Stepped, on, bad, atWire, atHeader, atPayload, atSubtype, atWord, atUnsignedCount, atSignedCount, atFloatCount}
 use Rattle.machine.specs.Machine.{atElement, atArrayWord, atUnsigned, atSigned, within, atFloat, atByte, step, Place, at, brokenBefore, Walk, onward, walk, walkOn}
-use Rattle.machine.specs.Call.{State, reading, owing, broke, Answer, event, verdict, invalid, Called, verdictAt, paceOf, piece, raisedState, scanned, scan, call}
+use Rattle.machine.specs.Call.{State, reading, owing, broke, Answer, event, verdict, invalid, Called, verdictAt, piece, raisedState, scanned, scan, call}
 use Rattle.machine.specs.Run.{given, due, placeOf, Follows}
-use Rattle.machine.proofs.Bridge.{Fair, FairStep, fair-step, verdict-walk, events-walk}
+use Rattle.machine.proofs.Bridge.{Fair, FairStep, fair-step}
 use Rattle.machine.proofs.Prefix.{andOn, walk-append}
 
 -- ---- pieces cut into bytes

@@ -1,8 +1,8 @@
 -- Prefixes: reading a joined string is reading the first part and going on; a broken one is broken at the same byte whatever follows, and
 -- one that is not broken has no broken prefix. This is what makes every cut of a message the same.
-use Prim.Native.Nat.{ℕ, zero, suc, _+_, _-_}
+use Prim.Native.Nat.{ℕ, zero, suc, _-_}
 use native.Mathlib.Omega.{arith}
-use mathlib.Core.Path.{_≡_, refl, sym, ap, _∙_, subst}
+use mathlib.Core.Path.{_≡_, refl, sym, ap, _∙_}
 use mathlib.Core.Bool.{Bool, true, false}
 use mathlib.Core.List.{List, [], _∷_, _++_, append-assoc, append-nil}
 use lib.ListN.{length, length-append}
@@ -10,7 +10,7 @@ use lib.Dec.{eqb}
 use Rattle.layout.specs.Limits.{Limits, pick}
 use Rattle.layout.specs.Varint.{Outcome, whole, short, broken}
 use Rattle.layout.specs.Event.{Event}
-use Rattle.layout.specs.Message.{Verdict, complete, incomplete, brokenAt, eventsOf, verdictOf}
+use Rattle.layout.specs.Message.{complete, incomplete, brokenAt, eventsOf, verdictOf}
 use Rattle.machine.specs.Machine.{Phase, idle, inHeader, Stepped, on, bad, step, Place, at, brokenBefore, Walk, onward, walk, walkOn, ending, endOf, judge}
 use Rattle.machine.specs.Machine.{inUnsigned, inSigned, inWord, inUnsignedCount, inSignedCount, inFloatCount, inArrayWord, inFloat, inPayload}
 use Rattle.machine.proofs.Bridge.{events-walk, verdict-walk}

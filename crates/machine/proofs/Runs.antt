@@ -18,7 +18,7 @@ use Rattle.machine.specs.Machine.{Phase, idle, inHeader, inUnsigned, inS
 use Rattle.machine.specs.Machine.{Place, at, brokenBefore, walk, ending, endOf, judge}
 use Rattle.machine.specs.Call.{State, reading, owing, broke, fresh, Answer, event, verdict, invalid, verdictAt, verdictSo, Standing, standingOf, standing, call}
 use Rattle.machine.specs.Call as Call
-use Rattle.machine.specs.Run.{given, due, Follows, Ending, ended, unfinished, Chunk, more, calls, chunk, Heard, status, heardOf, seen, chunks, verdictsOf, heardAll, lastHeard, join}
+use Rattle.machine.specs.Run.{given, due, Follows, Ending, ended, unfinished, Chunk, more, calls, chunk, Heard, status, heardOf, seen, chunks, verdictsOf, heardAll, readOf, lastHeard, join}
 use Rattle.layout.proofs.Joined.{joined-exactly, joined-run, bytewise-again}
 use Rattle.machine.proofs.Bridge.{events-walk, verdict-walk}
 use Rattle.machine.proofs.Prefix.{broken-stays}
@@ -209,12 +209,28 @@ unfolding standing
 stands-standing L bs es n (reading d p) (clear f m) = ap standingOf (sym (verdict-at L bs d p (f .place)))
 stands-standing L bs es n broke (gone v e) = ap standingOf (sym v)
 
+-- of a message that is not broken, all
+all-read : (v : Verdict) (n : ℕ) → heardOf v ≡ status v → readOf n v ≡ n
+all-read complete n e = refl
+all-read incomplete n e = refl
+all-read (brokenAt k) n e = let z : _≡_ {A = ℕ} 0 1 = cc in absurd (omega arith)
+
+stands-read : (L : Limits) (bs : List ℕ) (es : List Event) (n : ℕ) (s : State) → Stands L bs es n s → n ≡ readOf (length bs) (verdictOf L bs)
+stands-read L bs es n (reading d p) (clear f m) = m ∙ sym (ap (readOf (length bs)) (verdict-at L bs d p (f .place)) ∙ all-read (verdictAt d p) (length bs) (plain-at d p .0))
+stands-read L bs es n broke (gone v e) = ap (readOf (length bs)) (sym v)
+
 -- For every list of chunks: the events given, bytewise, are the layout's for the bytes handed, and so is the verdict after each chunk.
 reads-from : (L : Limits) (bs : List ℕ) (es : List Event) (n : ℕ) (s : State) (cs : List (List ℕ)) → Stands L bs es n s
     → (bytewise (es ++ chunks L s n cs .events) ≡ eventsOf L (bs ++ join cs)) × (chunks L s n cs .verdicts ≡ heardAll (verdictsOf L bs cs))
-    × (standing (chunks L s n cs .state) ≡ standingOf (verdictOf L (bs ++ join cs)))
+    × (standing (chunks L s n cs .state) ≡ standingOf (verdictOf L (bs ++ join cs))) × (chunks L s n cs .read ≡ readOf (length (bs ++ join cs)) (verdictOf L (bs ++ join cs)))
 unfolding chunks verdictsOf join
-reads-from L bs es n s [] h = (ap bytewise (append-nil es) ∙ stands-events L bs es n s h ∙ ap (eventsOf L) (sym (append-nil bs)), refl, stands-standing L bs es n s h ∙ ap (λ (l : List ℕ). standingOf (verdictOf L l)) (sym (append-nil bs)))
+reads-from L bs es n s [] h =
+    let z : bs ≡ bs ++ [] = sym (append-nil bs) in (
+      ap bytewise (append-nil es) ∙ stands-events L bs es n s h ∙ ap (eventsOf L) z,
+      refl,
+      stands-standing L bs es n s h ∙ ap (λ (l : List ℕ). standingOf (verdictOf L l)) z,
+      stands-read L bs es n s h ∙ ap (λ (l : List ℕ). readOf (length l) (verdictOf L l)) z,
+    )
 reads-from L bs es n s (c ∷ cs) h =
     let r = chunk L s c in
     let q = chunked L bs es n s c h in
@@ -222,14 +238,16 @@ reads-from L bs es n s (c ∷ cs) h =
       ap bytewise (sym (append-assoc es (r .events) _)) ∙ i .0 ∙ ap (eventsOf L) (append-assoc bs c (join cs)),
       ap (λ (v : Heard). v ∷ chunks L (r .state) (n + r .read) cs .verdicts) (q .sees) ∙ ap (λ (l : List Heard). heardOf (verdictOf L (bs ++ c)) ∷ l) (i .1),
       i .2 ∙ ap (λ (l : List ℕ). standingOf (verdictOf L l)) (append-assoc bs c (join cs)),
+      i .3 ∙ ap (λ (l : List ℕ). readOf (length l) (verdictOf L l)) (append-assoc bs c (join cs)),
     )
 
 -- THE RUN THEOREM. A fresh reader that is handed the chunks in order, each to its end: the events given, payload pieces joined, are the
 -- layout's; what is heard after each chunk is the layout's verdict for the bytes so far, number 2 coming at the layout's byte; and the
--- reader stands at the end as the layout's verdict for all the bytes, after no chunk at all too.
+-- reader stands at the end as the layout's verdict for all the bytes, after no chunk at all too, with all bytes read or, of a broken
+-- message, those up to the offending one.
 pub reads : (L : Limits) (cs : List (List ℕ))
     → (bytewise (chunks L fresh 0 cs .events) ≡ eventsOf L (join cs)) × (chunks L fresh 0 cs .verdicts ≡ heardAll (verdictsOf L [] cs))
-    × (standing (chunks L fresh 0 cs .state) ≡ standingOf (verdictOf L (join cs)))
+    × (standing (chunks L fresh 0 cs .state) ≡ standingOf (verdictOf L (join cs))) × (chunks L fresh 0 cs .read ≡ readOf (length (join cs)) (verdictOf L (join cs)))
 reads L cs = reads-from L [] [] 0 fresh cs (clear (fresh-follows L) refl)
 
 -- "Empty input to a fresh reader, or no chunk at all, is complete."

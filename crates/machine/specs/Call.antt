@@ -1,9 +1,8 @@
 -- The reader's call: it reads on to the next event and stops there, or gives the verdict once the chunk is spent.
 -- "Each call stops after one. A byte that raises two gives the second in a call that reads nothing."
-use Prim.Native.Nat.{ℕ, zero, suc, _+_, _-_, min}
-use mathlib.Core.Bool.{true, false}
-use mathlib.Core.List.{List, [], _∷_, _++_}
-use lib.ListN.{length, take, drop}
+use Prim.Native.Nat.{ℕ, suc, _+_, _-_, min}
+use mathlib.Core.List.{List, [], _∷_}
+use lib.ListN.{length, take}
 use lib.Dec.{ltb}
 use Rattle.layout.specs.Limits.{Limits, pick}
 use Rattle.layout.specs.Field.{Raw}

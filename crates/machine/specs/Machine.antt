@@ -1,7 +1,6 @@
 -- Reading one byte at a time: the phase that a reader is in, what a byte does to it, and a walk over a byte string from any phase.
 -- proofs/Bridge shows that a walk from the start is the layout's reading; the calls of istream are stated by these steps.
 use Prim.Native.Nat.{ℕ, zero, suc, _+_, _-_, _*_, _/_, _%_, _^_}
-use mathlib.Core.Bool.{Bool, true, false}
 use mathlib.Core.List.{List, [], _∷_, _++_}
 use lib.ListN.{length}
 use lib.Dec.{ltb, leb, eqb}

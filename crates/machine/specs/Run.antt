@@ -89,18 +89,19 @@ seen n (ended (verdict v)) = status v
 seen n (ended invalid) = refused 2 n
 seen n unfinished = nothing
 
--- the events given, what was heard after each chunk, and the state after the last
+-- the events given, what was heard after each chunk, the bytes read in all, and the state after the last
 pub record Read : Type 0 where
   pub events : List Event
   pub verdicts : List Heard
+  pub read : ℕ
   pub state : State
 
 unfoldable pub chunks : Limits → State → ℕ → List (List ℕ) → Read
-chunks L s n [] = record { events = []; verdicts = []; state = s }
+chunks L s n [] = record { events = []; verdicts = []; read = n; state = s }
 chunks L s n (c ∷ cs) =
     let r = chunk L s c in
     let q = chunks L (r .state) (n + r .read) cs in
-    record { events = r .events ++ q .events; verdicts = seen (n + r .read) (r .answer) ∷ q .verdicts; state = q .state }
+    record { events = r .events ++ q .events; verdicts = seen (n + r .read) (r .answer) ∷ q .verdicts; read = q .read; state = q .state }
 
 -- the layout's verdict after each chunk, on the bytes so far
 unfoldable pub verdictsOf : Limits → List ℕ → List (List ℕ) → List Verdict
@@ -110,6 +111,12 @@ verdictsOf L bs (c ∷ cs) = verdictOf L (bs ++ c) ∷ verdictsOf L (bs ++ c) cs
 -- as they are heard
 abbrev pub heardAll : List Verdict → List Heard
 heardAll vs = map heardOf vs
+
+-- of n bytes handed, those that are read: all, or no more than the offending one
+abbrev pub readOf : ℕ → Verdict → ℕ
+readOf n complete = n
+readOf n incomplete = n
+readOf n (brokenAt k) = k
 
 -- the last that was heard, after what was heard before
 unfoldable pub lastHeard : Heard → List Heard → Heard

@@ -9,17 +9,18 @@ use lib.Dec.{leb, ltb, eqb}
 use lib.ListN.{length, take, drop, replicate}
 use borrow.Author.Tests.{leb-false, ltb-false, eqb-true, le-leb, lt-leb, le-ltb}
 use Rattle.types.specs.Types.{refusal}
+use Rattle.held.specs.Places.{clean}
+use Rattle.straight.proofs.Straight.{clean-zeros}
 use Rattle.ostream.specs.declared.OStream.{OStream}
 use Rattle.ostream.specs.declared.Answer.the-variants.{Done}
 use Rattle.ostream.specs.declared.Written.{Written}
 use Rattle.ostream.specs.declared.Count.the-variants.{Bytes, Refused}
 use Rattle.ostream.specs.declared.Counted.{Counted}
 use Rattle.ostream.specs.Stream.{every, lazyDepth, soundStream, at, opened}
-use Rattle.ostream.specs.Straight.{clean}
 use Rattle.ostream.specs.Emission.{refused}
 use Rattle.ostream.specs.Buffer.{badBuffer, opening, draining, changing}
 use Rattle.ostream.proofs.Called.{both, is-sound}
-use Rattle.ostream.proofs.Straight.{quiet, clean-zeros}
+use Rattle.ostream.proofs.Straight.{quiet}
 
 -- ---- sound states
 

@@ -1,24 +1,17 @@
 -- The calls about buffers: opening, draining, and changing the buffer.
-use mathlib.Core.Bool.{Bool, true, false}
+use mathlib.Core.Bool.{Bool}
 use mathlib.Core.List.{List, [], _∷_}
 use Prim.Native.Nat.{ℕ}
-use lib.Dec.{leb, ltb}
-use lib.ListN.{length, take}
-use Rattle.layout.specs.Limits.{pick}
-use Rattle.types.specs.declared.Error.{Error}
-use Rattle.types.specs.Types.{refusal}
+use lib.ListN.{take}
 use Rattle.ostream.specs.declared.OStream.{OStream}
 use Rattle.ostream.specs.declared.Answer.the-variants.{Done}
 use Rattle.ostream.specs.declared.Written.{Written}
 use Rattle.ostream.specs.declared.Count.the-variants.{Bytes, Refused}
 use Rattle.ostream.specs.declared.Counted.{Counted}
 use Rattle.ostream.specs.Stream.{at, opened}
-use Rattle.ostream.specs.Emission.{Test, Verdict, accepted, refusedWith, judged, refused}
+use Rattle.ostream.specs.Emission.{Verdict, accepted, refusedWith, judged, refused}
 use Rattle.ostream.specs.Calls.{unsound}
-
--- "Number 5: an opening offset exceeds the buffer, or a writer to be drained would have no byte free."
-abbrev pub badBuffer : ℕ → ℕ → Bool → Test
-badBuffer size offset drained = record { fails = pick drained (leb size offset) (ltb size offset); error = refusal 5 }
+pub use Rattle.answers.specs.Tests.{badBuffer}
 
 -- "Opening at offset o leaves the buffer's first o bytes as they came." Where it is refused the state is that of a writer at 0.
 abbrev pub openedBy : Verdict → ℕ → Written

@@ -1,62 +1,38 @@
 -- The writing calls, each by its refusals in order, its output and the state that it leaves.
-use mathlib.Core.Bool.{Bool, true, false, not}
+use mathlib.Core.Bool.{Bool}
 use mathlib.Core.List.{List, [], _∷_, _++_}
 use Prim.Native.Nat.{ℕ, _+_, _-_, _*_}
-use lib.Dec.{leb, ltb, eqb}
+use lib.Dec.{ltb, eqb}
 use lib.ListN.{length}
 use lib.IntN.{ℤ}
-use Rattle.layout.specs.Limits.{base, pick}
+use Rattle.layout.specs.Limits.{pick}
 use Rattle.layout.specs.Varint.{shortest}
-use Rattle.layout.specs.Field.{Field, Width, Raw, Subtype, header, word, float, raw, string, blob, unsigned, signed, payload, unsignedArray, signedArray, floatArray, begin, end, T-fixlen}
+use Rattle.layout.specs.Field.{Width, Raw, Subtype, header, word, float, unsigned, signed, payload, unsignedArray, signedArray, floatArray, begin, end, T-fixlen}
 use Rattle.layout.specs.Copy.{fieldBytes}
 use Rattle.types.specs.declared.FixlenType.{FixlenType}
-use Rattle.types.specs.declared.Error.{Error}
-use Rattle.types.specs.Types.{subtype, refusal}
+use Rattle.types.specs.Types.{subtype}
+use Rattle.answers.specs.Tests.{unsoundWriter, deepest, outermost}
 use Rattle.ostream.specs.declared.OStream.{OStream}
-use Rattle.ostream.specs.declared.Check.{Check}
 use Rattle.ostream.specs.Stream.{soundStream, lazyDepth, heldBytes, committed, holding, dropped}
-use Rattle.ostream.specs.Emission.{Test, Verdict, accepted, refusedWith, Call}
+use Rattle.ostream.specs.Emission.{Test, Call}
+pub use Rattle.answers.specs.Tests.{stringSubtype, idTooLarge, payloadTooLong, arrayTooLong}
 
-abbrev pub isString : Subtype → Bool
-isString (float w) = false
-isString (raw string) = true
-isString (raw blob) = false
-
--- ---- the refusals
+-- ---- the refusals that look at the state; the others are `Tests` of `answers`
 
 -- "Number 6: the writer state isn't sound for the lent buffer."
 abbrev pub unsound : OStream → ℕ → Test
-unsound s size = record { fails = not (soundStream s size); error = refusal 6 }
-
--- "Number 9: an id exceeds `ID_MAX`."
-abbrev pub idTooLarge : ℕ → Test
-idTooLarge id = record { fails = ltb (base .id) id; error = refusal 9 }
+unsound s size = unsoundWriter (soundStream s size)
 
 -- "Number 8: a sequence is opened at depth 255 or closed at depth 0."
 abbrev pub tooDeep : OStream → Test
-tooDeep s = record { fails = leb (base .depth) (s .depth); error = refusal 8 }
+tooDeep s = deepest (s .depth)
 
 abbrev pub noneOpen : OStream → Test
-noneOpen s = record { fails = eqb (s .depth) 0; error = refusal 8 }
+noneOpen s = outermost (s .depth)
 
--- "Number 7: the general fixed-length writer is given the string subtype."
-abbrev pub stringSubtype : FixlenType → Test
-stringSubtype t = record { fails = isString (subtype t); error = refusal 7 }
-
--- "Number 10: a payload or array is longer than 2,147,483,647."
-abbrev pub payloadTooLong : ℕ → Test
-payloadTooLong n = record { fails = ltb (base .size) n; error = refusal 10 }
-
-abbrev pub arrayTooLong : ℕ → Test
-arrayTooLong n = record { fails = ltb (base .count) n; error = refusal 10 }
-
--- The tests that a field with a payload or array of n begins with, and how the code says what they come to.
+-- the tests that a field with a payload or array of n begins with
 abbrev pub fieldTests : OStream → ℕ → ℕ → ℕ → List Test
 fieldTests s size id n = unsound s size ∷ idTooLarge id ∷ payloadTooLong n ∷ []
-
-abbrev pub checkOf : Verdict → Check
-checkOf accepted = record { ok = true; error = refusal 11 }
-checkOf (refusedWith e) = record { ok = false; error = e }
 
 -- ---- a field
 

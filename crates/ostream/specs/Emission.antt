@@ -1,33 +1,18 @@
 -- One call of the writer: its refusals in order, its whole output, and the state that it leaves once all of that is out.
 -- Every writing call is these three and a place in the output to go on from.
-use mathlib.Core.Bool.{Bool}
 use mathlib.Core.List.{List, [], _∷_}
 use Prim.Native.Nat.{ℕ, _+_, _-_}
 use lib.Dec.{leb, ltb}
 use lib.ListN.{length, drop}
 use Rattle.layout.specs.Limits.{pick}
 use Rattle.emit.specs.Put.{put}
-use Rattle.emit.specs.declared.Cursor.{Cursor}
 use Rattle.types.specs.declared.Error.{Error}
 use Rattle.types.specs.Types.{refusal}
 use Rattle.ostream.specs.declared.OStream.{OStream}
 use Rattle.ostream.specs.declared.Answer.the-variants.{Done, Full, Refused}
 use Rattle.ostream.specs.declared.Written.{Written}
-use Rattle.ostream.specs.Stream.{at, committed}
-
--- a test, and the refusal where it holds
-pub record Test : Type 0 where
-  pub fails : Bool
-  pub error : Error
-
-pub data Verdict : Type 0 where
-  accepted : Verdict
-  refusedWith : Error → Verdict
-
--- "Refused, in checking order": the first test that fails
-abbrev pub judged : List Test → Verdict
-judged [] = accepted
-judged (t ∷ ts) = pick (t .fails) (refusedWith (t .error)) (judged ts)
+use Rattle.ostream.specs.Stream.{at}
+pub use Rattle.answers.specs.Judged.{Test, Verdict, accepted, refusedWith, judged}
 
 pub record Call : Type 0 where
   pub tests : List Test
@@ -50,18 +35,6 @@ answered s size total place next =
 -- the buffer then: as many of the bytes still to go as there is room for, from the position on
 unfoldable pub left : OStream → List ℕ → List ℕ → ℕ → List ℕ
 left s b o place = pick (ltb (length o) place) b (put b (s .offset) (drop place o))
-
--- the answer of a call whose bytes are all out, up to `end`
-abbrev pub finished : OStream → ℕ → Written
-finished s end = record { answer = Done; stream = at (committed s (s .depth)) end }
-
--- the answer of one that has filled the buffer and goes on
-abbrev pub fullAt : OStream → ℕ → ℕ → Written
-fullAt s size place = record { answer = Full (place + (size - s .offset)); stream = at s size }
-
--- where the emission of a call's output starts
-abbrev pub start : OStream → ℕ → Cursor
-start s place = record { pos = s .offset; skip = place }
 
 -- ---- a call: the answer and the state, and the buffer
 

@@ -1,50 +1,64 @@
 // The writer: fields into a lent buffer, and the caller drains it. The Rust's ostream.rs; each call takes the state and hands the new
 // one back. A call that meets the buffer's end answers "full" with how many of its bytes are out, and goes on from that place when it
 // is made again.
-use emit::Cursor;
-use emit::put_fitting;
-use emit::put_fitting_zigzags;
-use emit::put_fittings;
-use emit::put_rest;
-use emit::varints_go_on;
-use emit::varints_len;
-use emit::zigzags_go_on;
-use emit::zigzags_len;
+use answers::Check;
+use answers::Outcome;
+use answers::check_begin;
+use answers::check_change;
+use answers::check_end;
+use answers::check_field;
+use answers::check_fixlen;
+use answers::unfit;
+use arrays::put_fp32_array;
+use arrays::put_fp32_bits_array;
+use arrays::put_fp64_array;
+use arrays::put_fp64_bits_array;
+use arrays::put_signed_array;
+use arrays::put_unsigned_array;
 use event::fp32_bits;
 use event::fp64_bits;
-use types::ARRAY_MAX;
+use fields::le32;
+use fields::le64;
+use fields::put_close;
+use fields::put_fixlen_field;
+use fields::put_marker;
+use fields::put_varint_field;
+use held::add_id;
+use held::clear;
+use held::drop_id;
+use held::sound_for;
+use held::tagged;
+use straight::at_ease;
+use straight::closes_at_ease;
+use straight::put_end;
+use straight::put_field;
+use straight::put_pair;
+use straight::put_signeds;
+use straight::put_unsigneds;
 use types::Error;
 use types::FixlenType;
 use types::ID_MAX;
-use types::MAX_DEPTH;
 use types::T_FIXLEN;
-use types::T_FIXLENARRAY;
-use types::T_SEQUENCE_END;
 use types::T_SEQUENCE_START;
 use types::T_VARINT_SIGNED;
 use types::T_VARINT_UNSIGNED;
 use types::T_VARINTARRAY_SIGNED;
 use types::T_VARINTARRAY_UNSIGNED;
-use varint::varint_len;
 use varint::zigzag_encode;
 ghost use mathlib.Core.Path.{_≡_};
-ghost use mathlib.Core.List.{[], _∷_, _++_, map};
-ghost use Prim.Native.Nat.{_+_, _-_, _*_, _≤_, _<_};
-ghost use mathlib.Core.Bool.{true, false, _&&_};
-ghost use lib.Dec.{leb, ltb, eqb};
-ghost use lib.ListN.{length, take, drop};
-ghost use Rattle.layout.specs.Varint.{shortest};
+ghost use mathlib.Core.List.{map};
+ghost use Prim.Native.Nat.{_≤_, _<_};
+ghost use mathlib.Core.Bool.{true, false};
+ghost use lib.ListN.{length};
 ghost use lib.Ieee.{binary32, binary64, toBits};
-ghost use Rattle.types.specs.Types.{subtype};
-ghost use Rattle.layout.specs.Field.{fp32, fp64, string, blob, lowBytes, each};
-ghost use Rattle.layout.specs.Zigzag.{zigzag};
-ghost use Rattle.layout.specs.Limits.{base, pick};
-ghost use Rattle.ostream.specs.Stream.{every, soundStream, heldBytes, headBytes, zeroed, committed, holding, dropped, opened};
-ghost use Rattle.ostream.specs.Straight.{clean, roomFor, easy, holds, reachedIf, putIf};
-ghost use Rattle.emit.specs.Cursor.{placed, moved};
-ghost use Rattle.ostream.specs.Emission.{start, answered, finished, fullAt, left, refused, refusedWith, judged, called, leaves};
-ghost use Rattle.ostream.specs.Buffer.{badBuffer, opening, draining, changing};
-ghost use Rattle.ostream.specs.Calls.{fieldTests, checkOf, isString, rawCall, fixlenCall, floatCall, payloadCall, unsignedArrayCall, signedArrayCall, floatArrayCall};
+ghost use Rattle.layout.specs.Field.{fp32, fp64, string, blob};
+ghost use Rattle.layout.specs.Limits.{pick};
+ghost use Rattle.answers.specs.Judged.{judged, checkOf};
+ghost use Rattle.ostream.specs.Stream.{soundStream, committed, holding, dropped, opened};
+ghost use Rattle.ostream.specs.Straight.{holds, settled, unwritten};
+ghost use Rattle.ostream.specs.Emission.{refused, called, leaves};
+ghost use Rattle.ostream.specs.Buffer.{opening, draining, changing};
+ghost use Rattle.ostream.specs.Calls.{fieldTests, rawCall, fixlenCall, floatCall, payloadCall, unsignedArrayCall, signedArrayCall, floatArrayCall};
 ghost use Rattle.ostream.specs.Calls.{varintCall, unsignedCall, signedCall, booleanCall, beginCall, endCall, endKeepCall};
 
 // A writer's state. `offset` is where the next byte goes; `depth` counts the open sequences; `pending` has the ids of the innermost
@@ -69,12 +83,6 @@ pub struct Written {
     pub stream: OStream,
 }
 
-// Whether a call's first tests pass; else the refusal. (With `ok`, the error says nothing: the place is tested later.)
-struct Check {
-    ok: bool,
-    error: Error,
-}
-
 // What a call comes to that answers a position: that many bytes stand below it.
 pub enum Count {
     Bytes(usize),
@@ -86,225 +94,10 @@ pub struct Counted {
     pub stream: OStream,
 }
 
-fn failed(error: Error) -> Check
-    ensures { λ r. ⌜ r ≡ checkOf (refusedWith error) ⌝ }
-{
-    Check { ok: false, error }
-}
-
-// Whether the first n ids are legal.
-fn ids_legal(pending: [u32; 8], n: usize) -> bool
-    requires { ⌜ n ≤ 8 ⌝ }
-    ensures { λ r. ⌜ r ≡ every (λ x. leb x (base .id)) (take n pending) ⌝ }
-{
-    let mut i: usize = 0;
-    while i < n {
-        if 2147483647 < pending[i] {
-            return false;
-        }
-        i += 1;
-    }
-    true
-}
-
-// Whether the places from n on are zero.
-fn unused_zero(pending: [u32; 8], n: usize) -> bool
-    requires { ⌜ n ≤ 8 ⌝ }
-    ensures { λ r. ⌜ r ≡ every (λ x. eqb x 0) (drop n pending) ⌝ }
-{
-    let mut i = n;
-    while i < 8 {
-        if pending[i] != 0 {
-            return false;
-        }
-        i += 1;
-    }
-    true
-}
-
-// The first n of some places zeroed.
-fn clear(places: [u32; 8], n: usize) -> [u32; 8]
-    requires { ⌜ n ≤ 8 ⌝ }
-    ensures { λ r. ⌜ r ≡ zeroed n places ⌝ }
-{
-    let mut cleared = places;
-    let mut i: usize = 0;
-    while i < n {
-        cleared[i] = 0;
-        i += 1;
-    }
-    cleared
-}
-
-// A header's number, and a fixed-length word's.
-fn tagged(n: u32, tag: u8) -> u64
-    ensures { λ r. ⌜ r ≡ n * 8 + tag ⌝ }
-{
-    (n as u64) * 8 + (tag as u64)
-}
-
 fn bit(b: bool) -> u64
     ensures { λ r. ⌜ r ≡ pick b 1 0 ⌝ }
 {
     if b { 1 } else { 0 }
-}
-
-// Whether a subtype is a string's.
-fn is_string(t: FixlenType) -> bool
-    ensures { λ r. ⌜ r ≡ isString (subtype t) ⌝ }
-{
-    match t {
-        FixlenType::Fp32 => false,
-        FixlenType::Fp64 => false,
-        FixlenType::Str => true,
-        FixlenType::Blob => false,
-    }
-}
-
-// The four bytes of a number, low byte first.
-fn le32(x: u32) -> [u8; 4]
-    ensures { λ r. ⌜ r ≡ lowBytes 4 x ⌝ }
-{
-    let b = x / 256;
-    let c = b / 256;
-    let d = c / 256;
-    [
-        (x % 256) as u8,
-        (b % 256) as u8,
-        (c % 256) as u8,
-        (d % 256) as u8,
-    ]
-}
-
-// The eight bytes of a number, low byte first.
-fn le64(x: u64) -> [u8; 8]
-    ensures { λ r. ⌜ r ≡ lowBytes 8 x ⌝ }
-{
-    let b = x / 256;
-    let c = b / 256;
-    let d = c / 256;
-    let e = d / 256;
-    let f = e / 256;
-    let g = f / 256;
-    let h = g / 256;
-    [
-        (x % 256) as u8,
-        (b % 256) as u8,
-        (c % 256) as u8,
-        (d % 256) as u8,
-        (e % 256) as u8,
-        (f % 256) as u8,
-        (g % 256) as u8,
-        (h % 256) as u8,
-    ]
-}
-
-// Whether a buffer of this size cannot be written from the offset on; one that is to be drained needs a byte.
-fn unfit(size: usize, offset: usize, drained: bool) -> bool
-    ensures { λ r. ⌜ r ≡ badBuffer size offset drained .fails ⌝ }
-{
-    if drained {
-        size <= offset
-    } else {
-        size < offset
-    }
-}
-
-// Whether there is room from pos on for two varints, however long, and `more` bytes.
-fn has_room(size: usize, pos: usize, more: usize) -> bool
-    ensures { λ r. ⌜ r ≡ roomFor size pos more ⌝ }
-{
-    if size < 20 {
-        return false;
-    }
-    if size - 20 < pos {
-        return false;
-    }
-    more <= size - 20 - pos
-}
-
-// Two varints straight away, where no place is in use and there is room for the longest; where they end. Else nothing, and pos.
-// The calls below test little themselves and leave the rest to this and the four after it, so that they are small enough to be inlined:
-// then a writer's state stays in registers from call to call.
-fn put_pair(buf: &mut [u8], pos: usize, places: [u32; 8], header: u64, second: u64) -> usize
-    ensures { λ r. ⌜ (r ≡ reachedIf (roomFor (length (now (buf .entry))) pos 0 && clean places) (now (buf .entry)) pos (shortest header ++ shortest second)) × (now (buf .exit) ≡ putIf (roomFor (length (now (buf .entry))) pos 0 && clean places) (now (buf .entry)) pos (shortest header ++ shortest second)) ⌝ }
-{
-    if !has_room(buf.len(), pos, 0) {
-        return pos;
-    }
-    if !unused_zero(places, 0) {
-        return pos;
-    }
-    let mid = put_fitting(buf, pos, header);
-    put_fitting(buf, mid, second)
-}
-
-// The same with bytes after them.
-fn put_field(
-    buf: &mut [u8],
-    pos: usize,
-    places: [u32; 8],
-    header: u64,
-    second: u64,
-    bytes: &[u8],
-) -> usize
-    ensures { λ r. ⌜ (r ≡ reachedIf (roomFor (length (now (buf .entry))) pos (length (now (bytes .entry))) && clean places) (now (buf .entry)) pos (shortest header ++ (shortest second ++ now (bytes .entry)))) × (now (buf .exit) ≡ putIf (roomFor (length (now (buf .entry))) pos (length (now (bytes .entry))) && clean places) (now (buf .entry)) pos (shortest header ++ (shortest second ++ now (bytes .entry)))) ⌝ }
-{
-    if !has_room(buf.len(), pos, bytes.len()) {
-        return pos;
-    }
-    if !unused_zero(places, 0) {
-        return pos;
-    }
-    let mid = put_fitting(buf, pos, header);
-    let end = put_fitting(buf, mid, second);
-    put_rest(buf, end, bytes, 0)
-}
-
-// The same of an array of unsigned integers: header, count, elements.
-fn put_unsigneds(buf: &mut [u8], pos: usize, places: [u32; 8], header: u64, items: &[u64]) -> usize
-    requires { ⌜ length (now items) ≤ base .count ⌝ }
-    ensures { λ r. ⌜ (r ≡ reachedIf (roomFor (length (now (buf .entry))) pos (10 * length (now (items .entry))) && clean places) (now (buf .entry)) pos (shortest header ++ (shortest (length (now (items .entry))) ++ each shortest (now (items .entry))))) × (now (buf .exit) ≡ putIf (roomFor (length (now (buf .entry))) pos (10 * length (now (items .entry))) && clean places) (now (buf .entry)) pos (shortest header ++ (shortest (length (now (items .entry))) ++ each shortest (now (items .entry))))) × ((roomFor (length (now (buf .entry))) pos (10 * length (now (items .entry))) && clean places) ≡ true → pos + length (shortest header ++ (shortest (length (now (items .entry))) ++ each shortest (now (items .entry)))) ≤ length (now (buf .entry))) ⌝ }
-{
-    if !has_room(buf.len(), pos, 10 * items.len()) {
-        return pos;
-    }
-    if !unused_zero(places, 0) {
-        return pos;
-    }
-    let mid = put_fitting(buf, pos, header);
-    let at = put_fitting(buf, mid, items.len() as u64);
-    put_fittings(buf, at, items)
-}
-
-// And of signed ones.
-fn put_signeds(buf: &mut [u8], pos: usize, places: [u32; 8], header: u64, items: &[i64]) -> usize
-    requires { ⌜ length (now items) ≤ base .count ⌝ }
-    ensures { λ r. ⌜ (r ≡ reachedIf (roomFor (length (now (buf .entry))) pos (10 * length (now (items .entry))) && clean places) (now (buf .entry)) pos (shortest header ++ (shortest (length (now (items .entry))) ++ each (λ z. shortest (zigzag z)) (now (items .entry))))) × (now (buf .exit) ≡ putIf (roomFor (length (now (buf .entry))) pos (10 * length (now (items .entry))) && clean places) (now (buf .entry)) pos (shortest header ++ (shortest (length (now (items .entry))) ++ each (λ z. shortest (zigzag z)) (now (items .entry))))) × ((roomFor (length (now (buf .entry))) pos (10 * length (now (items .entry))) && clean places) ≡ true → pos + length (shortest header ++ (shortest (length (now (items .entry))) ++ each (λ z. shortest (zigzag z)) (now (items .entry)))) ≤ length (now (buf .entry))) ⌝ }
-{
-    if !has_room(buf.len(), pos, 10 * items.len()) {
-        return pos;
-    }
-    if !unused_zero(places, 0) {
-        return pos;
-    }
-    let mid = put_fitting(buf, pos, header);
-    let at = put_fitting(buf, mid, items.len() as u64);
-    put_fitting_zigzags(buf, at, items)
-}
-
-// The one byte of a close.
-fn put_end(buf: &mut [u8], pos: usize, places: [u32; 8]) -> usize
-    ensures { λ r. ⌜ (r ≡ reachedIf (ltb pos (length (now (buf .entry))) && clean places) (now (buf .entry)) pos (7 ∷ [])) × (now (buf .exit) ≡ putIf (ltb pos (length (now (buf .entry))) && clean places) (now (buf .entry)) pos (7 ∷ [])) ⌝ }
-{
-    if buf.len() <= pos {
-        return pos;
-    }
-    if !unused_zero(places, 0) {
-        return pos;
-    }
-    buf[pos] = T_SEQUENCE_END;
-    pos + 1
 }
 
 impl Written {
@@ -411,24 +204,19 @@ impl OStream {
     pub fn buffer_set(mut self, old: &[u8], new: &[u8], offset: usize, drained: bool) -> Counted
         ensures { λ r. ⌜ r ≡ changing self (length (now (old .entry))) (length (now (new .entry))) offset drained ⌝ }
     {
-        if unfit(new.len(), offset, drained) {
+        let check = check_change(self.sound(old.len()), new.len(), offset, drained);
+        let error = check.error;
+        if !check.ok {
             return Counted {
-                answer: Count::Refused(Error::BadBuffer),
+                answer: Count::Refused(error),
                 stream: self,
             };
         }
-        if self.sound(old.len()) {
-            let used = self.offset;
-            self.offset = offset;
-            Counted {
-                answer: Count::Bytes(used),
-                stream: self,
-            }
-        } else {
-            Counted {
-                answer: Count::Refused(Error::UnsoundWriter),
-                stream: self,
-            }
+        let used = self.offset;
+        self.offset = offset;
+        Counted {
+            answer: Count::Bytes(used),
+            stream: self,
         }
     }
 
@@ -436,46 +224,15 @@ impl OStream {
     pub fn sound(self, size: usize) -> bool
         ensures { λ r. ⌜ r ≡ soundStream self size ⌝ }
     {
-        let offset = self.offset;
-        let depth = self.depth;
-        let held = self.npending;
-        let pending = self.pending;
-        if size < offset {
-            return false;
-        }
-        if 8 < held {
-            return false;
-        }
-        if depth < held {
-            return false;
-        }
-        if 255 < depth {
-            return false;
-        }
-        if ids_legal(pending, held as usize) {
-            unused_zero(pending, held as usize)
-        } else {
-            false
-        }
+        let places = self.pending;
+        sound_for(self.offset, self.depth, self.npending, places, size)
     }
 
     // The refusals of a field, in order: the state, the id, and how long its payload or array is.
     fn check(self, size: usize, id: u32, len: usize) -> Check
         ensures { λ r. ⌜ r ≡ checkOf (judged (fieldTests self size id len)) ⌝ }
     {
-        if !self.sound(size) {
-            return failed(Error::UnsoundWriter);
-        }
-        if ID_MAX < id {
-            return failed(Error::IdTooLarge);
-        }
-        if (ARRAY_MAX as usize) < len {
-            return failed(Error::TooLong);
-        }
-        Check {
-            ok: true,
-            error: Error::PlaceBeyond,
-        }
+        check_field(self.sound(size), id, len)
     }
 
     fn refuse(self, e: Error) -> Written
@@ -484,69 +241,6 @@ impl OStream {
         Written {
             answer: Answer::Refused(e),
             stream: self,
-        }
-    }
-
-    // How many bytes the headers that are held back take.
-    fn held_len(self) -> usize
-        requires { ⌜ self .npending ≤ 8 ⌝ }
-        ensures { λ r. ⌜ (r ≡ length (heldBytes self)) × (r ≤ 80) ⌝ }
-    {
-        let pending = self.pending;
-        let held = self.npending as usize;
-        let mut len: usize = 0;
-        let mut i: usize = 0;
-        while i < held {
-            let id = pending[i];
-            len += varint_len(tagged(id, T_SEQUENCE_START));
-            i += 1;
-        }
-        len
-    }
-
-    // Those headers, outermost first, from a place in the call's output on.
-    fn put_held(self, buf: &mut [u8], place: usize) -> Cursor
-        requires { ⌜ (self .npending ≤ 8) × (self .offset ≤ length (now buf)) ⌝ }
-        ensures { λ r. ⌜ (r ≡ moved (start self place) (now (buf .entry)) (heldBytes self)) × (now (buf .exit) ≡ placed (start self place) (now (buf .entry)) (heldBytes self)) ⌝ }
-    {
-        let pending = self.pending;
-        let held = self.npending as usize;
-        let mut cursor = Cursor {
-            pos: self.offset,
-            skip: place,
-        };
-        let mut i: usize = 0;
-        while i < held {
-            let id = pending[i];
-            cursor = cursor.put_varint(buf, tagged(id, T_SEQUENCE_START));
-            i += 1;
-        }
-        cursor
-    }
-
-    // What a call answers whose output has `total` bytes, those from the place on being out as far as there is room.
-    fn finish(mut self, size: usize, total: usize, place: usize, mut next: OStream) -> Written
-        requires { ⌜ self .offset ≤ size ⌝ }
-        ensures { λ r. ⌜ r ≡ answered self size total place next ⌝ }
-    {
-        if total < place {
-            return self.refuse(Error::PlaceBeyond);
-        }
-        let owed = total - place;
-        let offset = self.offset;
-        let room = size - offset;
-        if owed <= room {
-            next.offset = offset + owed;
-            Written {
-                answer: Answer::Done,
-                stream: next,
-            }
-        } else {
-            self.offset = size;
-            Written {
-                answer: Answer::Full(place + room),
-                stream: self,
-            }
         }
     }
 
@@ -563,84 +257,42 @@ impl OStream {
         self
     }
 
-    // Whether there is room for the held headers, two varints, however long, and `more` bytes.
-    fn has_room_behind(self, size: usize, more: usize) -> bool
-        requires { ⌜ (self .npending ≤ 8) × (self .offset ≤ size) ⌝ }
-        ensures { λ r. ⌜ r ≡ leb (length (heldBytes self) + 20 + more) (size - self .offset) ⌝ }
+    // The answer of a call that writes, by what it comes to: once all is out, no id is held any more.
+    fn settle(mut self, size: usize, outcome: Outcome, depth: u16) -> Written
+        requires { ⌜ self .npending ≤ 8 ⌝ }
+        ensures { λ r. ⌜ r ≡ settled self size (committed self depth) outcome ⌝ }
     {
-        let room = size - self.offset;
-        let head = self.held_len() + 20;
-        if room < head {
-            return false;
+        match outcome {
+            Outcome::Through(end) => {
+                let mut next = self.commit(depth);
+                next.offset = end;
+                Written {
+                    answer: Answer::Done,
+                    stream: next,
+                }
+            }
+            Outcome::Full(out) => {
+                self.offset = size;
+                Written {
+                    answer: Answer::Full(out),
+                    stream: self,
+                }
+            }
+            Outcome::Refused(e) => self.refuse(e),
         }
-        more <= room - head
     }
 
-    // The answer of a call whose bytes are all out, up to `end`.
-    fn all_out(self, end: usize) -> Written
-        requires { ⌜ self .npending ≤ 8 ⌝ }
-        ensures { λ r. ⌜ r ≡ finished self end ⌝ }
+    // The answer of a call that writes nothing and leaves another state.
+    fn alter(self, place: usize, next: OStream) -> Written
+        ensures { λ r. ⌜ r ≡ unwritten self place next ⌝ }
     {
-        let mut next = self.commit(self.depth);
-        next.offset = end;
+        if 0 < place {
+            return self.refuse(Error::PlaceBeyond);
+        }
         Written {
             answer: Answer::Done,
             stream: next,
         }
-    }
-
-    // The answer of a call that has filled the buffer and goes on.
-    fn filled(mut self, size: usize, place: usize) -> Written
-        requires { ⌜ (self .offset ≤ size) × (place + (size - self .offset) < 18446744073709551616) ⌝ }
-        ensures { λ r. ⌜ r ≡ fullAt self size place ⌝ }
-    {
-        let out = place + (size - self.offset);
-        self.offset = size;
-        Written {
-            answer: Answer::Full(out),
-            stream: self,
-        }
-    }
-
-    // The answer of a call that writes: once all is out, no id is held any more.
-    fn complete(self, size: usize, total: usize, place: usize, depth: u16) -> Written
-        requires { ⌜ (self .npending ≤ 8) × (self .offset ≤ size) ⌝ }
-        ensures { λ r. ⌜ r ≡ answered self size total place (committed self depth) ⌝ }
-    {
-        self.finish(size, total, place, self.commit(depth))
-    }
-
-    // How many bytes the held headers, a field's header and the varint after it take.
-    fn head_len(self, header: u64, second: u64) -> usize
-        requires { ⌜ self .npending ≤ 8 ⌝ }
-        ensures { λ r. ⌜ (r ≡ length (headBytes self header second)) × (r ≤ 100) ⌝ }
-    {
-        self.held_len() + varint_len(header) + varint_len(second)
-    }
-
-    // Those bytes.
-    fn put_head(self, buf: &mut [u8], header: u64, second: u64, place: usize) -> Cursor
-        requires { ⌜ (self .npending ≤ 8) × (self .offset ≤ length (now buf)) ⌝ }
-        ensures { λ r. ⌜ (r ≡ moved (start self place) (now (buf .entry)) (headBytes self header second)) × (now (buf .exit) ≡ placed (start self place) (now (buf .entry)) (headBytes self header second)) ⌝ }
-    {
-        let held = self.put_held(buf, place);
-        let head = held.put_varint(buf, header);
-        head.put_varint(buf, second)
-    }
-
-    // Whether no id is held, and nothing but the places and the room stands against a field.
-    fn at_ease(self, id: u32) -> bool
-        ensures { λ r. ⌜ r ≡ easy self id ⌝ }
-    {
-        let depth = self.depth;
-        let held = self.npending;
-        if ID_MAX < id {
-            return false;
-        }
-        if 0 < held {
-            return false;
-        }
-        depth <= 255
     }
 
     // A field of a header and one varint.
@@ -654,12 +306,7 @@ impl OStream {
     ) -> Written
         ensures { λ r. ⌜ (r ≡ called (varintCall self (length (now (buf .entry))) id wire value) self (now (buf .entry)) place) × (now (buf .exit) ≡ leaves (varintCall self (length (now (buf .entry))) id wire value) self (now (buf .entry)) place) ⌝ }
     {
-        if 0 < place {
-            return self.anew()
-                .write_varint_slowly(buf, id, wire, value, place)
-                .anew();
-        }
-        if self.at_ease(id) {
+        if at_ease(place, self.depth, self.npending, id, 0) {
             let places = self.pending;
             let end = put_pair(buf, self.offset, places, tagged(id, wire), value);
             if self.offset < end {
@@ -686,38 +333,17 @@ impl OStream {
     ) -> Written
         ensures { λ r. ⌜ (r ≡ called (varintCall self (length (now (buf .entry))) id wire value) self (now (buf .entry)) place) × (now (buf .exit) ≡ leaves (varintCall self (length (now (buf .entry))) id wire value) self (now (buf .entry)) place) ⌝ }
     {
-        self.anew().write_varint_from(buf, id, wire, value, place)
-    }
-
-    // The refusals, then the held headers and the field from the place on.
-    fn write_varint_from(
-        self,
-        buf: &mut [u8],
-        id: u32,
-        wire: u8,
-        value: u64,
-        place: usize,
-    ) -> Written
-        ensures { λ r. ⌜ (r ≡ called (varintCall self (length (now (buf .entry))) id wire value) self (now (buf .entry)) place) × (now (buf .exit) ≡ leaves (varintCall self (length (now (buf .entry))) id wire value) self (now (buf .entry)) place) ⌝ }
-    {
+        let s = self.anew();
         let size = buf.len();
-        let check = self.check(size, id, 0);
+        let check = s.check(size, id, 0);
         let error = check.error;
         if !check.ok {
-            return self.refuse(error);
+            return s.refuse(error);
         }
+        let places = s.pending;
         let header = tagged(id, wire);
-        if place == 0 && self.has_room_behind(size, 0) {
-            let held = self.put_held(buf, 0);
-            let end = put_pair(buf, held.pos, [0; 8], header, value);
-            return self.all_out(end);
-        }
-        let total = self.head_len(header, value);
-        if total < place {
-            return self.complete(size, total, place, self.depth);
-        }
-        self.put_head(buf, header, value, place);
-        self.complete(size, total, place, self.depth)
+        let outcome = put_varint_field(buf, s.offset, places, s.npending, header, value, place);
+        s.settle(size, outcome, s.depth)
     }
 
     // An unsigned integer.
@@ -752,12 +378,7 @@ impl OStream {
     ) -> Written
         ensures { λ r. ⌜ (r ≡ called (rawCall self (length (now (buf .entry))) id (now (bytes .entry)) subtype) self (now (buf .entry)) place) × (now (buf .exit) ≡ leaves (rawCall self (length (now (buf .entry))) id (now (bytes .entry)) subtype) self (now (buf .entry)) place) ⌝ }
     {
-        if 0 < place {
-            return self.anew()
-                .write_fixlen_slowly(buf, id, bytes, subtype, place)
-                .anew();
-        }
-        if self.at_ease(id) && bytes.len() <= ARRAY_MAX as usize {
+        if at_ease(place, self.depth, self.npending, id, bytes.len()) {
             let places = self.pending;
             let word = tagged(bytes.len() as u32, subtype.raw());
             let end = put_field(buf, self.offset, places, tagged(id, T_FIXLEN), word, bytes);
@@ -785,41 +406,27 @@ impl OStream {
     ) -> Written
         ensures { λ r. ⌜ (r ≡ called (rawCall self (length (now (buf .entry))) id (now (bytes .entry)) subtype) self (now (buf .entry)) place) × (now (buf .exit) ≡ leaves (rawCall self (length (now (buf .entry))) id (now (bytes .entry)) subtype) self (now (buf .entry)) place) ⌝ }
     {
-        self.anew()
-            .write_fixlen_from(buf, id, bytes, subtype, place)
-    }
-
-    // The refusals, then the held headers and the field from the place on.
-    fn write_fixlen_from(
-        self,
-        buf: &mut [u8],
-        id: u32,
-        bytes: &[u8],
-        subtype: FixlenType,
-        place: usize,
-    ) -> Written
-        ensures { λ r. ⌜ (r ≡ called (rawCall self (length (now (buf .entry))) id (now (bytes .entry)) subtype) self (now (buf .entry)) place) × (now (buf .exit) ≡ leaves (rawCall self (length (now (buf .entry))) id (now (bytes .entry)) subtype) self (now (buf .entry)) place) ⌝ }
-    {
+        let s = self.anew();
         let size = buf.len();
-        let check = self.check(size, id, bytes.len());
+        let check = s.check(size, id, bytes.len());
         let error = check.error;
         if !check.ok {
-            return self.refuse(error);
+            return s.refuse(error);
         }
+        let places = s.pending;
         let header = tagged(id, T_FIXLEN);
         let word = tagged(bytes.len() as u32, subtype.raw());
-        if place == 0 && self.has_room_behind(size, bytes.len()) {
-            let held = self.put_held(buf, 0);
-            let end = put_field(buf, held.pos, [0; 8], header, word, bytes);
-            return self.all_out(end);
-        }
-        let total = self.head_len(header, word) + bytes.len();
-        if total < place {
-            return self.complete(size, total, place, self.depth);
-        }
-        let head = self.put_head(buf, header, word, place);
-        head.put_bytes(buf, bytes);
-        self.complete(size, total, place, self.depth)
+        let outcome = put_fixlen_field(
+            buf,
+            s.offset,
+            places,
+            s.npending,
+            header,
+            word,
+            bytes,
+            place,
+        );
+        s.settle(size, outcome, s.depth)
     }
 
     // The same for any subtype but a string's, which has a call of its own.
@@ -833,11 +440,10 @@ impl OStream {
     ) -> Written
         ensures { λ r. ⌜ (r ≡ called (fixlenCall self (length (now (buf .entry))) id (now (bytes .entry)) subtype) self (now (buf .entry)) place) × (now (buf .exit) ≡ leaves (fixlenCall self (length (now (buf .entry))) id (now (bytes .entry)) subtype) self (now (buf .entry)) place) ⌝ }
     {
-        if !self.sound(buf.len()) {
-            return self.refuse(Error::UnsoundWriter);
-        }
-        if is_string(subtype) {
-            return self.refuse(Error::StringSubtype);
+        let check = check_fixlen(self.sound(buf.len()), subtype, id, bytes.len());
+        let error = check.error;
+        if !check.ok {
+            return self.refuse(error);
         }
         self.write_fixlen_raw(buf, id, bytes, subtype, place)
     }
@@ -896,12 +502,7 @@ impl OStream {
     ) -> Written
         ensures { λ r. ⌜ (r ≡ called (unsignedArrayCall self (length (now (buf .entry))) id (now (items .entry))) self (now (buf .entry)) place) × (now (buf .exit) ≡ leaves (unsignedArrayCall self (length (now (buf .entry))) id (now (items .entry))) self (now (buf .entry)) place) ⌝ }
     {
-        if 0 < place {
-            return self.anew()
-                .write_array_unsigned_slowly(buf, id, items, place)
-                .anew();
-        }
-        if self.at_ease(id) && items.len() <= ARRAY_MAX as usize {
+        if at_ease(place, self.depth, self.npending, id, items.len()) {
             let places = self.pending;
             let end = put_unsigneds(
                 buf,
@@ -939,19 +540,9 @@ impl OStream {
         if !check.ok {
             return self.refuse(error);
         }
-        let header = tagged(id, T_VARINTARRAY_UNSIGNED);
-        let count = items.len() as u64;
-        let start = self.put_head(buf, header, count, place);
-        let end = start.put_varints(buf, items);
-        if end.skip == 0 && end.pos < size {
-            return self.all_out(end.pos);
-        }
-        let head = self.head_len(header, count);
-        if varints_go_on(items, head, place, size - self.offset) {
-            return self.filled(size, place);
-        }
-        let total = head + varints_len(items);
-        self.complete(size, total, place, self.depth)
+        let places = self.pending;
+        let outcome = put_unsigned_array(buf, self.offset, places, self.npending, id, items, place);
+        self.settle(size, outcome, self.depth)
     }
 
     // An array of signed integers.
@@ -964,12 +555,7 @@ impl OStream {
     ) -> Written
         ensures { λ r. ⌜ (r ≡ called (signedArrayCall self (length (now (buf .entry))) id (now (items .entry))) self (now (buf .entry)) place) × (now (buf .exit) ≡ leaves (signedArrayCall self (length (now (buf .entry))) id (now (items .entry))) self (now (buf .entry)) place) ⌝ }
     {
-        if 0 < place {
-            return self.anew()
-                .write_array_signed_slowly(buf, id, items, place)
-                .anew();
-        }
-        if self.at_ease(id) && items.len() <= ARRAY_MAX as usize {
+        if at_ease(place, self.depth, self.npending, id, items.len()) {
             let places = self.pending;
             let end = put_signeds(
                 buf,
@@ -1007,19 +593,9 @@ impl OStream {
         if !check.ok {
             return self.refuse(error);
         }
-        let header = tagged(id, T_VARINTARRAY_SIGNED);
-        let count = items.len() as u64;
-        let start = self.put_head(buf, header, count, place);
-        let end = start.put_zigzags(buf, items);
-        if end.skip == 0 && end.pos < size {
-            return self.all_out(end.pos);
-        }
-        let head = self.head_len(header, count);
-        if zigzags_go_on(items, head, place, size - self.offset) {
-            return self.filled(size, place);
-        }
-        let total = head + zigzags_len(items);
-        self.complete(size, total, place, self.depth)
+        let places = self.pending;
+        let outcome = put_signed_array(buf, self.offset, places, self.npending, id, items, place);
+        self.settle(size, outcome, self.depth)
     }
 
     // An array of floats of 32 bits, by their bits. The word stands even where the array is empty.
@@ -1038,16 +614,17 @@ impl OStream {
         if !check.ok {
             return self.refuse(error);
         }
-        let header = tagged(id, T_FIXLENARRAY);
-        let count = items.len() as u64;
-        let total = self.head_len(header, count) + (1 + items.len() * 4);
-        if total < place {
-            return self.complete(size, total, place, self.depth);
-        }
-        let head = self.put_head(buf, header, count, place);
-        let word = head.put_varint(buf, tagged(4, 0));
-        word.put_fp32s(buf, items);
-        self.complete(size, total, place, self.depth)
+        let places = self.pending;
+        let outcome = put_fp32_bits_array(
+            buf,
+            self.offset,
+            places,
+            self.npending,
+            id,
+            items,
+            place,
+        );
+        self.settle(size, outcome, self.depth)
     }
 
     // An array of floats of 32 bits. A NaN's bits are the one pattern that the logic knows.
@@ -1066,16 +643,9 @@ impl OStream {
         if !check.ok {
             return self.refuse(error);
         }
-        let header = tagged(id, T_FIXLENARRAY);
-        let count = items.len() as u64;
-        let total = self.head_len(header, count) + (1 + items.len() * 4);
-        if total < place {
-            return self.complete(size, total, place, self.depth);
-        }
-        let head = self.put_head(buf, header, count, place);
-        let word = head.put_varint(buf, tagged(4, 0));
-        word.put_f32s(buf, items);
-        self.complete(size, total, place, self.depth)
+        let places = self.pending;
+        let outcome = put_fp32_array(buf, self.offset, places, self.npending, id, items, place);
+        self.settle(size, outcome, self.depth)
     }
 
     // An array of floats of 64 bits, by their bits.
@@ -1094,16 +664,17 @@ impl OStream {
         if !check.ok {
             return self.refuse(error);
         }
-        let header = tagged(id, T_FIXLENARRAY);
-        let count = items.len() as u64;
-        let total = self.head_len(header, count) + (1 + items.len() * 8);
-        if total < place {
-            return self.complete(size, total, place, self.depth);
-        }
-        let head = self.put_head(buf, header, count, place);
-        let word = head.put_varint(buf, tagged(8, 1));
-        word.put_fp64s(buf, items);
-        self.complete(size, total, place, self.depth)
+        let places = self.pending;
+        let outcome = put_fp64_bits_array(
+            buf,
+            self.offset,
+            places,
+            self.npending,
+            id,
+            items,
+            place,
+        );
+        self.settle(size, outcome, self.depth)
     }
 
     // An array of floats of 64 bits. A NaN's bits are the one pattern that the logic knows.
@@ -1122,31 +693,9 @@ impl OStream {
         if !check.ok {
             return self.refuse(error);
         }
-        let header = tagged(id, T_FIXLENARRAY);
-        let count = items.len() as u64;
-        let total = self.head_len(header, count) + (1 + items.len() * 8);
-        if total < place {
-            return self.complete(size, total, place, self.depth);
-        }
-        let head = self.put_head(buf, header, count, place);
-        let word = head.put_varint(buf, tagged(8, 1));
-        word.put_f64s(buf, items);
-        self.complete(size, total, place, self.depth)
-    }
-
-    // The held headers and one more.
-    fn write_marker(self, buf: &mut [u8], header: u64, place: usize, depth: u16) -> Written
-        requires { ⌜ (self .npending ≤ 8) × (self .offset ≤ length (now buf)) ⌝ }
-        ensures { λ r. ⌜ (r ≡ answered self (length (now (buf .entry))) (length (heldBytes self ++ shortest header)) place (committed self depth)) × (now (buf .exit) ≡ left self (now (buf .entry)) (heldBytes self ++ shortest header) place) ⌝ }
-    {
-        let size = buf.len();
-        let total = self.held_len() + varint_len(header);
-        if total < place {
-            return self.complete(size, total, place, depth);
-        }
-        let held = self.put_held(buf, place);
-        held.put_varint(buf, header);
-        self.complete(size, total, place, depth)
+        let places = self.pending;
+        let outcome = put_fp64_array(buf, self.offset, places, self.npending, id, items, place);
+        self.settle(size, outcome, self.depth)
     }
 
     // Whether a sequence can be opened and held back.
@@ -1170,8 +719,9 @@ impl OStream {
         requires { ⌜ (self .npending < 8) × (self .depth < 255) ⌝ }
         ensures { λ r. ⌜ r ≡ holding self id ⌝ }
     {
-        let last = self.npending as usize;
-        self.pending[last] = id;
+        let places = self.pending;
+        let more = add_id(places, self.npending, id);
+        self.pending = more;
         self.npending = self.npending + 1;
         self.depth = self.depth + 1;
         self
@@ -1182,8 +732,9 @@ impl OStream {
         requires { ⌜ (0 < self .npending) × (self .npending ≤ 8) × (self .npending ≤ self .depth) ⌝ }
         ensures { λ r. ⌜ r ≡ dropped self ⌝ }
     {
-        let last = self.npending as usize - 1;
-        self.pending[last] = 0;
+        let places = self.pending;
+        let fewer = drop_id(places, self.npending);
+        self.pending = fewer;
         self.npending = self.npending - 1;
         self.depth = self.depth - 1;
         self
@@ -1207,30 +758,25 @@ impl OStream {
         ensures { λ r. ⌜ (r ≡ called (beginCall self (length (now (buf .entry))) id) self (now (buf .entry)) place) × (now (buf .exit) ≡ leaves (beginCall self (length (now (buf .entry))) id) self (now (buf .entry)) place) ⌝ }
     {
         let size = buf.len();
-        let depth = self.depth;
-        if !self.sound(size) {
-            return self.refuse(Error::UnsoundWriter);
-        }
-        if MAX_DEPTH <= depth as u32 {
-            return self.refuse(Error::Nesting);
-        }
-        if ID_MAX < id {
-            return self.refuse(Error::IdTooLarge);
+        let check = check_begin(self.sound(size), self.depth, id);
+        let error = check.error;
+        if !check.ok {
+            return self.refuse(error);
         }
         if self.npending < 8 {
-            return self.finish(size, 0, place, self.hold(id));
+            return self.alter(place, self.hold(id));
         }
-        self.write_marker(buf, tagged(id, T_SEQUENCE_START), place, depth + 1)
+        let places = self.pending;
+        let header = tagged(id, T_SEQUENCE_START);
+        let outcome = put_marker(buf, self.offset, places, self.npending, header, place);
+        self.settle(size, outcome, self.depth + 1)
     }
 
     // The last opened sequence is closed; one that is held back vanishes.
     pub fn write_sequence_end(mut self, buf: &mut [u8], place: usize) -> Written
         ensures { λ r. ⌜ (r ≡ called (endCall self (length (now (buf .entry)))) self (now (buf .entry)) place) × (now (buf .exit) ≡ leaves (endCall self (length (now (buf .entry)))) self (now (buf .entry)) place) ⌝ }
     {
-        if 0 < place {
-            return self.anew().end_slowly(buf, place).anew();
-        }
-        if 0 < self.depth && self.at_ease(0) {
+        if closes_at_ease(place, self.depth, self.npending) {
             let places = self.pending;
             let end = put_end(buf, self.offset, places);
             if self.offset < end {
@@ -1249,32 +795,37 @@ impl OStream {
     fn end_slowly(self, buf: &mut [u8], place: usize) -> Written
         ensures { λ r. ⌜ (r ≡ called (endCall self (length (now (buf .entry)))) self (now (buf .entry)) place) × (now (buf .exit) ≡ leaves (endCall self (length (now (buf .entry)))) self (now (buf .entry)) place) ⌝ }
     {
-        let size = buf.len();
-        let depth = self.depth;
-        if !self.sound(size) {
-            return self.refuse(Error::UnsoundWriter);
-        }
-        if depth == 0 {
-            return self.refuse(Error::Nesting);
+        let check = check_end(self.sound(buf.len()), self.depth);
+        let error = check.error;
+        if !check.ok {
+            return self.refuse(error);
         }
         if self.npending == 0 {
-            return self.write_marker(buf, tagged(0, T_SEQUENCE_END), place, depth - 1);
+            return self.close(buf, place);
         }
-        self.finish(size, 0, place, self.unhold())
+        self.alter(place, self.unhold())
+    }
+
+    // The held headers and a close.
+    fn close(self, buf: &mut [u8], place: usize) -> Written
+        requires { ⌜ (soundStream self (length (now buf)) ≡ true) × (0 < self .depth) ⌝ }
+        ensures { λ r. ⌜ (r ≡ called (endKeepCall self (length (now (buf .entry)))) self (now (buf .entry)) place) × (now (buf .exit) ≡ leaves (endKeepCall self (length (now (buf .entry)))) self (now (buf .entry)) place) ⌝ }
+    {
+        let size = buf.len();
+        let places = self.pending;
+        let outcome = put_close(buf, self.offset, places, self.npending, place);
+        self.settle(size, outcome, self.depth - 1)
     }
 
     // The last opened sequence is closed, and written even where it is empty.
     pub fn write_sequence_end_keep(mut self, buf: &mut [u8], place: usize) -> Written
         ensures { λ r. ⌜ (r ≡ called (endKeepCall self (length (now (buf .entry)))) self (now (buf .entry)) place) × (now (buf .exit) ≡ leaves (endKeepCall self (length (now (buf .entry)))) self (now (buf .entry)) place) ⌝ }
     {
-        let size = buf.len();
-        let depth = self.depth;
-        if !self.sound(size) {
-            return self.refuse(Error::UnsoundWriter);
+        let check = check_end(self.sound(buf.len()), self.depth);
+        let error = check.error;
+        if !check.ok {
+            return self.refuse(error);
         }
-        if depth == 0 {
-            return self.refuse(Error::Nesting);
-        }
-        self.write_marker(buf, tagged(0, T_SEQUENCE_END), place, depth - 1)
+        self.close(buf, place)
     }
 }

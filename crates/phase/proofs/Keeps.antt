@@ -30,7 +30,7 @@ by-test P false f g = g refl
 -- a varint's byte: more of it, or what its value comes to
 within-keeps : (a : Acc) (b d : ℕ) (P : ℕ → ℕ → Phase) (F : ℕ → Stepped) → Sound a → ((x : Acc) → Sound x → AtBytes (reading d (P (x .taken) (x .value)))) → ((n : ℕ) → Kept (F n)) → Kept (within d (varints.push base (a .taken) (a .value) b) P F)
 unfolding within
-within-keeps a b d P F s f g = subst (λ (q : varints.Push). Kept (within d q P F)) (sym (layout-step a b)) (go (pushed a b) refl)
+within-keeps a b d P F s f g = subst (λ (q : varints.Push). Kept (within d q P F)) (sym (layout-step a b s)) (go (pushed a b) refl)
   where
     go : (q : Push) → pushed a b ≡ q → Kept (within d (unanswer q) P F)
     go (More x) e = f x (sound-more a b x s e)

@@ -20,7 +20,7 @@ use Rattle.machine.specs.Machine.{Stepped, on, bad, nextOr, atWire, atHeader, a
 use Rattle.machine.specs.Machine.{atElement, atArrayWord, atUnsigned, atSigned, within, atFloat, step, ending, judge}
 use Rattle.machine.specs.Call.{State, reading, owing, broke, fresh, Answer, event, verdict, invalid, Called, verdictAt, Pace, byte, bulk, paceOf, piece, scanned, scan, call}
 use Rattle.machine.specs.Call.{standingOf, standing}
-use Rattle.machine.specs.Run.{given, due, Follows, Ending, ended, unfinished, Chunk, calls, Heard, status, seen, chunks, verdictsOf, heardOf, heardAll, lastHeard, join}
+use Rattle.machine.specs.Run.{given, due, Follows, Ending, ended, unfinished, Chunk, calls, Heard, status, seen, chunks, verdictsOf, heardOf, heardAll, readOf, lastHeard, join}
 use Rattle.machine.proofs.Calls.{call-follows, fresh-follows}
 use Rattle.machine.proofs.Runs.{standingWith, standing-is, reads, verdicts-last, joined-injective}
 use Rattle.event.specs.Event.{eventOf, declared}
@@ -29,8 +29,8 @@ use Rattle.istream.specs.declared.IStream.{IStream}
 use Rattle.istream.specs.declared.Answer.the-variants as Answers
 use Rattle.istream.specs.declared.Fed as Given
 use Rattle.types.specs.Types.{refusal}
-use Rattle.istream.specs.Stream.{stateOf, streamIn, soundStream, statusIn, answerIn, fedIn, fedOf}
-use Rattle.field.specs.Steps.{covered}
+use Rattle.istream.specs.Stream.{stateOf, streamIn, soundStream, standingIn, statusOf, statusIn, answerIn, fedIn, fedOf}
+use Rattle.stepped.specs.Steps.{covered}
 use Rattle.phase.specs.Sound.{SoundAt, SoundState, AtBytes, Kept}
 use Rattle.phase.proofs.Phases.{byte-below}
 use Rattle.phase.proofs.Keeps.{step-keeps}
@@ -113,7 +113,7 @@ small-step d (inPayload id r total o) b s c l = let z : _≡_ {A = ℕ} 0 1 = cc
 
 -- ---- an answer's event is in range of the chunk
 
-abbrev Ranged : List ℕ → ℕ → Answer → Type 0
+abbrev pub Ranged : List ℕ → ℕ → Answer → Type 0
 Ranged c n (event e) = InRange c (n - covered e) e
 Ranged c n (verdict v) = Unit {0}
 Ranged c n invalid = Unit {0}
@@ -166,7 +166,7 @@ unfolding scan
 payload-range [] d id r total o = tt
 payload-range (b ∷ bs) d id r total o = piece-range (b ∷ bs) d id r total o (min (total - o) (length (b ∷ bs))) (omega arith)
 
-call-range : (st : State) (c : List ℕ) → SoundState st → Bytes c → Ranged c (call base st c .read) (call base st c .answer)
+pub call-range : (st : State) (c : List ℕ) → SoundState st → Bytes c → Ranged c (call base st c .read) (call base st c .answer)
 unfolding call
 call-range (reading d (inHeader k v)) c h b = scan-range c 0 d _ c b (h .0, (h .1, refl))
 call-range (reading d (inUnsigned id left k v)) c h b = scan-range c 0 d _ c b (h .0, (h .1, refl))
@@ -189,20 +189,20 @@ fed-is (reading d p) c h = sym (fed-sound (streamIn (reading d p)) (reading d p)
 fed-is (owing d id r) c h = sym (fed-sound (streamIn (owing d id r)) (owing d id r) c (state-of-stream (owing d id r)) tt (sound-is (owing d id r) h))
 fed-is broke c h = sym (fed-broken (streamIn broke) c refl)
 
-each-byte : (c : List ℕ) → Bytes c → (i : ℕ) → getD c i 0 < 256
+pub each-byte : (c : List ℕ) → Bytes c → (i : ℕ) → getD c i 0 < 256
 each-byte [] h zero = omega arith
 each-byte [] h (suc i) = omega arith
 each-byte (b ∷ bs) h zero = h .0
 each-byte (b ∷ bs) h (suc i) = each-byte bs (h .1) i
 
-pub call-sound : (st : State) (c : List ℕ) → SoundState st → Bytes c → SoundState (call base st c .state)
+call-sound : (st : State) (c : List ℕ) → SoundState st → Bytes c → SoundState (call base st c .state)
 unfolding fedIn
 call-sound st c h b =
     let k : soundStream (fedOf (streamIn st) c .stream) ≡ true = feed-keeps (streamIn st) c (each-byte c b) (sound-is st h) in
     let e : soundStream (streamIn (call base st c .state)) ≡ true = sym (ap (λ (r : Given.Fed). soundStream (r .stream)) (fed-is st c h)) ∙ k in
     subst SoundState (state-of-stream (call base st c .state)) (is-sound (streamIn (call base st c .state)) e)
 
-pub bytes-drop : (k : ℕ) (c : List ℕ) → Bytes c → Bytes (drop k c)
+bytes-drop : (k : ℕ) (c : List ℕ) → Bytes c → Bytes (drop k c)
 bytes-drop zero c h = h
 bytes-drop (suc k) [] h = tt
 bytes-drop (suc k) (b ∷ bs) h = bytes-drop k bs (h .1)
@@ -348,16 +348,16 @@ told-is n unfinished h = refl
 -- ---- a list of chunks
 
 feedAll-is : (st : State) (n : ℕ) (cs : List (List ℕ)) → SoundState st → All Bytes cs
-    → feedAll (streamIn st) n cs ≡ record { events = chunks base st n cs .events; verdicts = chunks base st n cs .verdicts; stream = streamIn (chunks base st n cs .state) }
+    → feedAll (streamIn st) n cs ≡ record { events = chunks base st n cs .events; verdicts = chunks base st n cs .verdicts; read = chunks base st n cs .read; stream = streamIn (chunks base st n cs .state) }
 unfolding feedAll chunks
 feedAll-is st n [] h b = refl
 feedAll-is st n (c ∷ cs) h b =
     let r : Chunk = calls base (2 * length c + 2) st c in
-    let after : Heard → Run → Run = λ v q. record { events = r .events ++ q .events; verdicts = v ∷ q .verdicts; stream = q .stream } in
+    let after : Heard → Run → Run = λ v q. record { events = r .events ++ q .events; verdicts = v ∷ q .verdicts; read = q .read; stream = q .stream } in
     let s = calls-sound (2 * length c + 2) st c h (b .0) in
-    ap (λ (f : Fed). record { events = f .events ++ feedAll (f .stream) (n + f .read) cs .events; verdicts = told (n + f .read) (f .answer) ∷ feedAll (f .stream) (n + f .read) cs .verdicts; stream = feedAll (f .stream) (n + f .read) cs .stream }) (feeds-is (2 * length c + 2) st c h (b .0))
+    ap (λ (f : Fed). record { events = f .events ++ feedAll (f .stream) (n + f .read) cs .events; verdicts = told (n + f .read) (f .answer) ∷ feedAll (f .stream) (n + f .read) cs .verdicts; read = feedAll (f .stream) (n + f .read) cs .read; stream = feedAll (f .stream) (n + f .read) cs .stream }) (feeds-is (2 * length c + 2) st c h (b .0))
     ∙ ap (after (told (n + r .read) (final (r .answer)))) (feedAll-is (r .state) (n + r .read) cs s (b .1))
-    ∙ ap (λ (v : Heard). after v (record { events = chunks base (r .state) (n + r .read) cs .events; verdicts = chunks base (r .state) (n + r .read) cs .verdicts; stream = streamIn (chunks base (r .state) (n + r .read) cs .state) })) (told-is (n + r .read) (r .answer) (plain-calls (2 * length c + 2) st c))
+    ∙ ap (λ (v : Heard). after v (record { events = chunks base (r .state) (n + r .read) cs .events; verdicts = chunks base (r .state) (n + r .read) cs .verdicts; read = chunks base (r .state) (n + r .read) cs .read; stream = streamIn (chunks base (r .state) (n + r .read) cs .state) })) (told-is (n + r .read) (r .answer) (plain-calls (2 * length c + 2) st c))
 
 sound-start : SoundState fresh
 sound-start = is-sound (streamIn fresh) fresh-sound
@@ -365,16 +365,18 @@ sound-start = is-sound (streamIn fresh) fresh-sound
 -- THE READER'S RUN THEOREM. A fresh reader that is handed chunks in order, each to its end: the events given, payload pieces joined and
 -- floats by their bits, are the layout's for the bytes handed; what is heard after each chunk is the layout's verdict for the bytes so
 -- far, a broken message by number 2 at the layout's byte and by no other number; and the reader stands at the end as the layout's
--- verdict for all the bytes, after no chunk at all too.
+-- verdict for all the bytes, after no chunk at all too, with all bytes read or, of a broken message, those up to the offending one.
 pub feeds-read : (cs : List (List ℕ)) → All Bytes cs
     → (bytewise (feedAll (streamIn fresh) 0 cs .events) ≡ eventsOf base (join cs)) × (feedAll (streamIn fresh) 0 cs .verdicts ≡ heardAll (verdictsOf base [] cs))
     × (standing (stateOf (feedAll (streamIn fresh) 0 cs .stream)) ≡ standingOf (verdictOf base (join cs)))
+    × (feedAll (streamIn fresh) 0 cs .read ≡ readOf (length (join cs)) (verdictOf base (join cs)))
 feeds-read cs b =
     let e = feedAll-is fresh 0 cs sound-start b in
     let m = reads base cs in (
       ap (λ (r : Run). bytewise (r .events)) e ∙ m .0,
       ap (λ (r : Run). r .verdicts) e ∙ m .1,
       ap (λ (r : Run). standing (stateOf (r .stream))) e ∙ ap standing (state-of-stream (chunks base fresh 0 cs .state)) ∙ m .2,
+      ap (λ (r : Run). r .read) e ∙ m .3,
     )
 
 -- Payload pieces joined, those are the layout's events,
@@ -436,3 +438,13 @@ reached-follows {bs} {es} {s} h =
 -- And the reader stands as the layout's verdict for the bytes read, or within a field while an event is due.
 pub reached-standing : {bs : List ℕ} {es : List Event} {s : IStream} → Reached bs es s → standing (stateOf s) ≡ standingWith (due (stateOf s)) (verdictOf base bs)
 reached-standing {bs} {es} {s} h = standing-is base bs es (stateOf s) (reached-follows h)
+
+-- What `IStream::status` answers after any calls,
+pub reached-status : {bs : List ℕ} {es : List Event} {s : IStream} → Reached bs es s → statusOf s ≡ standingIn (standingWith (due (stateOf s)) (verdictOf base bs))
+unfolding statusOf
+reached-status h = ap standingIn (reached-standing h)
+
+-- and after chunks, each handed in to its end, or none: the layout's verdict for all the bytes.
+pub feeds-status : (cs : List (List ℕ)) → All Bytes cs → statusOf (feedAll (streamIn fresh) 0 cs .stream) ≡ standingIn (standingOf (verdictOf base (join cs)))
+unfolding statusOf
+feeds-status cs b = ap standingIn (feeds-read cs b .2)

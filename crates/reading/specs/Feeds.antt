@@ -49,18 +49,19 @@ told n (ended (Status Incomplete)) = status incomplete
 told n (ended (Refused e)) = refused (numberOf e) n
 told n unfinished = nothing
 
--- the events given, what was heard after each chunk, and the reader after the last
+-- the events given, what was heard after each chunk, the bytes read in all, and the reader after the last
 pub record Run : Type 0 where
   pub events : List layout.Event
   pub verdicts : List Heard
+  pub read : ℕ
   pub stream : IStream
 
 unfoldable pub feedAll : IStream → ℕ → List (List ℕ) → Run
-feedAll s n [] = record { events = []; verdicts = []; stream = s }
+feedAll s n [] = record { events = []; verdicts = []; read = n; stream = s }
 feedAll s n (c ∷ cs) =
     let r = feed s c in
     let q = feedAll (r .stream) (n + r .read) cs in
-    record { events = r .events ++ q .events; verdicts = told (n + r .read) (r .answer) ∷ q .verdicts; stream = q .stream }
+    record { events = r .events ++ q .events; verdicts = told (n + r .read) (r .answer) ∷ q .verdicts; read = q .read; stream = q .stream }
 
 -- ---- any calls
 

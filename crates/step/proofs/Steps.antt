@@ -22,7 +22,7 @@ use Rattle.types.specs.Types.{width}
 use Rattle.varint.specs.declared.Acc.{Acc}
 use Rattle.varint.specs.declared.Push.{Push}
 use Rattle.varint.specs.declared.Push.the-variants.{More, Value, Overlong}
-use Rattle.varint.specs.Varint.{pushed, unanswer}
+use Rattle.varint.specs.Varint.{Sound, pushed, unanswer}
 use Rattle.varint.proofs.Laws.{layout-step}
 use Rattle.varint.proofs.Push.{the-type}
 use Rattle.event.specs.declared.Event.the-variants.{Array}
@@ -30,14 +30,14 @@ use Rattle.event.specs.Event.{declared}
 use Rattle.phase.specs.declared.Phase.the-variants.{Float}
 use Rattle.phase.specs.Phases.{phaseIn}
 use Rattle.phase.proofs.Phases.{float-back, pow256}
-use Rattle.field.specs.declared.Stepped.the-variants.{On, Raised, Bad}
-use Rattle.field.specs.Steps.{stepped}
+use Rattle.stepped.specs.declared.Stepped.the-variants.{On, Raised, Bad}
+use Rattle.stepped.specs.Steps.{stepped}
 
 -- ---- a varint's byte, from what the code knows of the push
 
-module _ (a : Acc) (b : ℕ) (p : Push) (e : p ≡ pushed a b) (d : ℕ) (P : ℕ → ℕ → machine.Phase) (F : ℕ → machine.Stepped) where
+module _ (a : Acc) (b : ℕ) (s : Sound a) (p : Push) (e : p ≡ pushed a b) (d : ℕ) (P : ℕ → ℕ → machine.Phase) (F : ℕ → machine.Stepped) where
   pushing : (q : Push) → p ≡ q → within d (varints.push base (a .taken) (a .value) b) P F ≡ within d (unanswer q) P F
-  pushing q h = ap (λ (x : varints.Push). within d x P F) (layout-step a b ∙ ap unanswer (sym e ∙ h))
+  pushing q h = ap (λ (x : varints.Push). within d x P F) (layout-step a b s ∙ ap unanswer (sym e ∙ h))
 
   pub value-in : (n : ℕ) → p ≡ Value n → stepped (F n) ≡ stepped (within d (varints.push base (a .taken) (a .value) b) P F)
   unfolding within

@@ -8,18 +8,18 @@ ghost use Rattle.types.specs.Types.{width};
 ghost use Rattle.varint.specs.Varint.{Sound};
 ghost use Rattle.phase.specs.Phases.{stateAt};
 ghost use Rattle.phase.specs.Sound.{AtBytes};
-ghost use Rattle.field.specs.Steps.{stepped, stepOn};
+ghost use Rattle.stepped.specs.Steps.{stepped, stepOn};
 use event::Event;
-use field::Stepped;
-use field::element;
-use field::field;
-use field::fixlen;
-use field::float_event;
 use phase::Phase;
 use phase::floats;
 use phase::less;
 use phase::signeds;
 use phase::unsigneds;
+use stepped::Stepped;
+use stepped::element;
+use stepped::field;
+use stepped::fixlen;
+use stepped::float_event;
 use types::ARRAY_MAX;
 use types::ArrayKind;
 use types::FloatType;
@@ -101,18 +101,18 @@ fn unsigned_count(depth: u8, id: u32, a: Acc, b: u8) -> Stepped
     ensures { λ r. ⌜ r ≡ stepped (step base depth (inUnsignedCount id (a .taken) (a .value)) b) ⌝ }
 {
     let p = a.push(b);
-    let Push::Value(v) = p else {
+    let Push::Value(n) = p else {
         let Push::More(next) = p else {
             return Stepped::Bad;
         };
         return Stepped::On(Phase::UnsignedCount(id, next), depth);
     };
-    if (ARRAY_MAX as u64) < v {
+    if (ARRAY_MAX as u64) < n {
         return Stepped::Bad;
     }
     Stepped::Raised(
-        Event::Array(id, ArrayKind::Unsigned, v as u32),
-        unsigneds(id, v as u32),
+        Event::Array(id, ArrayKind::Unsigned, n as u32),
+        unsigneds(id, n as u32),
         depth,
     )
 }

@@ -1,7 +1,7 @@
 -- Numbers above 3 name no subtype.
 use Prim.Native.Nat.{ℕ, zero, suc}
 use mathlib.Core.Path.{_≡_, refl}
-use Rattle.layout.specs.Field.{Subtyped, unknown, subtypeOf}
+use Rattle.layout.specs.Field.{unknown, subtypeOf}
 
 pub none : (n : ℕ) → (n ≡ 0 → ⊥) → (n ≡ 1 → ⊥) → (n ≡ 2 → ⊥) → (n ≡ 3 → ⊥) → subtypeOf n ≡ unknown
 none zero a b c d = absurd (a refl)

@@ -1,11 +1,9 @@
 -- The port's own enums as the layout's, and the numbers of the refusals.
 use Prim.Native.Nat.{ℕ, zero, suc}
-use Rattle.layout.specs.Field.{Width, Raw, Subtype, Subtyped, Kind, fp32, fp64, string, blob, float, raw, known, unknown, unsigneds, signeds, floats}
-use Rattle.layout.specs.Field.{subtypeNumber, subtypeOf, kindNumber}
+use Rattle.layout.specs.Field.{Width, Raw, Subtype, Kind, fp32, fp64, string, blob, float, raw, unsigneds, signeds, floats}
+use Rattle.layout.specs.Field.{subtypeNumber, kindNumber}
 use Rattle.types.specs.declared.FixlenType.{FixlenType}
 use Rattle.types.specs.declared.FixlenType.the-variants as Fix
-use Rattle.types.specs.declared.RawFixlen.{RawFixlen}
-use Rattle.types.specs.declared.RawFixlen.the-variants as RawFix
 use Rattle.types.specs.declared.ArrayKind.{ArrayKind}
 use Rattle.types.specs.declared.ArrayKind.the-variants as ArrayKinds
 use Rattle.types.specs.declared.FloatType.{FloatType}
@@ -26,10 +24,6 @@ fixlenType (float fp32) = Fix.Fp32
 fixlenType (float fp64) = Fix.Fp64
 fixlenType (raw string) = Fix.Str
 fixlenType (raw blob) = Fix.Blob
-
-abbrev pub rawFixlen : Subtyped → RawFixlen
-rawFixlen (known s) = RawFix.Known (fixlenType s)
-rawFixlen unknown = RawFix.Unknown
 
 abbrev pub kind : ArrayKind → Kind
 kind ArrayKinds.Unsigned = unsigneds
@@ -67,9 +61,6 @@ abbrev pub rawFixlenType : RawType → FixlenType
 rawFixlenType r = fixlenType (raw (rawSort r))
 
 -- the numbers on the wire, and of the event list
-abbrev pub rawOf : ℕ → RawFixlen
-rawOf n = rawFixlen (subtypeOf n)
-
 abbrev pub fixlenRaw : FixlenType → ℕ
 fixlenRaw s = subtypeNumber (subtype s)
 

@@ -1,7 +1,7 @@
 // Shared types and wire constants: the Rust's types.rs, the configuration of its lib.rs, and the refusals by their numbers.
 ghost use mathlib.Core.Path.{_≡_};
 ghost use Rattle.layout.specs.Field.{bytesOf, floats};
-ghost use Rattle.types.specs.Types.{fixlenRaw, kindRaw, rawOf, numberOf, width, floatFixlen, rawFixlenType, arrayKind};
+ghost use Rattle.types.specs.Types.{fixlenRaw, kindRaw, numberOf, width, floatFixlen, rawFixlenType, arrayKind};
 
 // SofaBuffers wire and API version that this library implements.
 pub const API_VERSION: u32 = 1;
@@ -58,12 +58,6 @@ pub enum FixlenType {
     Blob,
 }
 
-// What three bits of a word name.
-pub enum RawFixlen {
-    Known(FixlenType),
-    Unknown,
-}
-
 // Element type of an array.
 pub enum ArrayKind {
     Unsigned,
@@ -100,19 +94,6 @@ pub enum Error {
 }
 
 impl FixlenType {
-    // The subtype that a word's low three bits name.
-    pub fn from_raw(raw: u8) -> RawFixlen
-        ensures { λ r. ⌜ r ≡ rawOf raw ⌝ }
-    {
-        match raw {
-            0 => RawFixlen::Known(FixlenType::Fp32),
-            1 => RawFixlen::Known(FixlenType::Fp64),
-            2 => RawFixlen::Known(FixlenType::Str),
-            3 => RawFixlen::Known(FixlenType::Blob),
-            _ => RawFixlen::Unknown,
-        }
-    }
-
     pub fn raw(self) -> u8
         ensures { λ r. ⌜ r ≡ fixlenRaw self ⌝ }
     {

@@ -31,10 +31,8 @@ joined v b k h =
     (or-shifted-r (b % 128) (k * 7) v (subst (λ (p : ℕ). v < p) (pow128 k) h) ∙ add-comm (b % 128 * 2 ^ (k * 7)) v)
 
 -- the tenth byte, 0 or 1
-pub joined-last : (v b k : ℕ) → v < 128 ^ k → k ≡ 9 → b ≤ 1 → bitOr v (b * 2 ^ 63 % 2 ^ 64) ≡ v + digit k b
-joined-last v b k s t h =
-    ap (bitOr v) (mod-eq-of-lt (omega arith) ∙ ap (λ (x : ℕ). x * 2 ^ 63) (sym (mod-eq-of-lt (omega arith))) ∙ ap (λ (x : ℕ). digit x b) (sym t))
-    ∙ joined v b k s
+pub last-digit : (b : ℕ) → b ≤ 1 → b * 2 ^ 63 % 2 ^ 64 ≡ digit 9 b
+last-digit b h = mod-eq-of-lt (omega arith) ∙ ap (λ (x : ℕ). x * 2 ^ 63) (sym (mod-eq-of-lt (omega arith)))
 
 -- nothing is left above the first k groups exactly where the number is below 128 ^ k
 pub below : (v k : ℕ) → eqb (v / 2 ^ (k * 7)) 0 ≡ ltb v (128 ^ k)

@@ -1,19 +1,19 @@
--- What a caller of the step may know: the test of a state and the state agree, a byte that goes on keeps it sound, a value has 64
--- bits, and the step is the layout's.
-use mathlib.Core.Path.{_≡_, refl, ap, _∙_}
+-- What a caller of the step may know: the test of a state and the state agree, a byte that goes on keeps it sound, and the step is the
+-- layout's.
+use mathlib.Core.Path.{_≡_, refl, sym, ap, _∙_}
 use mathlib.Core.Bool.{Bool, true, false, _&&_}
-use Prim.Native.Nat.{ℕ, _/_, _*_, _^_, _<_, _≤_}
+use Prim.Native.Nat.{ℕ, _+_, _/_, _*_, _^_, _<_, _≤_}
 use native.Mathlib.Omega.{arith}
 use lib.Dec.{leb, ltb, eqb, lit<, lit≤}
-use borrow.Author.Tests.{lt-leb, le-leb, leb-true, ltb-true, lt-ltb}
-use Rattle.layout.specs.Limits.{base, lastPlace}
+use borrow.Author.Tests.{lt-leb, le-leb, leb-true, ltb-true, ltb-false, lt-ltb, le-ltb}
+use lib.Bits.{bitOr}
+use Rattle.layout.specs.Limits.{base, lastPlace, lastBound}
 use Rattle.layout.specs.Varint as layout
 use Rattle.varint.specs.declared.Acc.{Acc}
-use Rattle.varint.specs.declared.Push.{Push}
-use Rattle.varint.specs.declared.Push.the-variants.{More, Value}
-use Rattle.varint.specs.Varint.{Sound, soundAcc, start, answer, unanswer, pushed}
-use Rattle.varint.proofs.Digits.{below}
-use Rattle.varint.proofs.Step.{step-more, step-value}
+use Rattle.varint.specs.declared.Push.the-variants.{More, Value, Overlong}
+use Rattle.varint.specs.Varint.{Sound, soundAcc, start, unanswer, pushed}
+use Rattle.varint.proofs.Digits.{below, joined}
+use Rattle.varint.proofs.Step.{overruns, ends, ends-last, goes-on, step-more}
 
 -- ---- the state
 
@@ -44,27 +44,43 @@ few a h = simp (le-leb _ _ h) (below (a .value) (a .taken))
 
 -- ---- the step
 
-answered : (p : layout.Push) → p ≡ unanswer (answer p)
-answered (layout.more k v) = refl
-answered (layout.value n) = refl
-answered layout.overrun = refl
+-- its four cases, of every state
+module _ (a : Acc) (b : ℕ) where
+  pub pushed-ends : a .taken < lastPlace base → b < 128 → Value (bitOr (a .value) (layout.digit (a .taken) b)) ≡ pushed a b
+  unfolding pushed
+  pushed-ends h g = simp (lt-ltb _ _ h, lt-ltb _ _ g)
 
--- to the layout and back
-pub layout-step : (a : Acc) (b : ℕ) → layout.push base (a .taken) (a .value) b ≡ unanswer (pushed a b)
-unfolding pushed
-layout-step a b = answered (layout.push base (a .taken) (a .value) b)
+  pub pushed-on : a .taken < lastPlace base → 128 ≤ b → More (record { value = bitOr (a .value) (layout.digit (a .taken) b); taken = a .taken + 1 }) ≡ pushed a b
+  unfolding pushed
+  pushed-on h g = simp (lt-ltb _ _ h, le-ltb _ _ g)
 
-pub pushed-step : (a : Acc) (b : ℕ) (p : layout.Push) → layout.push base (a .taken) (a .value) b ≡ p → pushed a b ≡ answer p
-unfolding pushed
-pushed-step a b p e = ap answer e
+  pub pushed-last : lastPlace base ≤ a .taken → b < lastBound base → Value (bitOr (a .value) (layout.digit (lastPlace base) b)) ≡ pushed a b
+  unfolding pushed
+  pushed-last h g = simp (le-ltb _ _ h, lt-ltb _ _ g)
+
+  pub pushed-over : lastPlace base ≤ a .taken → lastBound base ≤ b → Overlong ≡ pushed a b
+  unfolding pushed
+  pushed-over h g = simp (le-ltb _ _ h, le-ltb _ _ g)
+
+-- of a state that can be, it is the layout's step
+pub layout-step : (a : Acc) (b : ℕ) → Sound a → layout.push base (a .taken) (a .value) b ≡ unanswer (pushed a b)
+layout-step a b s = go (ltb (a .taken) (lastPlace base)) refl (ltb b 128) refl (ltb b (lastBound base)) refl
+  where
+    sum : bitOr (a .value) (layout.digit (a .taken) b) ≡ a .value + layout.digit (a .taken) b
+    sum = joined (a .value) b (a .taken) (s .small)
+
+    go : (x : Bool) → ltb (a .taken) (lastPlace base) ≡ x → (y : Bool) → ltb b 128 ≡ y → (z : Bool) → ltb b (lastBound base) ≡ z → layout.push base (a .taken) (a .value) b ≡ unanswer (pushed a b)
+    go true p true q z r = ends base (a .taken) (a .value) b (ltb-true _ _ p) (ltb-true _ _ q) ∙ ap layout.value (sym sum) ∙ ap unanswer (pushed-ends a b (ltb-true _ _ p) (ltb-true _ _ q))
+    go true p false q z r = goes-on base (a .taken) (a .value) b (ltb-true _ _ p) (ltb-false _ _ q) ∙ ap (layout.more (a .taken + 1)) (sym sum) ∙ ap unanswer (pushed-on a b (ltb-true _ _ p) (ltb-false _ _ q))
+    go false p y q true r =
+        let l : 9 ≤ a .taken = ltb-false (a .taken) 9 p in
+        let k : a .taken ≡ 9 = omega (arith, s .few, l) in
+        ends-last base (a .taken) (a .value) b (ltb-false _ _ p) (ltb-true _ _ r)
+        ∙ ap layout.value (sym sum ∙ ap (λ (j : ℕ). bitOr (a .value) (layout.digit j b)) k)
+        ∙ ap unanswer (pushed-last a b (ltb-false _ _ p) (ltb-true _ _ r))
+    go false p y q false r = overruns base (a .taken) (a .value) b (ltb-false _ _ p) (ltb-false _ _ r) ∙ ap unanswer (pushed-over a b (ltb-false _ _ p) (ltb-false _ _ r))
 
 pub sound-more : (a : Acc) (b : ℕ) (n : Acc) → Sound a → pushed a b ≡ More n → Sound n
 sound-more a b n s e =
-    let o = step-more base (a .taken) (a .value) b (n .taken) (n .value) (s .small) (layout-step a b ∙ ap unanswer e) in
+    let o = step-more base (a .taken) (a .value) b (n .taken) (n .value) (s .small) (layout-step a b s ∙ ap unanswer e) in
     record { few = o .few; small = o .small }
-
-pub sound-more-test : (a : Acc) (b : ℕ) (n : Acc) → soundAcc a ≡ true → pushed a b ≡ More n → soundAcc n ≡ true
-sound-more-test a b n s e = sound-is n (sound-more a b n (is-sound a s) e)
-
-pub value-below : (a : Acc) (b v : ℕ) → Sound a → pushed a b ≡ Value v → v < 2 ^ 64
-value-below a b v s e = step-value base (a .taken) (a .value) b v (s .small) (s .few) (layout-step a b ∙ ap unanswer e)

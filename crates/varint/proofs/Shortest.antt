@@ -1,19 +1,16 @@
 -- The layout's shortest varint, as a list: its two cases, its length between powers of 128, its bytes and what stands at a place.
--- No law here knows a width but `length-within`.
 use mathlib.Core.Path.{_≡_, refl, sym, ap, _∙_, subst}
 use mathlib.Core.Bool.{Bool, true, false}
 use mathlib.Core.List.{List, [], _∷_}
 use Prim.Native.Nat.{ℕ, zero, suc, _+_, _*_, _/_, _%_, _^_, _<_, _≤_}
-use native.Mathlib.Nat.{add-zero, pow-suc, pow-succ', div-one, not-suc-le-zero, lt-of-lt-of-le, div-lt-iff-lt-mul, le-div-iff-mul-le, div-div-eq-div-mul}
+use native.Mathlib.Nat.{pow-suc, pow-succ', div-one, not-suc-le-zero, div-lt-iff-lt-mul, le-div-iff-mul-le, div-div-eq-div-mul}
 use native.Mathlib.Omega.{arith}
 use borrow.Author.Tests.{ltb-true, ltb-false, lt-ltb, le-ltb}
 use lib.Dec.{ltb, lit<}
 use lib.ListN.{length, drop, getD}
-use lib.Seq.{getD-drop}
-use lib.Pow.{pow-mono, areBytes}
-use Rattle.layout.specs.Limits.{Limits, lastPlace}
+use lib.Pow.{areBytes}
 use Rattle.layout.specs.Varint.{shortestIn, shortest}
-use Rattle.varint.proofs.Digits.{pow128, pow128-pos}
+use Rattle.varint.proofs.Digits.{pow128-pos}
 
 -- ---- the two cases
 
@@ -97,11 +94,6 @@ length-above (suc m) n h =
     let i : m < length (shortest (n / 128)) = length-above m (n / 128) (le-div-iff-mul-le (lit< tt) .1 (subst (λ (x : ℕ). x ≤ n) s h)) in
     omega arith
 
--- a value of the width has its last byte at the last place or before
-pub length-within : (L : Limits) (n : ℕ) → n < 2 ^ (L .bits) → length (shortest n) ≤ lastPlace L + 1
-length-within L n h =
-    length-at-most (lastPlace L + 1) n (omega arith) (subst (λ (x : ℕ). n < x) (sym (pow128 (lastPlace L + 1))) (lt-of-lt-of-le h (pow-mono (omega arith))))
-
 pub length-64 : (n : ℕ) → n < 2 ^ 64 → length (shortest n) ≤ 10
 length-64 n h = length-at-most 10 n (lit< tt) (omega arith)
 
@@ -121,23 +113,6 @@ drop-shortest (suc k) n h =
 
 first : (n : ℕ) → (n < 128 → getD (shortest n) 0 0 ≡ n) × (128 ≤ n → getD (shortest n) 0 0 ≡ n % 128 + 128)
 first n = (λ h. ap (λ (l : List ℕ). getD l 0 0) (shortest-one n h), λ h. ap (λ (l : List ℕ). getD l 0 0) (shortest-more n h))
-
-from : (k n : ℕ) → k < length (shortest n) → getD (shortest n) k 0 ≡ getD (shortest (n / 128 ^ k)) 0 0
-from k n h = ap (λ (j : ℕ). getD (shortest n) j 0) (sym (add-zero k)) ∙ sym (getD-drop k (shortest n) 0 0) ∙ ap (λ (l : List ℕ). getD l 0 0) (drop-shortest k n h)
-
--- the last byte, and one that another follows
-pub byte-last : (k n : ℕ) → k < length (shortest n) → n / 128 ^ k < 128 → getD (shortest n) k 0 ≡ n / 128 ^ k
-byte-last k n h l = from k n h ∙ first (n / 128 ^ k) .0 l
-
-pub byte-more : (k n : ℕ) → k < length (shortest n) → 128 ≤ n / 128 ^ k → getD (shortest n) k 0 ≡ n / 128 ^ k % 128 + 128
-byte-more k n h l = from k n h ∙ first (n / 128 ^ k) .1 l
-
--- the same by a shift
-pub shifted-last : (k n : ℕ) → k < length (shortest n) → n / 2 ^ (k * 7) < 128 → n / 2 ^ (k * 7) ≡ getD (shortest n) k 0
-shifted-last k n h = subst (λ (p : ℕ). n / p < 128 → n / p ≡ getD (shortest n) k 0) (pow128 k) (λ l. sym (byte-last k n h l))
-
-pub shifted-more : (k n : ℕ) → k < length (shortest n) → 128 ≤ n / 2 ^ (k * 7) → n / 2 ^ (k * 7) % 128 + 128 ≡ getD (shortest n) k 0
-shifted-more k n h = subst (λ (p : ℕ). 128 ≤ n / p → n / p % 128 + 128 ≡ getD (shortest n) k 0) (pow128 k) (λ l. sym (byte-more k n h l))
 
 -- as a test of the whole list, and place by place
 pub shortest-bytes : (n : ℕ) → areBytes (shortest n) ≡ true

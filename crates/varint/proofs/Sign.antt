@@ -12,7 +12,6 @@ use mir.Syntax.{w64}
 use mir.Val.{Fits, SFits, ofZ, toZ}
 use mir.ValLaws.{toZ-ofZ}
 use mir.Facts.{toZ-pos}
-use Rattle.varint.specs.Varint.{SignedIn}
 
 -- the sign, as the machine tests it
 abbrev pub below0 : ℤ → Bool
@@ -33,12 +32,3 @@ flipped n h = let e : 2 ^ 64 - 1 - (2 ^ 64 - suc n) ≡ n = omega arith in ap (t
 -- what a cast to u64 asks, of a number that is not negative
 pub casts : (z : ℤ) (n : ℕ) → z ≡ pos n → n < 2 ^ 63 → T (nonNeg z) × Fits w64 (natAbs z)
 casts z n e h = subst (λ (z : ℤ). T (nonNeg z) × Fits w64 (natAbs z)) (sym e) (tt, record { fits = omega arith })
-
--- an i64 has 64 bits with its sign
-pub signed-64 : (z : ℤ) → SFits w64 z → SignedIn 64 z
-signed-64 (pos n) f = f .sfits
-signed-64 (negsuc n) f = f .sfits
-
-pub fits-64 : (z : ℤ) → SignedIn 64 z → SFits w64 z
-fits-64 (pos n) h = record { sfits = h }
-fits-64 (negsuc n) h = record { sfits = h }

@@ -1,10 +1,10 @@
--- The decoder's step on this crate's types, through the layout's step at 01's width; and which states a varint can be in.
+-- The decoder's step on this crate's types, at 01's width; and which states a varint can be in.
 -- Callers live on `Laws` of proofs/, and open none of these but `start`.
-use Prim.Native.Nat.{ℕ, _-_, _^_, _<_, _≤_}
+use Prim.Native.Nat.{ℕ, _+_, _^_, _<_, _≤_}
 use mathlib.Core.Bool.{Bool, _&&_}
 use lib.Dec.{leb, ltb}
-use lib.IntN.{ℤ, pos, negsuc}
-use Rattle.layout.specs.Limits.{base, lastPlace}
+use lib.Bits.{bitOr}
+use Rattle.layout.specs.Limits.{base, lastPlace, lastBound, pick}
 use Rattle.layout.specs.Varint as layout
 use Rattle.varint.specs.declared.Acc.{Acc}
 use Rattle.varint.specs.declared.Push.{Push}
@@ -23,22 +23,19 @@ pub record Sound (a : Acc) : Type 0 where
 unfoldable pub soundAcc : Acc → Bool
 soundAcc a = leb (a .taken) (lastPlace base) && ltb (a .value) (128 ^ (a .taken))
 
--- the layout's answer as this crate's, and back
-abbrev pub answer : layout.Push → Push
-answer (layout.more k v) = More (record { value = v; taken = k })
-answer (layout.value n) = Value n
-answer layout.overrun = Overlong
-
+-- an answer as the layout's
 abbrev pub unanswer : Push → layout.Push
 unanswer (More a) = layout.more (a .taken) (a .value)
 unanswer (Value n) = layout.value n
 unanswer Overlong = layout.overrun
 
--- a varint under way, and one more byte
-unfoldable pub pushed : Acc → ℕ → Push
-pushed a b = answer (layout.push base (a .taken) (a .value) b)
+-- a varint under way, and one more byte: its seven bits are set at their place, and the last place has room for what the width leaves.
+-- Stated of every state; of one that can be, it is the layout's step (`layout-step` of proofs/Laws).
+abbrev with-bits : Acc → ℕ → ℕ → ℕ
+with-bits a k b = bitOr (a .value) (layout.digit k b)
 
--- a number of w bits with a sign: from - 2 ^ (w - 1) to 2 ^ (w - 1) - 1
-abbrev pub SignedIn : ℕ → ℤ → Type 0
-SignedIn w (pos n) = n < 2 ^ (w - 1)
-SignedIn w (negsuc n) = n < 2 ^ (w - 1)
+unfoldable pub pushed : Acc → ℕ → Push
+pushed a b =
+    pick (ltb (a .taken) (lastPlace base))
+    (pick (ltb b 128) (Value (with-bits a (a .taken) b)) (More (record { value = with-bits a (a .taken) b; taken = a .taken + 1 })))
+    (pick (ltb b (lastBound base)) (Value (with-bits a (lastPlace base) b)) Overlong)

@@ -2,12 +2,12 @@
 // The step takes its state by value, so a varint may be cut anywhere between two bytes.
 ghost use mathlib.Core.Path.{_≡_};
 ghost use Prim.Native.Nat.{_+_, _*_, _%_, _<_, _≤_};
-ghost use lib.ListN.{length, getD};
+ghost use lib.ListN.{length};
 ghost use mir.Syntax.{w64};
 ghost use mir.Val.{ofZ};
 ghost use Rattle.layout.specs.Varint.{digit, shortest};
 ghost use Rattle.layout.specs.Zigzag.{zigzag, unzigzag};
-ghost use Rattle.varint.specs.Varint.{Sound, soundAcc, start, pushed};
+ghost use Rattle.varint.specs.Varint.{soundAcc, start, pushed};
 
 // A varint under way: how many bytes it had, and what they came to.
 pub struct Acc {
@@ -49,9 +49,9 @@ impl Acc {
         value >> (taken * 7) == 0
     }
 
-    // Every way past 64 bits lies at the tenth byte: bit 7 set, or a payload above 1.
+    // Every way past 64 bits lies at the tenth byte: bit 7 set, or a payload above 1. No state is tested: one that no bytes can have made
+    // has an answer too.
     pub fn push(self, b: u8) -> Push
-        requires { ⌜ Sound self ⌝ }
         ensures { λ r. ⌜ r ≡ pushed self b ⌝ }
     {
         let taken = self.taken;
@@ -110,17 +110,4 @@ pub fn varint_len(v: u64) -> usize
         len += 1;
     }
     len
-}
-
-// The byte at a place of the shortest varint of v: bit 7 where another follows.
-pub fn varint_byte(v: u64, place: usize) -> u8
-    requires { ⌜ place < length (shortest v) ⌝ }
-    ensures { λ r. ⌜ r ≡ getD (shortest v) place 0 ⌝ }
-{
-    let rest = v >> (place * 7);
-    if rest < 128 {
-        rest as u8
-    } else {
-        (rest % 128 + 128) as u8
-    }
 }

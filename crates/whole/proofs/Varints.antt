@@ -80,19 +80,19 @@ module _ {t : List ℕ} {at i : ℕ} {a : Acc} (u : Under t at i a) where
         from = omega (arith, u .from);
         to = omega arith;
         sound = sound-more a (getD t i 0) n (u .sound) e;
-        same = u .same ∙ on t i (a .taken) (a .value) h (n .taken) (n .value) (layout-step a (getD t i 0) ∙ ap unanswer e);
+        same = u .same ∙ on t i (a .taken) (a .value) h (n .taken) (n .value) (layout-step a (getD t i 0) (u .sound) ∙ ap unanswer e);
       }
 
   pub under-value : (v : ℕ) → i < length t → pushed a (getD t i 0) ≡ Value v → Reaches t at (varint base (drop at t)) (Founds.Value v (i + 1))
   under-value v h e =
       record {
-        same = u .same ∙ done t i (a .taken) (a .value) h v (layout-step a (getD t i 0) ∙ ap unanswer e);
+        same = u .same ∙ done t i (a .taken) (a .value) h v (layout-step a (getD t i 0) (u .sound) ∙ ap unanswer e);
         past = (omega (arith, u .from), omega arith);
       }
 
   pub under-over : i < length t → pushed a (getD t i 0) ≡ Overlong → Reaches t at (varint base (drop at t)) (Founds.Broken (i + 1))
   under-over h e =
-      record { same = u .same ∙ over t i (a .taken) (a .value) h (layout-step a (getD t i 0) ∙ ap unanswer e); past = omega arith }
+      record { same = u .same ∙ over t i (a .taken) (a .value) h (layout-step a (getD t i 0) (u .sound) ∙ ap unanswer e); past = omega arith }
 
   pub under-end : length t ≤ i → Reaches t at (varint base (drop at t)) Founds.Short
   under-end h = record { same = u .same ∙ out t i (a .taken) (a .value) h; past = tt }

@@ -1,54 +1,76 @@
--- Each writing call is a write: content with its own tests, an open, a plain close or a keeping close. So the run theorem is about the
--- very definitions that the calls' contracts cite.
-use Prim.Native.Nat.{ℕ}
-use mathlib.Core.Path.{_≡_, refl}
-use mathlib.Core.Bool.{Bool}
+-- The series makes the very calls that the contracts cite; a real write that is accepted is so over every buffer that holds its position;
+-- and a buffer shorter than the position is refused.
+use Prim.Native.Nat.{ℕ, _≤_, _<_}
+use mathlib.Core.Path.{_≡_, refl, sym, ap, _∙_}
+use mathlib.Core.Bool.{Bool, true, false, not}
 use mathlib.Core.List.{List, [], _∷_}
+use borrow.Author.Tests.{lt-leb}
 use lib.ListN.{length}
-use lib.IntN.{ℤ}
 use Rattle.layout.specs.Limits.{pick}
-use Rattle.layout.specs.Field.{Width, Raw, unsigned, signed, float, payload, unsignedArray, signedArray, floatArray}
-use Rattle.types.specs.declared.FixlenType.{FixlenType}
-use Rattle.types.specs.Types.{subtype}
-use Rattle.ostream.specs.Calls.{idTooLarge, stringSubtype, payloadTooLong, arrayTooLong, unsignedCall, signedCall, booleanCall, rawCall, fixlenCall, floatCall, payloadCall}
-use Rattle.ostream.specs.Calls.{unsignedArrayCall, signedArrayCall, floatArrayCall, beginCall, endCall, endKeepCall}
-use Rattle.writes.specs.Written.{field, fixlen, puts, opens, closes, keeps, opOf, op}
+use Rattle.types.specs.Types.{refusal}
+use Rattle.ostream.specs.declared.OStream.{OStream}
+use Rattle.ostream.specs.Stream.{at, soundStream}
+use Rattle.ostream.specs.Emission.{Test, Verdict, accepted, refusedWith, judged, Call, called, calledBy}
+use Rattle.ostream.specs.Calls.{unsound, idTooLarge, tooDeep, noneOpen}
+use Rattle.ostream.specs.Buffer.{badBuffer, countedBy, draining, changing}
+use Rattle.writes.specs.Series.{callOf, numbersIn, numbersOf, writes, drains, changes, said}
+use Rattle.writes.specs.Written.{Write, puts, opens, closes, keeps, op}
+use Rattle.writes.specs.Public.{Public, writeUnsigned, writeSigned, writeBoolean, writeFixlen, writePayload, writeFloat, writeArrayUnsigned, writeArraySigned, writeArrayFloat}
+use Rattle.writes.specs.Public.{writeSequenceBeginLazy, writeSequenceEnd, writeSequenceEndKeep, writeOf, citedBy}
+use Rattle.writes.proofs.Written.{steady-write}
 
-pub is-unsigned : (id n : ℕ) → opOf (λ s size. unsignedCall s size id n) ≡ op (puts (idTooLarge id ∷ []) (field (unsigned id n)))
-is-unsigned id n = refl
+pub is-call : (c : Public) (s : OStream) (size : ℕ) → callOf (op (writeOf c)) s size ≡ citedBy c s size
+is-call (writeUnsigned id n) s size = refl
+is-call (writeSigned id z) s size = refl
+is-call (writeBoolean id b) s size = refl
+is-call (writeFixlen id bs t) s size = refl
+is-call (writePayload id r bs) s size = refl
+is-call (writeFloat id w x) s size = refl
+is-call (writeArrayUnsigned id ns) s size = refl
+is-call (writeArraySigned id zs) s size = refl
+is-call (writeArrayFloat id w xs) s size = refl
+is-call (writeSequenceBeginLazy id) s size = refl
+is-call writeSequenceEnd s size = refl
+is-call writeSequenceEndKeep s size = refl
 
-pub is-signed : (id : ℕ) (z : ℤ) → opOf (λ s size. signedCall s size id z) ≡ op (puts (idTooLarge id ∷ []) (field (signed id z)))
-is-signed id z = refl
+-- A public call whose tests pass where it stands passes them at every position, over every buffer that holds it.
+pub accepted-anywhere : (c : Public) (s : OStream) (size p size′ : ℕ) → s .offset ≤ size → judged (citedBy c s size .tests) ≡ accepted → p ≤ size′ → judged (citedBy c (at s p) size′ .tests) ≡ accepted
+accepted-anywhere c s size p size′ h a l =
+    let f = steady-write (writeOf c) in
+    ap (λ (k : Call). judged (k .tests)) (sym (is-call c (at s p) size′))
+    ∙ f .tests s p size′ l ∙ sym (f .tests s (s .offset) size h)
+    ∙ ap (λ (k : Call). judged (k .tests)) (is-call c s size) ∙ a
 
-pub is-boolean : (id : ℕ) (b : Bool) → opOf (λ s size. booleanCall s size id b) ≡ op (puts (idTooLarge id ∷ []) (field (unsigned id (pick b 1 0))))
-is-boolean id b = refl
+-- ---- another buffer, too short
 
-pub is-raw : (id : ℕ) (bs : List ℕ) (t : FixlenType) → opOf (λ s size. rawCall s size id bs t) ≡ op (puts (idTooLarge id ∷ payloadTooLong (length bs) ∷ []) (fixlen id (subtype t) bs))
-is-raw id bs t = refl
+short-unsound : (s : OStream) (size : ℕ) → size < s .offset → soundStream s size ≡ false
+unfolding soundStream
+short-unsound s size h = simp (lt-leb _ _ h)
 
-pub is-fixlen : (id : ℕ) (bs : List ℕ) (t : FixlenType) → opOf (λ s size. fixlenCall s size id bs t) ≡ op (puts (stringSubtype t ∷ idTooLarge id ∷ payloadTooLong (length bs) ∷ []) (fixlen id (subtype t) bs))
-is-fixlen id bs t = refl
+short-tests : (s : OStream) (size : ℕ) (ts : List Test) → size < s .offset → judged (unsound s size ∷ ts) ≡ refusedWith (refusal 6)
+short-tests s size ts h = ap (λ (b : Bool). judged (record { fails = not b; error = refusal 6 } ∷ ts)) (short-unsound s size h)
 
-pub is-float : (id : ℕ) (w : Width) (x : ℕ) → opOf (λ s size. floatCall s size id w x) ≡ op (puts (idTooLarge id ∷ []) (field (float id w x)))
-is-float id w x = refl
+short-verdict : (w : Write) (s : OStream) (size : ℕ) → size < s .offset → judged (op w .tests s size) ≡ refusedWith (refusal 6)
+short-verdict (puts ts x) s size h = short-tests s size ts h
+short-verdict (opens id) s size h = short-tests s size (tooDeep s ∷ idTooLarge id ∷ []) h
+short-verdict closes s size h = short-tests s size (noneOpen s ∷ []) h
+short-verdict keeps s size h = short-tests s size (noneOpen s ∷ []) h
 
-pub is-payload : (id : ℕ) (r : Raw) (bs : List ℕ) → opOf (λ s size. payloadCall s size id r bs) ≡ op (puts (idTooLarge id ∷ payloadTooLong (length bs) ∷ []) (field (payload id r bs)))
-is-payload id r bs = refl
+-- "Number 6: the writer state isn't sound for the lent buffer", so such calls may stand anywhere in a series.
+pub short-write : (w : Write) (s : OStream) (b : List ℕ) (place : ℕ) → length b < s .offset → said (writes (op w) b place) s .numbers ≡ 6 ∷ []
+unfolding called calledBy
+short-write w s b place h = ap (λ (v : Verdict). numbersIn (calledBy v (callOf (op w) s (length b)) s b place .answer)) (short-verdict w s (length b) h)
 
-pub is-unsigned-array : (id : ℕ) (ns : List ℕ) → opOf (λ s size. unsignedArrayCall s size id ns) ≡ op (puts (idTooLarge id ∷ arrayTooLong (length ns) ∷ []) (field (unsignedArray id ns)))
-is-unsigned-array id ns = refl
+pub short-drain : (s : OStream) (b : List ℕ) → length b < s .offset → said (drains b) s .numbers ≡ 6 ∷ []
+unfolding draining
+short-drain s b h = ap (λ (v : Verdict). numbersOf (countedBy v s 0 .answer)) (short-tests s (length b) [] h)
 
-pub is-signed-array : (id : ℕ) (zs : List ℤ) → opOf (λ s size. signedArrayCall s size id zs) ≡ op (puts (idTooLarge id ∷ arrayTooLong (length zs) ∷ []) (field (signedArray id zs)))
-is-signed-array id zs = refl
-
-pub is-float-array : (id : ℕ) (w : Width) (xs : List ℕ) → opOf (λ s size. floatArrayCall s size id w xs) ≡ op (puts (idTooLarge id ∷ arrayTooLong (length xs) ∷ []) (field (floatArray id w xs)))
-is-float-array id w xs = refl
-
-pub is-begin : (id : ℕ) → opOf (λ s size. beginCall s size id) ≡ op (opens id)
-is-begin id = refl
-
-pub is-end : opOf endCall ≡ op closes
-is-end = refl
-
-pub is-end-keep : opOf endKeepCall ≡ op keeps
-is-end-keep = refl
+-- "Number 5 judges the new buffer there, then number 6 the state by the old one."
+pub short-change : (s : OStream) (old new : List ℕ) (o : ℕ) (drained : Bool) → length old < s .offset
+    → said (changes old new o drained) s .numbers ≡ pick (badBuffer (length new) o drained .fails) 5 6 ∷ []
+unfolding changing
+short-change s old new o drained h = ap (λ (v : Verdict). numbersOf (countedBy (pick (badBuffer (length new) o drained .fails) (refusedWith (refusal 5)) v) s o .answer)) (short-tests s (length old) [] h) ∙ go (badBuffer (length new) o drained .fails)
+  where
+    go : (t : Bool) → numbersOf (countedBy (pick t (refusedWith (refusal 5)) (refusedWith (refusal 6))) s o .answer) ≡ pick t 5 6 ∷ []
+    go true = refl
+    go false = refl

@@ -1,20 +1,20 @@
--- The writer's run theorem: whatever writes, drains and buffer changes come, no byte is lost or made up, so that what was sent, once all
--- is out, is the writes' whole output; and drains at "full" and at the end are no more than the bytes.
-use Prim.Native.Nat.{ℕ, zero, suc, _+_, _-_, _≤_, _<_, min}
+-- The writer's run theorem: whatever writes, drains, buffer changes and refused calls come, no byte is lost or made up, so that what was
+-- sent, once no write is left, is the whole output of the accepted writes, and the refused ones have their numbers.
+use Prim.Native.Nat.{ℕ, _+_, _-_, _≤_, _<_, min}
 use native.Mathlib.Nat.{le-refl}
 use native.Mathlib.Omega.{arith}
 use mathlib.Core.Path.{_≡_, refl, sym, ap, _∙_, subst}
-use mathlib.Core.Bool.{Bool, true, false, not, _&&_, _||_}
+use mathlib.Core.Bool.{Bool, true, false}
 use mathlib.Core.List.{List, [], _∷_, _++_, append-assoc, append-nil}
-use lib.Dec.{ltb, leb, eqb}
-use borrow.Author.Tests.{ltb-true, ltb-false, leb-true, leb-false, le-ltb, le-leb, lt-leb}
-use lib.ListN.{length, take, drop, length-append, length-take, length-drop, take-append-drop, drop-of-length-le}
-use lib.Seq.{take-all, drop-append-le, drop-drop, drop-append-add}
+use lib.Dec.{ltb, leb}
+use borrow.Author.Tests.{ltb-false, leb-true, leb-false, le-ltb, le-leb, lt-leb}
+use lib.ListN.{length, take, drop, length-take, length-drop, take-append-drop, drop-of-length-le}
+use lib.Seq.{take-all, take-take, take-append-le, length-take-le, drop-append-le, drop-drop}
 use Rattle.layout.specs.Limits.{pick}
 use Rattle.layout.specs.Message.{All}
 use Rattle.types.specs.declared.Error.{Error}
-use Rattle.types.specs.declared.Error.the-variants.{BadBuffer}
-use Rattle.emit.specs.Put.{put, over}
+use Rattle.types.specs.Types.{numberOf, refusal}
+use Rattle.emit.specs.Put.{put}
 use Rattle.emit.proofs.Writes.{put-is, take-over, length-put}
 use Rattle.ostream.specs.declared.OStream.{OStream}
 use Rattle.ostream.specs.declared.Answer.the-variants.{Done, Full, Refused}
@@ -22,36 +22,90 @@ use Rattle.ostream.specs.declared.Written.{Written}
 use Rattle.ostream.specs.declared.Count.the-variants as Counts
 use Rattle.ostream.specs.declared.Counted.{Counted}
 use Rattle.ostream.specs.Stream.{at, soundStream}
-use Rattle.ostream.specs.Emission.{Test, Verdict, accepted, refusedWith, judged, refused, Call, answered, left, called, leaves, calledBy, leavesBy}
-use Rattle.ostream.specs.Buffer.{countedBy, draining, changing}
-use Rattle.ostream.proofs.Called.{Sound, is-sound, both}
-use Rattle.writes.specs.Series.{Able, Op, callOf, Steady, outputs, Desk, Act, write, drain, change, wrote, none, counts, sending, writing, act, acts, whole}
+use Rattle.ostream.specs.Emission.{Verdict, accepted, refusedWith, judged, refused, Call, answered, left, called, leaves, calledBy, leavesBy}
+use Rattle.ostream.specs.Calls.{unsound}
+use Rattle.ostream.specs.Buffer.{badBuffer, countedBy, draining, changing}
+use Rattle.ostream.proofs.Called.{is-sound, both}
+use Rattle.writes.specs.Series.{Able, Op, callOf, verdict, outputBy, doneBy, numbersBy, Steady, outputs, refusals, finally, Desk, numbersIn, numbersOf, Other, writes, drains, changes}
+use Rattle.writes.specs.Series.{Act, write, drain, change, aside, other, wrote, beside, sending, writing, said, act, acts, Refusal, Allowed, Lawful}
 
 -- ---- what is kept
 
+-- All that the series comes to: what was sent, what stands in the buffer, and what is still to be put out; its refused writes; and its last
+-- state, at a position.
+unfoldable pub whole : Desk → List ℕ
+whole d = d .sent ++ (drop (length (d .reserved)) (take (d .stream .offset) (d .buf)) ++ drop (d .place) (outputs (d .stream) (d .ops)))
+
+unfoldable pub wholeRefused : Desk → List ℕ
+wholeRefused d = d .refused ++ refusals (d .stream) (d .ops)
+
+unfoldable pub lastState : Desk → ℕ → OStream
+lastState d p = at (finally (d .stream) (d .ops)) p
+
 abbrev pub Placed : ℕ → OStream → List Op → Type 0
 Placed place s [] = place ≡ 0
-Placed place s (op ∷ ops) = place ≤ length (op .output s)
+Placed place s (op ∷ ops) = place ≤ length (outputBy (verdict op s) op s)
 
 pub record Fine (d : Desk) : Type 0 where
   pub sound : Able (d .stream) (length (d .buf))
-  pub reserved : d .reserved ≤ d .stream .offset
+  pub reserved : length (d .reserved) ≤ d .stream .offset
+  pub as-came : take (length (d .reserved)) (d .buf) ≡ d .reserved
   pub steady : All Steady (d .ops)
   pub placed : Placed (d .place) (d .stream) (d .ops)
 
 pub record Kept (d d′ : Desk) : Type 0 where
   pub fine : Fine d′
   pub same : whole d′ ≡ whole d
+  pub told : wholeRefused d′ ≡ wholeRefused d
+  pub left : (p : ℕ) → lastState d′ p ≡ lastState d p
 
--- ---- outputs do not depend on the position
+-- ---- a write does not look at the position
+
+module _ (op : Op) (h : Steady op) (s : OStream) (p : ℕ) where
+  verdict-at : verdict op (at s p) ≡ verdict op s
+  verdict-at = h .tests s p p (le-refl p)
+
+  output-at : outputBy (verdict op (at s p)) op (at s p) ≡ outputBy (verdict op s) op s
+  output-at = ap (λ (v : Verdict). outputBy v op (at s p)) verdict-at ∙ go (verdict op s)
+    where
+      go : (v : Verdict) → outputBy v op (at s p) ≡ outputBy v op s
+      go accepted = h .outputs s p
+      go (refusedWith e) = refl
+
+  done-at : (q : ℕ) → at (doneBy (verdict op (at s p)) op (at s p)) q ≡ at (doneBy (verdict op s) op s) q
+  done-at q = ap (λ (v : Verdict). at (doneBy v op (at s p)) q) verdict-at ∙ go (verdict op s)
+    where
+      go : (v : Verdict) → at (doneBy v op (at s p)) q ≡ at (doneBy v op s) q
+      go accepted = h .leaves s p q
+      go (refusedWith e) = refl
 
 pub outputs-at : (s : OStream) (p : ℕ) (ops : List Op) → All Steady ops → outputs (at s p) ops ≡ outputs s ops
 unfolding outputs
 outputs-at s p [] h = refl
 outputs-at s p (op ∷ ops) h =
-    ap (λ (l : List ℕ). l ++ outputs (op .done (at s p)) ops) (h .0 .outputs s p)
-    ∙ ap (λ (l : List ℕ). op .output s ++ l)
-    (sym (outputs-at (op .done (at s p)) 0 ops (h .1)) ∙ ap (λ (s : OStream). outputs s ops) (h .0 .leaves s p 0) ∙ outputs-at (op .done s) 0 ops (h .1))
+    let x : OStream = doneBy (verdict op (at s p)) op (at s p) in
+    let y : OStream = doneBy (verdict op s) op s in
+    ap (λ (l : List ℕ). l ++ outputs x ops) (output-at op (h .0) s p)
+    ∙ ap (λ (l : List ℕ). outputBy (verdict op s) op s ++ l)
+    (sym (outputs-at x 0 ops (h .1)) ∙ ap (λ (s : OStream). outputs s ops) (done-at op (h .0) s p 0) ∙ outputs-at y 0 ops (h .1))
+
+pub refusals-at : (s : OStream) (p : ℕ) (ops : List Op) → All Steady ops → refusals (at s p) ops ≡ refusals s ops
+unfolding refusals
+refusals-at s p [] h = refl
+refusals-at s p (op ∷ ops) h =
+    let x : OStream = doneBy (verdict op (at s p)) op (at s p) in
+    let y : OStream = doneBy (verdict op s) op s in
+    ap (λ (v : Verdict). numbersBy v ++ refusals x ops) (verdict-at op (h .0) s p)
+    ∙ ap (λ (l : List ℕ). numbersBy (verdict op s) ++ l)
+    (sym (refusals-at x 0 ops (h .1)) ∙ ap (λ (s : OStream). refusals s ops) (done-at op (h .0) s p 0) ∙ refusals-at y 0 ops (h .1))
+
+pub finally-at : (s : OStream) (p : ℕ) (ops : List Op) (q : ℕ) → All Steady ops → at (finally (at s p) ops) q ≡ at (finally s ops) q
+unfolding finally
+finally-at s p [] q h = refl
+finally-at s p (op ∷ ops) q h =
+    let x : OStream = doneBy (verdict op (at s p)) op (at s p) in
+    let y : OStream = doneBy (verdict op s) op s in
+    sym (finally-at x 0 ops q (h .1)) ∙ ap (λ (s : OStream). at (finally s ops) q) (done-at op (h .0) s p 0) ∙ finally-at y 0 ops q (h .1)
 
 -- ---- a write
 
@@ -59,13 +113,21 @@ outputs-at s p (op ∷ ops) h =
 below : (b : List ℕ) (p : ℕ) (xs : List ℕ) → p ≤ length b → take (p + length (take (length b - p) xs)) (put b p xs) ≡ take p b ++ take (length b - p) xs
 below b p xs h = ap (take (p + length (take (length b - p) xs))) (put-is b p xs) ∙ take-over b p (take (length b - p) xs) h
 
+-- what stood below it stays
+below-stays : (b : List ℕ) (p : ℕ) (xs : List ℕ) (r : ℕ) → p ≤ length b → r ≤ p → take r (put b p xs) ≡ take r b
+below-stays b p xs r h l =
+    sym (take-take r (p + length (take (length b - p) xs)) (put b p xs) (omega arith))
+    ∙ ap (take r) (below b p xs h)
+    ∙ take-append-le r (take p b) (take (length b - p) xs) (omega (arith, length-take-le p b h))
+    ∙ take-take r p b l
+
 -- a place in the next write
 pub at-start : (s : OStream) (ops : List Op) → Placed 0 s ops
 at-start s [] = refl
 at-start s (op ∷ ops) = omega arith
 
 -- a sound state at another position
-sound-at : (s : OStream) (size p q : ℕ) → Able s size → p ≤ q → Able (at s p) q
+pub sound-at : (s : OStream) (size p q : ℕ) → Able s size → p ≤ q → Able (at s p) q
 unfolding soundStream
 sound-at s size p q h l = let r = both (leb (s .offset) size) _ (h .0) in (simp (le-leb p q l) (r .1), h .1)
 
@@ -82,49 +144,73 @@ module _ (d : Desk) (op : Op) (rest : List Op) (f : Fine d) (e : d .ops ≡ op �
   abbrev k : Call
   k = callOf op s (length b)
 
+  abbrev r : ℕ
+  r = length (d .reserved)
+
   steady : All Steady (op ∷ rest)
   steady = subst (All Steady) e (f .steady)
-
-  placed : d .place ≤ length o
-  placed = subst (λ (ops : List Op). Placed (d .place) s ops) e (f .placed)
 
   inside : s .offset ≤ length b
   inside = is-sound s (length b) (f .sound .0) .inside
 
-  -- the bytes in the buffer, with those that a write adds
-  grown : (xs : List ℕ) → drop (d .reserved) (take (s .offset) b ++ xs) ≡ drop (d .reserved) (take (s .offset) b) ++ xs
-  grown xs = drop-append-le (d .reserved) (take (s .offset) b) xs (omega (arith, length-take (s .offset) b, inside, f .reserved))
+  -- its tests say the same over this buffer
+  here : judged (k .tests) ≡ verdict op s
+  here = steady .0 .tests s (s .offset) (length b) inside
 
-  whole-is : whole d ≡ d .sent ++ (drop (d .reserved) (take (s .offset) b) ++ drop (d .place) (o ++ outputs (op .done s) rest))
-  unfolding whole outputs
-  whole-is = ap (λ (ops : List Op). d .sent ++ (drop (d .reserved) (take (s .offset) b) ++ drop (d .place) (outputs s ops))) e
+  placed : d .place ≤ length (outputBy (verdict op s) op s)
+  placed = subst (λ (ops : List Op). Placed (d .place) s ops) e (f .placed)
+
+  pub placed-in : verdict op s ≡ accepted → d .place ≤ length o
+  placed-in a = subst (λ (v : Verdict). d .place ≤ length (outputBy v op s)) a placed
+
+  -- the bytes in the buffer, with those that a write adds
+  grown : (xs : List ℕ) → drop r (take (s .offset) b ++ xs) ≡ drop r (take (s .offset) b) ++ xs
+  grown xs = drop-append-le r (take (s .offset) b) xs (omega (arith, length-take (s .offset) b, inside, f .reserved))
+
+  -- what comes first, by what the tests say
+  pub outputs-first : (v : Verdict) → verdict op s ≡ v → outputs s (d .ops) ≡ outputBy v op s ++ outputs (doneBy v op s) rest
+  unfolding outputs
+  outputs-first v a = ap (outputs s) e ∙ ap (λ (v : Verdict). outputBy v op s ++ outputs (doneBy v op s) rest) a
+
+  refusals-first : (v : Verdict) → verdict op s ≡ v → refusals s (d .ops) ≡ numbersBy v ++ refusals (doneBy v op s) rest
+  unfolding refusals
+  refusals-first v a = ap (refusals s) e ∙ ap (λ (v : Verdict). numbersBy v ++ refusals (doneBy v op s) rest) a
+
+  finally-first : (v : Verdict) → verdict op s ≡ v → (q : ℕ) → at (finally s (d .ops)) q ≡ at (finally (doneBy v op s) rest) q
+  unfolding finally
+  finally-first v a q = ap (λ (ops : List Op). at (finally s ops) q) e ∙ ap (λ (v : Verdict). at (finally (doneBy v op s) rest) q) a
+
+  whole-is : (v : Verdict) → verdict op s ≡ v → whole d ≡ d .sent ++ (drop r (take (s .offset) b) ++ drop (d .place) (outputBy v op s ++ outputs (doneBy v op s) rest))
+  unfolding whole
+  whole-is v a = ap (λ (l : List ℕ). d .sent ++ (drop r (take (s .offset) b) ++ drop (d .place) l)) (outputs-first v a)
 
   -- all of it goes
-  all-goes : judged (k .tests) ≡ accepted → length o - d .place ≤ length b - s .offset
+  all-goes : verdict op s ≡ accepted → length o - d .place ≤ length b - s .offset
       → (called k s b (d .place) ≡ record { answer = Done; stream = at (op .done s) (s .offset + (length o - d .place)) }) × (leaves k s b (d .place) ≡ put b (s .offset) (drop (d .place) o))
   unfolding called leaves calledBy leavesBy answered left
-  all-goes a r =
-      let t : ltb (length o) (d .place) ≡ false = le-ltb _ _ placed in
-      let u : leb (length o - d .place) (length b - s .offset) ≡ true = le-leb _ _ r in
-      (ap (λ (v : Verdict). calledBy v k s b (d .place)) a ∙ simp (t, u), ap (λ (v : Verdict). leavesBy v k s b (d .place)) a ∙ simp t)
+  all-goes a g =
+      let t : ltb (length o) (d .place) ≡ false = le-ltb _ _ (placed-in a) in
+      let u : leb (length o - d .place) (length b - s .offset) ≡ true = le-leb _ _ g in
+      (ap (λ (v : Verdict). calledBy v k s b (d .place)) (here ∙ a) ∙ simp (t, u), ap (λ (v : Verdict). leavesBy v k s b (d .place)) (here ∙ a) ∙ simp t)
 
   -- as much as there is room for
-  part-goes : judged (k .tests) ≡ accepted → length b - s .offset < length o - d .place
+  part-goes : verdict op s ≡ accepted → length b - s .offset < length o - d .place
       → (called k s b (d .place) ≡ record { answer = Full (d .place + (length b - s .offset)); stream = at s (length b) }) × (leaves k s b (d .place) ≡ put b (s .offset) (drop (d .place) o))
   unfolding called leaves calledBy leavesBy answered left
-  part-goes a r =
-      let t : ltb (length o) (d .place) ≡ false = le-ltb _ _ placed in
-      let u : leb (length o - d .place) (length b - s .offset) ≡ false = lt-leb _ _ r in
-      (ap (λ (v : Verdict). calledBy v k s b (d .place)) a ∙ simp (t, u), ap (λ (v : Verdict). leavesBy v k s b (d .place)) a ∙ simp t)
+  part-goes a g =
+      let t : ltb (length o) (d .place) ≡ false = le-ltb _ _ (placed-in a) in
+      let u : leb (length o - d .place) (length b - s .offset) ≡ false = lt-leb _ _ g in
+      (ap (λ (v : Verdict). calledBy v k s b (d .place)) (here ∙ a) ∙ simp (t, u), ap (λ (v : Verdict). leavesBy v k s b (d .place)) (here ∙ a) ∙ simp t)
 
-  outputs-first : outputs s (d .ops) ≡ o ++ outputs (op .done s) rest
-  unfolding outputs
-  outputs-first = ap (outputs s) e
+  -- nothing goes
+  none-goes : (x : Error) → verdict op s ≡ refusedWith x → (called k s b (d .place) ≡ refused s x) × (leaves k s b (d .place) ≡ b)
+  unfolding called leaves calledBy leavesBy
+  none-goes x a = (ap (λ (v : Verdict). calledBy v k s b (d .place)) (here ∙ a), ap (λ (v : Verdict). leavesBy v k s b (d .place)) (here ∙ a))
 
-  kept-all : judged (k .tests) ≡ accepted → length o - d .place ≤ length b - s .offset
+  pub kept-all : verdict op s ≡ accepted → length o - d .place ≤ length b - s .offset
       → Kept d (wrote d rest Done (at (op .done s) (s .offset + (length o - d .place))) (put b (s .offset) (drop (d .place) o)))
-  unfolding whole
-  kept-all a r =
+  unfolding whole wholeRefused lastState
+  kept-all a g =
       let X : List ℕ = drop (d .place) o in
       let n : length X ≡ length o - d .place = length-drop (d .place) o in
       let c : take (length b - s .offset) X ≡ X = take-all (length b - s .offset) X (omega (arith, n)) in
@@ -134,27 +220,33 @@ module _ (d : Desk) (op : Op) (rest : List Op) (f : Fine d) (e : d .ops ≡ op �
       ∙ below b (s .offset) X inside ∙ ap (λ (l : List ℕ). take (s .offset) b ++ l) c in
       let l : length (put b (s .offset) X) ≡ length b = length-put b (s .offset) X inside in
       let R : List ℕ = outputs (op .done s) rest in
+      let z : OStream = at (op .done s) (s .offset + (length o - d .place)) in
       record {
         fine =
             record {
               sound = steady .0 .sound s (length b) (s .offset + (length o - d .place)) (length (put b (s .offset) X)) (f .sound) a (omega (arith, l, inside));
               reserved = omega (arith, f .reserved);
+              as-came = below-stays b (s .offset) X r inside (f .reserved) ∙ f .as-came;
               steady = steady .1;
-              placed = at-start (at (op .done s) (s .offset + (length o - d .place))) rest;
+              placed = at-start z rest;
             };
         same =
-            ap (λ (l : List ℕ). d .sent ++ (drop (d .reserved) l ++ outputs (at (op .done s) (s .offset + (length o - d .place))) rest)) w
-            ∙ ap (λ (l : List ℕ). d .sent ++ (l ++ outputs (at (op .done s) (s .offset + (length o - d .place))) rest)) (grown X)
-            ∙ ap (λ (l : List ℕ). d .sent ++ ((drop (d .reserved) (take (s .offset) b) ++ X) ++ l)) (outputs-at (op .done s) (s .offset + (length o - d .place)) rest (steady .1))
-            ∙ ap (λ (l : List ℕ). d .sent ++ l) (append-assoc (drop (d .reserved) (take (s .offset) b)) X R)
-            ∙ ap (λ (l : List ℕ). d .sent ++ (drop (d .reserved) (take (s .offset) b) ++ l)) (sym (drop-append-le (d .place) o R placed))
-            ∙ sym whole-is;
+            ap (λ (l : List ℕ). d .sent ++ (drop r l ++ outputs z rest)) w
+            ∙ ap (λ (l : List ℕ). d .sent ++ (l ++ outputs z rest)) (grown X)
+            ∙ ap (λ (l : List ℕ). d .sent ++ ((drop r (take (s .offset) b) ++ X) ++ l)) (outputs-at (op .done s) (s .offset + (length o - d .place)) rest (steady .1))
+            ∙ ap (λ (l : List ℕ). d .sent ++ l) (append-assoc (drop r (take (s .offset) b)) X R)
+            ∙ ap (λ (l : List ℕ). d .sent ++ (drop r (take (s .offset) b) ++ l)) (sym (drop-append-le (d .place) o R (placed-in a)))
+            ∙ sym (whole-is accepted a);
+        told =
+            ap (λ (l : List ℕ). l ++ refusals z rest) (append-nil (d .refused))
+            ∙ ap (λ (l : List ℕ). d .refused ++ l) (refusals-at (op .done s) (s .offset + (length o - d .place)) rest (steady .1) ∙ sym (refusals-first accepted a));
+        left = λ q. finally-at (op .done s) (s .offset + (length o - d .place)) rest q (steady .1) ∙ sym (finally-first accepted a q);
       }
 
-  kept-part : judged (k .tests) ≡ accepted → length b - s .offset < length o - d .place
+  pub kept-part : verdict op s ≡ accepted → length b - s .offset < length o - d .place
       → Kept d (wrote d rest (Full (d .place + (length b - s .offset))) (at s (length b)) (put b (s .offset) (drop (d .place) o)))
-  unfolding whole
-  kept-part a r =
+  unfolding whole wholeRefused lastState
+  kept-part a g =
       let X : List ℕ = drop (d .place) o in
       let room : ℕ = length b - s .offset in
       let n : length X ≡ length o - d .place = length-drop (d .place) o in
@@ -164,51 +256,63 @@ module _ (d : Desk) (op : Op) (rest : List Op) (f : Fine d) (e : d .ops ≡ op �
       let l : length (put b (s .offset) X) ≡ length b = length-put b (s .offset) X inside in
       let R : List ℕ = outputs (op .done s) rest in
       let q : drop (d .place + room) (outputs (at s (length b)) (d .ops)) ≡ drop room X ++ R =
-      ap (drop (d .place + room)) (outputs-at s (length b) (d .ops) (f .steady) ∙ outputs-first)
-      ∙ sym (drop-drop room (d .place) (o ++ R)) ∙ ap (drop room) (drop-append-le (d .place) o R placed) ∙ drop-append-le room X R (omega (arith, n)) in
+      ap (drop (d .place + room)) (outputs-at s (length b) (d .ops) (f .steady) ∙ outputs-first accepted a)
+      ∙ sym (drop-drop room (d .place) (o ++ R)) ∙ ap (drop room) (drop-append-le (d .place) o R (placed-in a)) ∙ drop-append-le room X R (omega (arith, n)) in
       record {
         fine =
             record {
               sound = sound-at s (length b) (length b) (length (put b (s .offset) X)) (f .sound) (omega (arith, l));
               reserved = omega (arith, f .reserved, inside);
+              as-came = below-stays b (s .offset) X r inside (f .reserved) ∙ f .as-came;
               steady = f .steady;
-              placed = subst (λ (ops : List Op). Placed (d .place + room) (at s (length b)) ops) (sym e) (subst (λ (l : List ℕ). d .place + room ≤ length l) (sym (steady .0 .outputs s (length b))) (omega (arith, placed)));
+              placed =
+                  subst (λ (ops : List Op). Placed (d .place + room) (at s (length b)) ops) (sym e)
+                  (subst (λ (l : List ℕ). d .place + room ≤ length l) (sym (output-at op (steady .0) s (length b) ∙ ap (λ (v : Verdict). outputBy v op s) a)) (omega (arith, placed-in a)));
             };
         same =
-            ap (λ (l : List ℕ). d .sent ++ (drop (d .reserved) l ++ drop (d .place + room) (outputs (at s (length b)) (d .ops)))) w
+            ap (λ (l : List ℕ). d .sent ++ (drop r l ++ drop (d .place + room) (outputs (at s (length b)) (d .ops)))) w
             ∙ ap (λ (l : List ℕ). d .sent ++ (l ++ drop (d .place + room) (outputs (at s (length b)) (d .ops)))) (grown (take room X))
-            ∙ ap (λ (l : List ℕ). d .sent ++ ((drop (d .reserved) (take (s .offset) b) ++ take room X) ++ l)) q
-            ∙ ap (λ (l : List ℕ). d .sent ++ l) (append-assoc (drop (d .reserved) (take (s .offset) b)) (take room X) (drop room X ++ R))
-            ∙ ap (λ (l : List ℕ). d .sent ++ (drop (d .reserved) (take (s .offset) b) ++ l)) (sym (append-assoc (take room X) (drop room X) R) ∙ ap (λ (l : List ℕ). l ++ R) (take-append-drop room X))
-            ∙ ap (λ (l : List ℕ). d .sent ++ (drop (d .reserved) (take (s .offset) b) ++ l)) (sym (drop-append-le (d .place) o R placed))
-            ∙ sym whole-is;
+            ∙ ap (λ (l : List ℕ). d .sent ++ ((drop r (take (s .offset) b) ++ take room X) ++ l)) q
+            ∙ ap (λ (l : List ℕ). d .sent ++ l) (append-assoc (drop r (take (s .offset) b)) (take room X) (drop room X ++ R))
+            ∙ ap (λ (l : List ℕ). d .sent ++ (drop r (take (s .offset) b) ++ l)) (sym (append-assoc (take room X) (drop room X) R) ∙ ap (λ (l : List ℕ). l ++ R) (take-append-drop room X))
+            ∙ ap (λ (l : List ℕ). d .sent ++ (drop r (take (s .offset) b) ++ l)) (sym (drop-append-le (d .place) o R (placed-in a)))
+            ∙ sym (whole-is accepted a);
+        told = ap (λ (l : List ℕ). l ++ refusals (at s (length b)) (d .ops)) (append-nil (d .refused)) ∙ ap (λ (l : List ℕ). d .refused ++ l) (refusals-at s (length b) (d .ops) (f .steady));
+        left = λ q. finally-at s (length b) (d .ops) q (f .steady);
       }
     where
       least : (x y : ℕ) → x ≤ y → min x y ≡ x
       least x y h = omega arith
 
--- a refused one
-refuses : (d : Desk) (op : Op) (x : Error) → judged (op .tests (d .stream) (length (d .buf))) ≡ refusedWith x
-    → called (callOf op (d .stream) (length (d .buf))) (d .stream) (d .buf) (d .place) ≡ refused (d .stream) x
-unfolding called calledBy
-refuses d op x a = ap (λ (v : Verdict). calledBy v (callOf op (d .stream) (length (d .buf))) (d .stream) (d .buf) (d .place)) a
+  -- a refused one is passed over: it has written nothing, and its number is kept
+  pub kept-none : (x : Error) → verdict op s ≡ refusedWith x → Kept d (wrote d rest (Refused x) s b)
+  unfolding whole wholeRefused lastState
+  kept-none x a =
+      let z : d .place ≤ 0 = subst (λ (v : Verdict). d .place ≤ length (outputBy v op s)) a placed in
+      let y : 0 ≡ d .place = omega arith in
+      record {
+        fine = record { sound = f .sound; reserved = f .reserved; as-came = f .as-came; steady = steady .1; placed = at-start s rest };
+        same = ap (λ (n : ℕ). d .sent ++ (drop r (take (s .offset) b) ++ drop n (outputs s rest))) y ∙ sym (whole-is (refusedWith x) a);
+        told = append-assoc (d .refused) (numberOf x ∷ []) (refusals s rest) ∙ ap (λ (l : List ℕ). d .refused ++ l) (sym (refusals-first (refusedWith x) a));
+        left = λ q. sym (finally-first (refusedWith x) a q);
+      }
 
 -- a write, by its answer
-by-write : (P : Desk → Type 0) (d : Desk) (op : Op) (rest : List Op) (f : Fine d) (e : d .ops ≡ op ∷ rest)
-    → (judged (op .tests (d .stream) (length (d .buf))) ≡ accepted → length (op .output (d .stream)) - d .place ≤ length (d .buf) - d .stream .offset
+pub by-write : (P : Desk → Type 0) (d : Desk) (op : Op) (rest : List Op) (f : Fine d) (e : d .ops ≡ op ∷ rest)
+    → (verdict op (d .stream) ≡ accepted → length (op .output (d .stream)) - d .place ≤ length (d .buf) - d .stream .offset
     → P (wrote d rest Done (at (op .done (d .stream)) (d .stream .offset + (length (op .output (d .stream)) - d .place))) (put (d .buf) (d .stream .offset) (drop (d .place) (op .output (d .stream))))))
-    → (judged (op .tests (d .stream) (length (d .buf))) ≡ accepted → length (d .buf) - d .stream .offset < length (op .output (d .stream)) - d .place
+    → (verdict op (d .stream) ≡ accepted → length (d .buf) - d .stream .offset < length (op .output (d .stream)) - d .place
     → P (wrote d rest (Full (d .place + (length (d .buf) - d .stream .offset))) (at (d .stream) (length (d .buf))) (put (d .buf) (d .stream .offset) (drop (d .place) (op .output (d .stream))))))
-    → ((x : Error) → judged (op .tests (d .stream) (length (d .buf))) ≡ refusedWith x → P d)
+    → ((x : Error) → verdict op (d .stream) ≡ refusedWith x → P (wrote d rest (Refused x) (d .stream) (d .buf)))
     → P (writing d (op ∷ rest))
 unfolding writing
 by-write P d op rest f e done part none =
-    go (judged (op .tests (d .stream) (length (d .buf)))) refl (leb (length (op .output (d .stream)) - d .place) (length (d .buf) - d .stream .offset)) refl
+    go (verdict op (d .stream)) refl (leb (length (op .output (d .stream)) - d .place) (length (d .buf) - d .stream .offset)) refl
   where
     c : Call
     c = callOf op (d .stream) (length (d .buf))
 
-    go : (v : Verdict) → judged (op .tests (d .stream) (length (d .buf))) ≡ v → (t : Bool) → leb (length (op .output (d .stream)) - d .place) (length (d .buf) - d .stream .offset) ≡ t
+    go : (v : Verdict) → verdict op (d .stream) ≡ v → (t : Bool) → leb (length (op .output (d .stream)) - d .place) (length (d .buf) - d .stream .offset) ≡ t
         → P (wrote d rest (called c (d .stream) (d .buf) (d .place) .answer) (called c (d .stream) (d .buf) (d .place) .stream) (leaves c (d .stream) (d .buf) (d .place)))
     go accepted a true t =
         let q = all-goes d op rest f e a (leb-true _ _ t) in
@@ -219,40 +323,46 @@ by-write P d op rest f e done part none =
         subst (λ (r : Written). P (wrote d rest (r .answer) (r .stream) (leaves c (d .stream) (d .buf) (d .place)))) (sym (q .0))
         (subst (λ (l : List ℕ). P (wrote d rest (Full (d .place + (length (d .buf) - d .stream .offset))) (at (d .stream) (length (d .buf))) l)) (sym (q .1)) (part a (leb-false _ _ t)))
     go (refusedWith x) a t u =
-        subst (λ (r : Written). P (wrote d rest (r .answer) (r .stream) (leaves c (d .stream) (d .buf) (d .place)))) (sym (refuses d op x a)) (none x a)
+        let q = none-goes d op rest f e x a in
+        subst (λ (r : Written). P (wrote d rest (r .answer) (r .stream) (leaves c (d .stream) (d .buf) (d .place)))) (sym (q .0))
+        (subst (λ (l : List ℕ). P (wrote d rest (Refused x) (d .stream) l)) (sym (q .1)) (none x a))
 
 kept-writing : (d : Desk) (ops : List Op) (f : Fine d) → d .ops ≡ ops → Kept d (writing d ops)
 unfolding writing
-kept-writing d [] f e = record { fine = f; same = refl }
-kept-writing d (op ∷ rest) f e = by-write (Kept d) d op rest f e (kept-all d op rest f e) (kept-part d op rest f e) (λ x a. record { fine = f; same = refl })
+kept-writing d [] f e = record { fine = f; same = refl; told = refl; left = λ q. refl }
+kept-writing d (op ∷ rest) f e = by-write (Kept d) d op rest f e (kept-all d op rest f e) (kept-part d op rest f e) (kept-none d op rest f e)
 
 -- ---- a drain, and another buffer
 
 -- the place stays
 same-place : (place : ℕ) (s : OStream) (p : ℕ) (ops : List Op) → All Steady ops → Placed place s ops → Placed place (at s p) ops
 same-place place s p [] h q = q
-same-place place s p (op ∷ ops) h q = subst (λ (l : List ℕ). place ≤ length l) (sym (h .0 .outputs s p)) q
+same-place place s p (op ∷ ops) h q = subst (λ (l : List ℕ). place ≤ length l) (sym (output-at op (h .0) s p)) q
 
-kept-sending : (d : Desk) (b : List ℕ) (o : ℕ) → Fine d → o ≤ length b → Kept d (sending d (Counts.Bytes (d .stream .offset)) (at (d .stream) o) b o)
-unfolding whole
+kept-sending : (d : Desk) (b : List ℕ) (o : ℕ) → Fine d → o ≤ length b → Kept d (sending d (Counts.Bytes (d .stream .offset)) (at (d .stream) o) b (take o b))
+unfolding whole wholeRefused lastState
 kept-sending d b o f h =
-    let y : length (take o b) ≤ o = omega (arith, length-take o b) in
-    let z : drop o (take o b) ≡ [] = drop-of-length-le (take o b) y in
+    let n : length (take o b) ≡ o = length-take-le o b h in
+    let z : drop (length (take o b)) (take o b) ≡ [] = drop-of-length-le (take o b) (le-refl (length (take o b))) in
+    let y : List ℕ = drop (length (d .reserved)) (take (d .stream .offset) (d .buf)) in
     record {
       fine =
           record {
             sound = sound-at (d .stream) (length (d .buf)) o (length b) (f .sound) h;
-            reserved = omega arith;
+            reserved = omega (arith, n);
+            as-came = ap (λ (m : ℕ). take m b) n;
             steady = f .steady;
             placed = same-place (d .place) (d .stream) o (d .ops) (f .steady) (f .placed);
           };
       same =
-          ap (λ (l : List ℕ). (d .sent ++ drop (d .reserved) (take (d .stream .offset) (d .buf))) ++ (l ++ drop (d .place) (outputs (at (d .stream) o) (d .ops)))) z
-          ∙ ap (λ (l : List ℕ). (d .sent ++ drop (d .reserved) (take (d .stream .offset) (d .buf))) ++ drop (d .place) l) (outputs-at (d .stream) o (d .ops) (f .steady))
+          ap (λ (l : List ℕ). (d .sent ++ y) ++ (l ++ drop (d .place) (outputs (at (d .stream) o) (d .ops)))) z
+          ∙ ap (λ (l : List ℕ). (d .sent ++ y) ++ drop (d .place) l) (outputs-at (d .stream) o (d .ops) (f .steady))
           ∙ append-assoc (d .sent) _ _;
+      told = ap (λ (l : List ℕ). d .refused ++ l) (refusals-at (d .stream) o (d .ops) (f .steady));
+      left = λ q. finally-at (d .stream) o (d .ops) q (f .steady);
     }
 
-drained-is : (d : Desk) → Fine d → draining (d .stream) (length (d .buf)) ≡ record { answer = Counts.Bytes (d .stream .offset); stream = at (d .stream) 0 }
+pub drained-is : (d : Desk) → Fine d → draining (d .stream) (length (d .buf)) ≡ record { answer = Counts.Bytes (d .stream .offset); stream = at (d .stream) 0 }
 unfolding draining
 drained-is d f = simp (f .sound .0)
 
@@ -260,238 +370,130 @@ fit : (size o : ℕ) (drained : Bool) → pick drained (leb size o) (ltb size o)
 fit size o true h = omega (arith, leb-false size o h)
 fit size o false h = ltb-false size o h
 
-change-refused : (d : Desk) (b : List ℕ) (o : ℕ) (drained : Bool) → pick drained (leb (length b) o) (ltb (length b) o) ≡ true
-    → changing (d .stream) (length (d .buf)) (length b) o drained ≡ record { answer = Counts.Refused BadBuffer; stream = d .stream }
+pub change-refused : (d : Desk) (b : List ℕ) (o : ℕ) (drained : Bool) → pick drained (leb (length b) o) (ltb (length b) o) ≡ true
+    → changing (d .stream) (length (d .buf)) (length b) o drained ≡ record { answer = Counts.Refused (refusal 5); stream = d .stream }
 unfolding changing
 change-refused d b o drained t = simp t
 
-change-taken : (d : Desk) (b : List ℕ) (o : ℕ) (drained : Bool) → Fine d → pick drained (leb (length b) o) (ltb (length b) o) ≡ false
+pub change-taken : (d : Desk) (b : List ℕ) (o : ℕ) (drained : Bool) → Fine d → pick drained (leb (length b) o) (ltb (length b) o) ≡ false
     → changing (d .stream) (length (d .buf)) (length b) o drained ≡ record { answer = Counts.Bytes (d .stream .offset); stream = at (d .stream) o }
 unfolding changing
 change-taken d b o drained f t = simp (t, f .sound .0)
 
-kept-change : (d : Desk) (b : List ℕ) (o : ℕ) (drained : Bool) → Fine d → Kept d (act (change b o drained) d)
-unfolding act changing
-kept-change d b o drained f = go (pick drained (leb (length b) o) (ltb (length b) o)) refl
+-- a call beside the series leaves all but its number
+kept-beside : (d : Desk) (numbers : List ℕ) → Fine d → Kept d (beside d (d .stream) (d .buf) numbers)
+unfolding whole wholeRefused lastState
+kept-beside d numbers f = record { fine = record { sound = f .sound; reserved = f .reserved; as-came = f .as-came; steady = f .steady; placed = f .placed }; same = refl; told = refl; left = λ q. refl }
+
+-- a change, by its answer
+pub by-change : (P : Desk → Type 0) (d : Desk) (b : List ℕ) (o : ℕ) (drained : Bool) → Fine d
+    → (o ≤ length b → P (sending d (Counts.Bytes (d .stream .offset)) (at (d .stream) o) b (take o b)))
+    → P (beside d (d .stream) (d .buf) (5 ∷ []))
+    → P (act (change b o drained) d)
+unfolding act
+by-change P d b o drained f goes stays = go (pick drained (leb (length b) o) (ltb (length b) o)) refl
   where
     go : (t : Bool) → pick drained (leb (length b) o) (ltb (length b) o) ≡ t
-        → Kept d (sending d (changing (d .stream) (length (d .buf)) (length b) o drained .answer) (changing (d .stream) (length (d .buf)) (length b) o drained .stream) b o)
-    go true t = subst (λ (r : Counted). Kept d (sending d (r .answer) (r .stream) b o)) (sym (change-refused d b o drained t)) (record { fine = f; same = refl })
-    go false t = subst (λ (r : Counted). Kept d (sending d (r .answer) (r .stream) b o)) (sym (change-taken d b o drained f t)) (kept-sending d b o f (fit (length b) o drained t))
+        → P (sending d (changing (d .stream) (length (d .buf)) (length b) o drained .answer) (changing (d .stream) (length (d .buf)) (length b) o drained .stream) b (take o b))
+    go true t = subst (λ (r : Counted). P (sending d (r .answer) (r .stream) b (take o b))) (sym (change-refused d b o drained t)) stays
+    go false t = subst (λ (r : Counted). P (sending d (r .answer) (r .stream) b (take o b))) (sym (change-taken d b o drained f t)) (goes (fit (length b) o drained t))
+
+pub drained-desk : (d : Desk) → Fine d → act drain d ≡ sending d (Counts.Bytes (d .stream .offset)) (at (d .stream) 0) (d .buf) []
+unfolding act
+drained-desk d f = ap (λ (r : Counted). sending d (r .answer) (r .stream) (d .buf) []) (drained-is d f)
+
+-- ---- a refused call: "state and buffer unaltered"
+
+no-number : (n : ℕ) → [] ≡ n ∷ [] → ⊥
+no-number n e = let z : _≡_ {A = ℕ} 0 1 = cc in omega arith
+
+answered-unaltered : (s : OStream) (size total place : ℕ) (z : OStream) → Refusal (numbersIn (answered s size total place z .answer)) → (answered s size total place z .stream ≡ s) × (ltb total place ≡ true)
+unfolding answered
+answered-unaltered s size total place z = go (ltb total place) (leb (total - place) (size - s .offset)) refl
+  where
+    answer : Bool → Bool → Written
+    answer beyond fits =
+        pick beyond (refused s (refusal 11))
+        (pick fits (record { answer = Done; stream = at z (s .offset + (total - place)) }) (record { answer = Full (place + (size - s .offset)); stream = at s size }))
+
+    go : (beyond fits : Bool) → ltb total place ≡ beyond → Refusal (numbersIn (answer beyond fits .answer)) → (answer beyond fits .stream ≡ s) × (ltb total place ≡ true)
+    go true y e n = (refl, e)
+    go false true e n = absurd (no-number (n .0) (n .1))
+    go false false e n = absurd (no-number (n .0) (n .1))
+
+pub unaltered : (c : Call) (s : OStream) (b : List ℕ) (place : ℕ) → Refusal (numbersIn (called c s b place .answer)) → (called c s b place .stream ≡ s) × (leaves c s b place ≡ b)
+unfolding called leaves calledBy leavesBy left
+unaltered c s b place = go (judged (c .tests))
+  where
+    go : (v : Verdict) → Refusal (numbersIn (calledBy v c s b place .answer)) → (calledBy v c s b place .stream ≡ s) × (leavesBy v c s b place ≡ b)
+    go accepted n = let u = answered-unaltered s (length b) (length (c .output)) place (c .done) n in (u .0, simp (u .1))
+    go (refusedWith e) n = (refl, refl)
+
+counted-unaltered : (v : Verdict) (s : OStream) (p : ℕ) → Refusal (numbersOf (countedBy v s p .answer)) → countedBy v s p .stream ≡ s
+counted-unaltered accepted s p n = absurd (no-number (n .0) (n .1))
+counted-unaltered (refusedWith e) s p n = refl
+
+pub said-unaltered : (x : Other) (s : OStream) → Refusal (said x s .numbers) → said x s .stream ≡ s
+unfolding draining changing
+said-unaltered (writes op b place) s n = unaltered (callOf op s (length b)) s b place n .0
+said-unaltered (drains b) s n = counted-unaltered (judged (unsound s (length b) ∷ [])) s 0 n
+said-unaltered (changes old new o drained) s n = counted-unaltered (judged (badBuffer (length new) o drained ∷ unsound s (length old) ∷ [])) s o n
+
+-- a call beside the series, by what it returns
+pub by-aside : (P : Desk → Type 0) (d : Desk) (op : Op) (place : ℕ) → Allowed (aside op place) d → ((numbers : List ℕ) → P (beside d (d .stream) (d .buf) numbers)) → P (act (aside op place) d)
+unfolding act Allowed
+by-aside P d op place h p =
+    let c : Call = callOf op (d .stream) (length (d .buf)) in
+    let u = unaltered c (d .stream) (d .buf) place h in
+    let ns : List ℕ = numbersIn (called c (d .stream) (d .buf) place .answer) in
+    subst (λ (s : OStream). P (beside d s (leaves c (d .stream) (d .buf) place) ns)) (sym (u .0)) (subst (λ (b : List ℕ). P (beside d (d .stream) b ns)) (sym (u .1)) (p ns))
+
+pub by-other : (P : Desk → Type 0) (d : Desk) (x : Other) → Allowed (other x) d → ((numbers : List ℕ) → P (beside d (d .stream) (d .buf) numbers)) → P (act (other x) d)
+unfolding act Allowed
+by-other P d x h p = subst (λ (s : OStream). P (beside d s (d .buf) (said x (d .stream) .numbers))) (sym (said-unaltered x (d .stream) h)) (p (said x (d .stream) .numbers))
+
+-- ---- the run
 
 -- Each act keeps what the series comes to.
-pub keeps : (a : Act) (d : Desk) → Fine d → Kept d (act a d)
+pub keeps : (a : Act) (d : Desk) → Fine d → Allowed a d → Kept d (act a d)
 unfolding act
-keeps write d f = kept-writing d (d .ops) f refl
-keeps drain d f = subst (λ (r : Counted). Kept d (sending d (r .answer) (r .stream) (d .buf) 0)) (sym (drained-is d f)) (kept-sending d (d .buf) 0 f (omega arith))
-keeps (change b o drained) d f = kept-change d b o drained f
+keeps write d f h = kept-writing d (d .ops) f refl
+keeps drain d f h = subst (Kept d) (sym (drained-desk d f)) (kept-sending d (d .buf) 0 f (omega arith))
+keeps (change b o drained) d f h = by-change (Kept d) d b o drained f (kept-sending d b o f) (kept-beside d (5 ∷ []) f)
+keeps (aside op place) d f h = by-aside (Kept d) d op place h (λ numbers. kept-beside d numbers f)
+keeps (other x) d f h = by-other (Kept d) d x h (λ numbers. kept-beside d numbers f)
 
-pub kept : (as′ : List Act) (d : Desk) → Fine d → Kept d (acts as′ d)
-unfolding acts
-kept [] d f = record { fine = f; same = refl }
-kept (a ∷ as′) d f = let k = keeps a d f in let r = kept as′ (act a d) (k .fine) in record { fine = r .fine; same = r .same ∙ k .same }
+pub kept : (as′ : List Act) (d : Desk) → Fine d → Lawful as′ d → Kept d (acts as′ d)
+unfolding acts Lawful
+kept [] d f h = record { fine = f; same = refl; told = refl; left = λ q. refl }
+kept (a ∷ as′) d f h =
+    let k = keeps a d f (h .0) in
+    let r = kept as′ (act a d) (k .fine) (h .1) in
+    record { fine = r .fine; same = r .same ∙ k .same; told = r .told ∙ k .told; left = λ q. r .left q ∙ k .left q }
 
--- THE RUN THEOREM. Once no write is left, a last drain has sent all: the writes' whole output, each byte once and in order.
-pub all-sent : (as′ : List Act) (d : Desk) → Fine d → acts as′ d .ops ≡ [] → act drain (acts as′ d) .sent ≡ whole d
-unfolding act whole outputs
-all-sent as′ d f e =
-    let r = kept as′ d f in
+-- THE RUN THEOREM. Once no write is left, a last drain has sent all: the accepted writes' whole output, each byte once and in order; and
+-- the refused ones were told by their numbers.
+pub all-sent : (as′ : List Act) (d : Desk) → Fine d → Lawful as′ d → acts as′ d .ops ≡ [] → act drain (acts as′ d) .sent ≡ whole d
+unfolding whole outputs
+all-sent as′ d f h e =
+    let r = kept as′ d f h in
     let x = acts as′ d in
     let z : x .place ≡ 0 = subst (λ (ops : List Op). Placed (x .place) (x .stream) ops) e (r .fine .placed) in
-    ap (λ (q : Counted). sending x (q .answer) (q .stream) (x .buf) 0 .sent) (drained-is x (r .fine))
-    ∙ ap (λ (l : List ℕ). x .sent ++ l) (sym (append-nil (drop (x .reserved) (take (x .stream .offset) (x .buf)))))
-    ∙ ap (λ (ops : List Op). x .sent ++ (drop (x .reserved) (take (x .stream .offset) (x .buf)) ++ outputs (x .stream) ops)) (sym e)
-    ∙ ap (λ (n : ℕ). x .sent ++ (drop (x .reserved) (take (x .stream .offset) (x .buf)) ++ drop n (outputs (x .stream) (x .ops)))) (sym z)
+    let y : List ℕ = drop (length (x .reserved)) (take (x .stream .offset) (x .buf)) in
+    ap (λ (q : Desk). q .sent) (drained-desk x (r .fine))
+    ∙ ap (λ (l : List ℕ). x .sent ++ l) (sym (append-nil y))
+    ∙ ap (λ (ops : List Op). x .sent ++ (y ++ outputs (x .stream) ops)) (sym e)
+    ∙ ap (λ (n : ℕ). x .sent ++ (y ++ drop n (outputs (x .stream) (x .ops)))) (sym z)
     ∙ r .same
 
--- ---- how many drains
+pub all-told : (as′ : List Act) (d : Desk) → Fine d → Lawful as′ d → acts as′ d .ops ≡ [] → acts as′ d .refused ≡ wholeRefused d
+unfolding wholeRefused refusals
+all-told as′ d f h e =
+    let r = kept as′ d f h in
+    let x = acts as′ d in
+    sym (append-nil (x .refused)) ∙ ap (λ (ops : List Op). x .refused ++ refusals (x .stream) ops) (sym e) ∙ r .told
 
--- every buffer lent has a byte and starts at 0
-abbrev pub Plain : Act → Type 0
-Plain write = Unit {0}
-Plain drain = Unit {0}
-Plain (change b o drained) = (1 ≤ length b) × (o ≡ 0)
-
--- Counted so far: no more drains than bytes sent, and at "full" the buffer is written to its end.
-pub record Lean (d : Desk) : Type 0 where
-  pub room : 1 ≤ length (d .buf)
-  pub start : d .reserved ≡ 0
-  pub few : d .drains ≤ length (d .sent)
-  pub filled : d .full ≡ true → d .stream .offset ≡ length (d .buf)
-
--- a counted drain sends a byte at least
-sends-one : (d : Desk) → Lean d → counts d ≡ true → 1 ≤ d .stream .offset
-sends-one d l c = go (d .full) refl (none (d .ops)) (ltb 0 (d .stream .offset)) refl c
-  where
-    go : (x : Bool) → d .full ≡ x → (y : Bool) (z : Bool) → ltb 0 (d .stream .offset) ≡ z → (x || (y && z)) ≡ true → 1 ≤ d .stream .offset
-    go true e y z f g = omega (arith, l .filled e, l .room)
-    go false e true true f g = ltb-true 0 (d .stream .offset) f
-    go false e true false f g = let w : _≡_ {A = ℕ} 0 1 = cc in absurd (omega arith)
-    go false e false z f g = let w : _≡_ {A = ℕ} 0 1 = cc in absurd (omega arith)
-
-lean-sending : (d : Desk) (b : List ℕ) → Fine d → Lean d → 1 ≤ length b → Lean (sending d (Counts.Bytes (d .stream .offset)) (at (d .stream) 0) b 0)
-lean-sending d b f l h =
-    let i : d .stream .offset ≤ length (d .buf) = is-sound (d .stream) (length (d .buf)) (f .sound .0) .inside in
-    let n : length (drop (d .reserved) (take (d .stream .offset) (d .buf))) ≡ d .stream .offset =
-    length-drop (d .reserved) (take (d .stream .offset) (d .buf)) ∙ ap (λ (x : ℕ). x - d .reserved) (length-take (d .stream .offset) (d .buf)) ∙ least (d .stream .offset) (length (d .buf)) (d .reserved) i (l .start) in
-    let m : length (d .sent ++ drop (d .reserved) (take (d .stream .offset) (d .buf))) ≡ length (d .sent) + d .stream .offset = length-append (d .sent) _ ∙ ap (λ (x : ℕ). length (d .sent) + x) n in
-    record { room = h; start = refl; few = go (counts d) refl m; filled = λ e. let w : _≡_ {A = ℕ} 0 1 = cc in absurd (omega arith) }
-  where
-    least : (x y z : ℕ) → x ≤ y → z ≡ 0 → min x y - z ≡ x
-    least x y z h e = omega arith
-
-    go : (t : Bool) → counts d ≡ t → {n : ℕ} → n ≡ length (d .sent) + d .stream .offset → pick t (suc (d .drains)) (d .drains) ≤ n
-    go true e q = omega (arith, sends-one d l e, l .few)
-    go false e q = omega (arith, l .few)
-
-lean-writing : (d : Desk) (ops : List Op) → Fine d → Lean d → d .ops ≡ ops → Lean (writing d ops)
-unfolding writing
-lean-writing d [] f l e = l
-lean-writing d (op ∷ rest) f l e =
-    let i : d .stream .offset ≤ length (d .buf) = is-sound (d .stream) (length (d .buf)) (f .sound .0) .inside in
-    let n : length (put (d .buf) (d .stream .offset) (drop (d .place) (op .output (d .stream)))) ≡ length (d .buf) = length-put (d .buf) (d .stream .offset) _ i in
-    by-write Lean d op rest f e
-    (λ a r. record { room = omega (arith, n, l .room); start = l .start; few = l .few; filled = λ x. let w : _≡_ {A = ℕ} 0 1 = cc in absurd (omega arith) })
-    (λ a r. record { room = omega (arith, n, l .room); start = l .start; few = l .few; filled = λ x. sym n })
-    (λ x a. l)
-
-lean-act : (a : Act) (d : Desk) → Fine d → Lean d → Plain a → Lean (act a d)
-unfolding act
-lean-act write d f l p = lean-writing d (d .ops) f l refl
-lean-act drain d f l p = subst (λ (r : Counted). Lean (sending d (r .answer) (r .stream) (d .buf) 0)) (sym (drained-is d f)) (lean-sending d (d .buf) f l (l .room))
-lean-act (change b o drained) d f l p = subst (λ (o : ℕ). Lean (sending d (changing (d .stream) (length (d .buf)) (length b) o drained .answer) (changing (d .stream) (length (d .buf)) (length b) o drained .stream) b o)) (sym (p .1)) (at-zero (pick drained (leb (length b) 0) (ltb (length b) 0)) refl)
-  where
-    at-zero : (t : Bool) → pick drained (leb (length b) 0) (ltb (length b) 0) ≡ t → Lean (sending d (changing (d .stream) (length (d .buf)) (length b) 0 drained .answer) (changing (d .stream) (length (d .buf)) (length b) 0 drained .stream) b 0)
-    at-zero true t = subst (λ (r : Counted). Lean (sending d (r .answer) (r .stream) b 0)) (sym (change-refused d b 0 drained t)) l
-    at-zero false t = subst (λ (r : Counted). Lean (sending d (r .answer) (r .stream) b 0)) (sym (change-taken d b 0 drained f t)) (lean-sending d b f l (p .0))
-
-lean-acts : (as′ : List Act) (d : Desk) → Fine d → Lean d → All Plain as′ → Lean (acts as′ d)
-unfolding acts
-lean-acts [] d f l p = l
-lean-acts (a ∷ as′) d f l p = lean-acts as′ (act a d) (keeps a d f .fine) (lean-act a d f l (p .0)) (p .1)
-
--- "A message of n bytes costs at most n drains, the last flush included unless it has no byte to send, where every buffer lent has at
--- least one byte and starts at offset 0; drains that the caller adds to those at "full" and at the end aren't counted."
-pub few-drains : (as′ : List Act) (d : Desk) → Fine d → Lean d → All Plain as′ → acts as′ d .ops ≡ [] → act drain (acts as′ d) .drains ≤ length (whole d)
-few-drains as′ d f l p e =
-    let r = kept as′ d f in
-    let m = lean-act drain (acts as′ d) (r .fine) (lean-acts as′ d f l p) tt in
-    subst (λ (x : List ℕ). act drain (acts as′ d) .drains ≤ length x) (all-sent as′ d f e) (m .few)
-
--- ---- the end
-
--- each write is accepted in the state that it comes to, over any buffer
-abbrev pub Taken : OStream → List Op → Type 0
-Taken s [] = Unit {0}
-Taken s (op ∷ ops) = ((p size : ℕ) → p ≤ size → judged (op .tests (at s p) size) ≡ accepted) × Taken (op .done s) ops
-
--- two states that differ in their position alone
-taken-same : (x y : OStream) (ops : List Op) → All Steady ops → ((q : ℕ) → at x q ≡ at y q) → Taken x ops → Taken y ops
-taken-same x y [] h e t = tt
-taken-same x y (op ∷ ops) h e t = (
-  λ p size l. subst (λ (s : OStream). judged (op .tests s size) ≡ accepted) (e p) (t .0 p size l),
-  taken-same (op .done x) (op .done y) ops (h .1)
-      (λ q. sym (h .0 .leaves x 0 q) ∙ ap (λ (s : OStream). at (op .done s) q) (e 0) ∙ h .0 .leaves y 0 q) (t .1),
-)
-
--- write and drain in turn
-unfoldable pub turns : ℕ → List Act
-turns zero = []
-turns (suc n) = write ∷ drain ∷ turns n
-
--- what is still to be done
-abbrev toDo : Desk → ℕ
-toDo d = length (drop (d .place) (outputs (d .stream) (d .ops))) + length (d .ops)
-
-record Ready (d : Desk) : Type 0 where
-  fine : Fine d
-  room : 1 ≤ length (d .buf)
-  taken : Taken (d .stream) (d .ops)
-
-drained-desk : (d : Desk) (f : Fine d) → act drain d ≡ sending d (Counts.Bytes (d .stream .offset)) (at (d .stream) 0) (d .buf) 0
-unfolding act
-drained-desk d f = ap (λ (r : Counted). sending d (r .answer) (r .stream) (d .buf) 0) (drained-is d f)
-
--- a drain leaves what is to be done
-drain-ready : (d : Desk) → Ready d → Ready (act drain d) × (toDo (act drain d) ≡ toDo d) × (act drain d .stream .offset ≡ 0)
-drain-ready d r =
-    subst (λ (x : Desk). Fine x → Ready x × (toDo x ≡ toDo d) × (x .stream .offset ≡ 0)) (sym (drained-desk d (r .fine)))
-    (λ f. (
-      record { fine = f; room = r .room; taken = taken-same (d .stream) (at (d .stream) 0) (d .ops) (r .fine .steady) (λ q. refl) (r .taken) },
-      ap (λ (l : List ℕ). length (drop (d .place) l) + length (d .ops)) (outputs-at (d .stream) 0 (d .ops) (r .fine .steady)),
-      refl,
-    ))
-    (keeps drain d (r .fine) .fine)
-
--- a write from the buffer's start leaves less to do
-write-ready : (d : Desk) (ops : List Op) → Ready d → d .stream .offset ≡ 0 → d .ops ≡ ops → Ready (writing d ops) × (toDo (writing d ops) ≤ toDo d - 1)
-unfolding writing outputs
-write-ready d [] r z e =
-    let p : d .place ≡ 0 = subst (λ (ops : List Op). Placed (d .place) (d .stream) ops) e (r .fine .placed) in
-    let q : toDo d ≡ 0 = ap (λ (ops : List Op). length (drop (d .place) (outputs (d .stream) ops)) + length ops) e ∙ ap (λ (n : ℕ). length (drop n (outputs (d .stream) [])) + 0) p in
-    (r, omega arith)
-write-ready d (op ∷ rest) r z e =
-    let f = r .fine in
-    let s = d .stream in
-    let o = op .output s in
-    let t : Taken s (op ∷ rest) = subst (Taken s) e (r .taken) in
-    let h : All Steady (op ∷ rest) = subst (All Steady) e (f .steady) in
-    let i : s .offset ≤ length (d .buf) = is-sound s (length (d .buf)) (f .sound .0) .inside in
-    let n : length (put (d .buf) (s .offset) (drop (d .place) o)) ≡ length (d .buf) = length-put (d .buf) (s .offset) _ i in
-    let pl : d .place ≤ length o = subst (λ (ops : List Op). Placed (d .place) s ops) e (f .placed) in
-    let R : List ℕ = outputs (op .done s) rest in
-    let m : toDo d ≡ length o - d .place + length R + suc (length rest) =
-    ap (λ (ops : List Op). length (drop (d .place) (outputs s ops)) + length ops) e
-    ∙ ap (λ (x : ℕ). x + suc (length rest)) (length-drop (d .place) (o ++ R) ∙ ap (λ (x : ℕ). x - d .place) (length-append o R) ∙ apart (length o) (length R) (d .place) pl) in
-    by-write (λ (x : Desk). Ready x × (toDo x ≤ toDo d - 1)) d op rest f e
-    (λ a g. (
-      record {
-        fine = kept-all d op rest f e a g .fine;
-        room = omega (arith, n, r .room);
-        taken = taken-same (op .done s) (at (op .done s) (s .offset + (length o - d .place))) rest (h .1) (λ q. refl) (t .1);
-      },
-      omega (arith, m, ap length (outputs-at (op .done s) (s .offset + (length o - d .place)) rest (h .1))),
-    ))
-    (λ a g. (
-      record {
-        fine = kept-part d op rest f e a g .fine;
-        room = omega (arith, n, r .room);
-        taken = taken-same s (at s (length (d .buf))) (d .ops) (f .steady) (λ q. refl) (r .taken);
-      },
-      omega (
-        arith,
-        m,
-        r .room,
-        ap length e,
-        length-drop (d .place + (length (d .buf) - s .offset)) (outputs (at s (length (d .buf))) (d .ops)),
-        ap length (outputs-at s (length (d .buf)) (d .ops) (f .steady) ∙ ap (outputs s) e),
-        length-append o R,
-      ),
-    ))
-    (λ x a. absurd (never x (sym (subst (λ (q : OStream). judged (op .tests q (length (d .buf))) ≡ accepted) refl (t .0 (s .offset) (length (d .buf)) i)) ∙ a)))
-  where
-    apart : (x y z : ℕ) → z ≤ x → x + y - z ≡ x - z + y
-    apart x y z h = omega arith
-
-    never : (x : Error) → accepted ≡ refusedWith x → ⊥
-    never x e = let w : _≡_ {A = ℕ} 0 1 = cc in omega arith
-
-no-ops : (d : Desk) → toDo d ≤ 0 → d .ops ≡ []
-no-ops d h = go (d .ops) refl
-  where
-    go : (ops : List Op) → d .ops ≡ ops → ops ≡ []
-    go [] e = refl
-    go (op ∷ ops) e = absurd (omega (arith, ap length e))
-
--- Calling on ends: as many turns of write and drain as there are bytes and writes are enough, where the buffer has a byte.
-ends-from : (n : ℕ) (d : Desk) → Ready d → d .stream .offset ≡ 0 → toDo d ≤ n → acts (turns n) d .ops ≡ []
-unfolding acts turns act
-ends-from zero d r z h = no-ops d h
-ends-from (suc n) d r z h =
-    let w = write-ready d (d .ops) r z refl in
-    let q = drain-ready (writing d (d .ops)) (w .0) in
-    ends-from n (act drain (writing d (d .ops))) (q .0) (q .2) (omega (arith, w .1, q .1))
-
-pub calling-ends : (d : Desk) → Fine d → 1 ≤ length (d .buf) → Taken (d .stream) (d .ops) → d .stream .offset ≡ 0
-    → acts (turns (length (drop (d .place) (outputs (d .stream) (d .ops))) + length (d .ops))) d .ops ≡ []
-calling-ends d f h t z = ends-from (toDo d) d (record { fine = f; room = h; taken = t }) z (le-refl (toDo d))
+-- And the state is the one that the accepted writes leave, but for its position.
+pub all-left : (as′ : List Act) (d : Desk) → Fine d → Lawful as′ d → acts as′ d .ops ≡ [] → (p : ℕ) → at (acts as′ d .stream) p ≡ lastState d p
+unfolding lastState finally
+all-left as′ d f h e p = let x = acts as′ d in ap (λ (ops : List Op). at (finally (x .stream) ops) p) (sym e) ∙ kept as′ d f h .left p

@@ -1,38 +1,28 @@
--- The writer's calls are steady, and their outputs are what was written, by the rule for held sequences.
+-- The writer's calls are steady, and the outputs of those accepted are what is written, by the rule for held sequences.
 use Prim.Native.Nat.{ℕ, zero, suc, _+_, _-_, _≤_, _<_}
 use native.Mathlib.Omega.{arith}
-use native.Mathlib.Nat.{not-suc-le-zero}
+use native.Mathlib.Nat.{le-refl, not-suc-le-zero}
 use native.Mathlib.Numerals.{add-one}
-use mathlib.Core.Path.{_≡_, refl, sym, ap, _∙_, subst}
-use mathlib.Core.Bool.{Bool, true, false, not, _&&_}
-use mathlib.Core.List.{List, [], _∷_, _++_, append-assoc, append-nil}
+use mathlib.Core.Path.{_≡_, refl, sym, ap, _∙_}
+use mathlib.Core.Bool.{Bool, true, false, not}
+use mathlib.Core.List.{List, [], _∷_, _++_, append-assoc}
 use lib.Dec.{ltb, leb, eqb}
-use borrow.Author.Tests.{ltb-true, ltb-false, leb-true, leb-false, eqb-true, eqb-false, lt-ltb, le-ltb, le-leb, lt-leb, eq-eqb, ne-eqb}
-use lib.ListN.{length, take, drop, set, replicate, length-append, length-set, length-replicate, length-drop, length-take, drop-of-length-le}
+use borrow.Author.Tests.{ltb-true, ltb-false, leb-false, eqb-true, eqb-false, lt-ltb, le-ltb, le-leb}
+use lib.ListN.{length, take, drop, set, replicate, length-set}
 use lib.Seq.{take-suc-set, drop-set-lt, take-set-le, set-split, drop-at, length-take-le}
 use Rattle.layout.specs.Limits.{base, pick}
 use Rattle.layout.specs.Message.{All}
-use Rattle.layout.specs.Field.{Field, header, each, begin, end, T-begin}
+use Rattle.layout.specs.Field.{header, each, begin, end, T-begin}
 use Rattle.layout.specs.Copy.{fieldBytes}
-use Rattle.types.specs.declared.Error.{Error}
+use Rattle.types.specs.Types.{refusal}
 use Rattle.ostream.specs.declared.OStream.{OStream}
-use Rattle.ostream.specs.Stream.{at, every, soundStream, lazyDepth, heldBytes, zeroed, committed, holding, dropped, opened}
+use Rattle.ostream.specs.Stream.{at, every, soundStream, lazyDepth, heldBytes, committed, holding, dropped}
 use Rattle.ostream.specs.Emission.{Test, Verdict, accepted, refusedWith, judged}
 use Rattle.ostream.specs.Calls.{unsound, idTooLarge, tooDeep, noneOpen}
-use Rattle.ostream.proofs.Called.{Sound, is-sound, both}
+use Rattle.ostream.proofs.Called.{Sound, is-sound, both, passed}
 use Rattle.ostream.proofs.Places.{length-zeroed}
-use Rattle.writes.specs.Series.{Able, Op, Steady, outputs, Desk, Act, acts, act, drain, whole}
-use Rattle.writes.specs.Written.{Item, field, fixlen, itemBytes, Write, puts, opens, closes, keeps, begins, front, written, opOf, op, opsOf}
-use Rattle.writes.proofs.Runs.{Placed, at-start, Fine, all-sent, Plain, Lean, few-drains}
-
--- ---- tests that pass
-
-passed : (t : Test) (ts : List Test) → judged (t ∷ ts) ≡ accepted → (t .fails ≡ false) × (judged ts ≡ accepted)
-passed t ts h = go (t .fails) refl h
-  where
-    go : (b : Bool) → t .fails ≡ b → pick b (refusedWith (t .error)) (judged ts) ≡ accepted → (t .fails ≡ false) × (judged ts ≡ accepted)
-    go true e f = let z : _≡_ {A = ℕ} 0 1 = cc in absurd (omega arith)
-    go false e f = (e, f)
+use Rattle.writes.specs.Series.{Able, verdict, outputBy, doneBy, numbersBy, Steady, outputs, refusals}
+use Rattle.writes.specs.Written.{Item, field, itemBytes, Write, puts, opens, closes, keeps, begins, front, heldBack, written, op, opsOf, Accepted, takenBy, taken}
 
 -- ---- sound states
 
@@ -47,7 +37,7 @@ every-zeros zero = refl
 every-zeros (suc n) = every-zeros n
 
 -- the tests of a sound state, put together
-make-sound : (s : OStream) (size : ℕ) → Sound s size → soundStream s size ≡ true
+pub make-sound : (s : OStream) (size : ℕ) → Sound s size → soundStream s size ≡ true
 unfolding soundStream
 make-sound s size h =
     simp (le-leb _ _ (h .inside), le-leb _ _ (h .few), le-leb _ _ (h .nested), le-leb _ _ (h .shallow), h .legal, h .zeros)
@@ -143,6 +133,15 @@ dropped-able s size p q a n l =
 
 -- ---- each write is steady
 
+-- whether a state is sound depends on its position only as far as the buffer must hold it
+sound-anywhere : (s : OStream) (p size : ℕ) → p ≤ size → soundStream (at s p) size ≡ soundStream s (s .offset)
+unfolding soundStream
+sound-anywhere s p size h = simp (le-leb p size h, le-leb (s .offset) (s .offset) (le-refl (s .offset)))
+
+-- so a write's tests, of which soundness comes first, say the same over every buffer that holds the position
+same-verdict : (s : OStream) (p size : ℕ) (ts : List Test) → p ≤ size → judged (unsound (at s p) size ∷ ts) ≡ judged (unsound s (s .offset) ∷ ts)
+same-verdict s p size ts h = ap (λ (b : Bool). judged (record { fails = not b; error = refusal 6 } ∷ ts)) (sound-anywhere s p size h)
+
 at-pick : (t : Bool) (a a′ b b′ : OStream) (q : ℕ) → at a q ≡ at a′ q → at b q ≡ at b′ q → at (pick t a b) q ≡ at (pick t a′ b′) q
 at-pick true a a′ b b′ q e f = e
 at-pick false a a′ b b′ q e f = f
@@ -155,6 +154,7 @@ puts-steady : (ts : List Test) (x : Item) → Steady (op (puts ts x))
 unfolding heldBytes committed
 puts-steady ts x =
     record {
+      tests = λ s p size l. same-verdict s p size ts l;
       outputs = λ s p. refl;
       leaves = λ s p q. refl;
       sound = λ s size p q a t l. committed-able s size (s .depth) p q a (is-sound s size (a .0) .shallow) l;
@@ -164,15 +164,16 @@ opens-steady : (id : ℕ) → Steady (op (opens id))
 unfolding heldBytes committed holding
 opens-steady id =
     record {
+      tests = λ s p size l. same-verdict s p size (tooDeep s ∷ idTooLarge id ∷ []) l;
       outputs = λ s p. refl;
       leaves = λ s p q. at-pick (ltb (s .npending) lazyDepth) (holding (at s p) id) (holding s id) (committed (at s p) (s .depth + 1)) (committed s (s .depth + 1)) q refl refl;
       sound = λ s size p q a t l. opened-able s size p q a t l;
     }
   where
-    opened-able : (s : OStream) (size p q : ℕ) → Able s size → judged (op (opens id) .tests s size) ≡ accepted → p ≤ q
+    opened-able : (s : OStream) (size p q : ℕ) → Able s size → verdict (op (opens id)) s ≡ accepted → p ≤ q
         → Able (at (pick (ltb (s .npending) lazyDepth) (holding s id) (committed s (s .depth + 1))) p) q
     opened-able s size p q a t l =
-        let x = passed (unsound s size) (tooDeep s ∷ idTooLarge id ∷ []) t in
+        let x = passed (unsound s (s .offset)) (tooDeep s ∷ idTooLarge id ∷ []) t in
         let y = passed (tooDeep s) (idTooLarge id ∷ []) (x .1) in
         let z = passed (idTooLarge id) [] (y .1) in
         let d : s .depth < base .depth = leb-false _ _ (y .0) in
@@ -187,12 +188,13 @@ closes-steady : Steady (op closes)
 unfolding heldBytes committed dropped
 closes-steady =
     record {
+      tests = λ s p size l. same-verdict s p size (noneOpen s ∷ []) l;
       outputs = λ s p. refl;
       leaves = λ s p q. at-pick (eqb (s .npending) 0) (committed (at s p) (s .depth - 1)) (committed s (s .depth - 1)) (dropped (at s p)) (dropped s) q refl refl;
       sound = closed-able;
     }
   where
-    closed-able : (s : OStream) (size p q : ℕ) → Able s size → judged (op closes .tests s size) ≡ accepted → p ≤ q → Able (at (pick (eqb (s .npending) 0) (committed s (s .depth - 1)) (dropped s)) p) q
+    closed-able : (s : OStream) (size p q : ℕ) → Able s size → verdict (op closes) s ≡ accepted → p ≤ q → Able (at (pick (eqb (s .npending) 0) (committed s (s .depth - 1)) (dropped s)) p) q
     closed-able s size p q a t l = by-held (eqb (s .npending) 0) refl
       where
         by-held : (b : Bool) → eqb (s .npending) 0 ≡ b → Able (at (pick b (committed s (s .depth - 1)) (dropped s)) p) q
@@ -203,17 +205,22 @@ keeps-steady : Steady (op keeps)
 unfolding heldBytes committed
 keeps-steady =
     record {
+      tests = λ s p size l. same-verdict s p size (noneOpen s ∷ []) l;
       outputs = λ s p. refl;
       leaves = λ s p q. refl;
       sound = λ s size p q a t l. committed-able s size (s .depth - 1) p q a (omega (arith, is-sound s size (a .0) .shallow)) l;
     }
 
+-- A real write is steady: where its tests pass in a state, they pass at every position over every buffer that holds it.
+pub steady-write : (w : Write) → Steady (op w)
+steady-write (puts ts x) = puts-steady ts x
+steady-write (opens id) = opens-steady id
+steady-write closes = closes-steady
+steady-write keeps = keeps-steady
+
 pub steady : (ws : List Write) → All Steady (opsOf ws)
 steady [] = tt
-steady (puts ts x ∷ ws) = (puts-steady ts x, steady ws)
-steady (opens id ∷ ws) = (opens-steady id, steady ws)
-steady (closes ∷ ws) = (closes-steady, steady ws)
-steady (keeps ∷ ws) = (keeps-steady, steady ws)
+steady (w ∷ ws) = (steady-write w, steady ws)
 
 -- ---- what is written
 
@@ -278,108 +285,124 @@ held-dropped s h n =
 none-held : (s : OStream) → s .npending ≡ 0 → held s ≡ []
 none-held s e = ap (λ (n : ℕ). take n (s .pending)) e
 
-no-held : (s : OStream) (d : ℕ) (ws : List Write) → each itemBytes (written (held (committed s d)) ws) ≡ each itemBytes (written [] ws)
-unfolding committed
-no-held s d ws = refl
-
-close-none : (s : OStream) (ws : List Write) → outputs (committed s (s .depth - 1)) (opsOf ws) ≡ each itemBytes (written [] ws) → held s ≡ []
-    → fieldBytes (end 0) ++ outputs (committed s (s .depth - 1)) (opsOf ws) ≡ each itemBytes (written (held s) (closes ∷ ws))
+close-none : (s : OStream) (R : List ℕ) (ws : List Write) → R ≡ each itemBytes (written [] ws) → held s ≡ [] → fieldBytes (end 0) ++ R ≡ each itemBytes (written (held s) (closes ∷ ws))
 unfolding written each
-close-none s ws ih e = ap (λ (l : List ℕ). fieldBytes (end 0) ++ l) ih ∙ ap (λ (l : List ℕ). each itemBytes (written l (closes ∷ ws))) (sym e)
+close-none s R ws ih e = ap (λ (l : List ℕ). fieldBytes (end 0) ++ l) ih ∙ ap (λ (l : List ℕ). each itemBytes (written l (closes ∷ ws))) (sym e)
 
-some-held : (ids : List ℕ) (ws : List Write) → 0 < length ids → each itemBytes (written (front ids) ws) ≡ each itemBytes (written ids (closes ∷ ws))
+some-held : (ids : List ℕ) (ws : List Write) → 0 < length ids → written (front ids) ws ≡ written ids (closes ∷ ws)
 unfolding written
 some-held [] ws h = absurd (not-suc-le-zero h)
 some-held (x ∷ xs) ws h = refl
 
--- after content, nothing is held
-content-written : (s : OStream) (d : ℕ) (x : Item) (ws : List Write) → outputs (committed s d) (opsOf ws) ≡ each itemBytes (written [] ws)
-    → (heldBytes s ++ itemBytes x) ++ outputs (committed s d) (opsOf ws) ≡ each itemBytes (begins (held s) ++ (x ∷ written [] ws))
-content-written s d x ws ih = ap (λ (l : List ℕ). (heldBytes s ++ itemBytes x) ++ l) ih ∙ after-held s x (written [] ws)
-
--- an open: held where there is room, else written
-open-written : (s : OStream) (id : ℕ) (ws : List Write) → Eight s
-    → (s .npending < lazyDepth → outputs (holding s id) (opsOf ws) ≡ each itemBytes (written (held (holding s id)) ws))
-    → outputs (committed s (s .depth + 1)) (opsOf ws) ≡ each itemBytes (written [] ws)
-    → pick (ltb (s .npending) lazyDepth) [] (heldBytes s ++ fieldBytes (begin id)) ++ outputs (pick (ltb (s .npending) lazyDepth) (holding s id) (committed s (s .depth + 1))) (opsOf ws)
-    ≡ each itemBytes (written (held s) (opens id ∷ ws))
+-- an open is held where there is room, and else written after those that are
+by-room : (ids : List ℕ) (id : ℕ) (ws : List Write) (t : Bool) → heldBack ids ≡ t
+    → written ids (opens id ∷ ws) ≡ pick t (written (ids ++ (id ∷ [])) ws) (begins ids ++ (field (begin id) ∷ written [] ws))
 unfolding written
-open-written s id ws h more full = go (ltb (s .npending) lazyDepth) refl
+by-room ids id ws true e = ap (λ (t : Bool). elim t as (λ x. List Item) [ true ↦ written (ids ++ (id ∷ [])) ws | false ↦ begins ids ++ (field (begin id) ∷ written [] ws) ]) e
+by-room ids id ws false e = ap (λ (t : Bool). elim t as (λ x. List Item) [ true ↦ written (ids ++ (id ∷ [])) ws | false ↦ begins ids ++ (field (begin id) ∷ written [] ws) ]) e
+
+room-held : (ids : List ℕ) → length ids < 8 → heldBack ids ≡ true
+room-held ids h = lt-ltb (length ids) _ (omega arith)
+
+no-room-held : (ids : List ℕ) → 8 ≤ length ids → heldBack ids ≡ false
+no-room-held ids h = le-ltb (length ids) _ (omega arith)
+
+-- after content, nothing is held
+content-written : (s : OStream) (x : Item) (R : List ℕ) (ws : List Write) → R ≡ each itemBytes (written [] ws)
+    → (heldBytes s ++ itemBytes x) ++ R ≡ each itemBytes (begins (held s) ++ (x ∷ written [] ws))
+content-written s x R ws ih = ap (λ (l : List ℕ). (heldBytes s ++ itemBytes x) ++ l) ih ∙ after-held s x (written [] ws)
+
+-- ---- each write's output, and what is written: the rest of the series is its writes that are accepted after it
+
+abbrev Rest : OStream → List Write → Type 0
+Rest s ws = outputs s (opsOf ws) ≡ each itemBytes (written (held s) (taken s ws))
+
+-- with none held any more
+rest-committed : (s : OStream) (d : ℕ) (ws : List Write) → Rest (committed s d) ws → outputs (committed s d) (opsOf ws) ≡ each itemBytes (written [] (taken (committed s d) ws))
+unfolding committed
+rest-committed s d ws h = h
+
+abbrev Opened : OStream → ℕ → List Write → Bool → Type 0
+Opened s id ws t =
+    pick t [] (heldBytes s ++ fieldBytes (begin id)) ++ outputs (pick t (holding s id) (committed s (s .depth + 1))) (opsOf ws)
+    ≡ each itemBytes (written (held s) (opens id ∷ taken (pick t (holding s id) (committed s (s .depth + 1))) ws))
+
+open-written : (s : OStream) (id : ℕ) (ws : List Write) → Eight s → ((s : OStream) → Eight s → Rest s ws) → Opened s id ws (ltb (s .npending) lazyDepth)
+open-written s id ws h ih = go (ltb (s .npending) lazyDepth) refl
   where
-    go : (t : Bool) → ltb (s .npending) lazyDepth ≡ t
-        → pick t [] (heldBytes s ++ fieldBytes (begin id)) ++ outputs (pick t (holding s id) (committed s (s .depth + 1))) (opsOf ws)
-        ≡ each itemBytes (elim (ltb (length (held s)) lazyDepth) [ true ↦ written (held s ++ (id ∷ [])) ws | false ↦ begins (held s) ++ (field (begin id) ∷ written [] ws) ])
+    go : (t : Bool) → ltb (s .npending) lazyDepth ≡ t → Opened s id ws t
     go true e =
         let n : s .npending < lazyDepth = ltb-true _ _ e in
-        let t : ltb (length (held s)) lazyDepth ≡ true = ap (λ (m : ℕ). ltb m lazyDepth) (held-length s h) ∙ e in
-        more n ∙ ap (λ (l : List ℕ). each itemBytes (written l ws)) (held-holding s id h n)
-        ∙ ap (λ (b : Bool). each itemBytes (elim b as (λ x. List Item) [ true ↦ written (held s ++ (id ∷ [])) ws | false ↦ begins (held s) ++ (field (begin id) ∷ written [] ws) ])) (sym t)
+        let l : length (held s) < lazyDepth = omega (arith, held-length s h) in
+        ih (holding s id) (eight-holding s id h n)
+        ∙ ap (λ (l : List ℕ). each itemBytes (written l (taken (holding s id) ws))) (held-holding s id h n)
+        ∙ ap (each itemBytes) (sym (by-room (held s) id (taken (holding s id) ws) true (room-held (held s) l)))
     go false e =
-        let t : ltb (length (held s)) lazyDepth ≡ false = ap (λ (m : ℕ). ltb m lazyDepth) (held-length s h) ∙ e in
-        content-written s (s .depth + 1) (field (begin id)) ws full
-        ∙ ap (λ (b : Bool). each itemBytes (elim b as (λ x. List Item) [ true ↦ written (held s ++ (id ∷ [])) ws | false ↦ begins (held s) ++ (field (begin id) ∷ written [] ws) ])) (sym t)
+        let n : lazyDepth ≤ s .npending = ltb-false _ _ e in
+        let l : lazyDepth ≤ length (held s) = omega (arith, held-length s h) in
+        let c : OStream = committed s (s .depth + 1) in
+        content-written s (field (begin id)) (outputs c (opsOf ws)) (taken c ws) (rest-committed s (s .depth + 1) ws (ih c (eight-committed s (s .depth + 1) h)))
+        ∙ ap (each itemBytes) (sym (by-room (held s) id (taken c ws) false (no-room-held (held s) l)))
 
--- a plain close: written where none is held, else one is dropped
-close-written : (s : OStream) (ws : List Write) → Eight s
-    → (0 < s .npending → outputs (dropped s) (opsOf ws) ≡ each itemBytes (written (held (dropped s)) ws))
-    → outputs (committed s (s .depth - 1)) (opsOf ws) ≡ each itemBytes (written [] ws)
-    → pick (eqb (s .npending) 0) (fieldBytes (end 0)) [] ++ outputs (pick (eqb (s .npending) 0) (committed s (s .depth - 1)) (dropped s)) (opsOf ws)
-    ≡ each itemBytes (written (held s) (closes ∷ ws))
-close-written s ws h fewer none = go (eqb (s .npending) 0) refl
+abbrev Closed : OStream → List Write → Bool → Type 0
+Closed s ws t =
+    pick t (fieldBytes (end 0)) [] ++ outputs (pick t (committed s (s .depth - 1)) (dropped s)) (opsOf ws)
+    ≡ each itemBytes (written (held s) (closes ∷ taken (pick t (committed s (s .depth - 1)) (dropped s)) ws))
+
+close-written : (s : OStream) (ws : List Write) → Eight s → ((s : OStream) → Eight s → Rest s ws) → Closed s ws (eqb (s .npending) 0)
+close-written s ws h ih = go (eqb (s .npending) 0) refl
   where
-    go : (t : Bool) → eqb (s .npending) 0 ≡ t
-        → pick t (fieldBytes (end 0)) [] ++ outputs (pick t (committed s (s .depth - 1)) (dropped s)) (opsOf ws) ≡ each itemBytes (written (held s) (closes ∷ ws))
-    go true e = close-none s ws none (none-held s (eqb-true _ _ e))
+    go : (t : Bool) → eqb (s .npending) 0 ≡ t → Closed s ws t
+    go true e =
+        let c : OStream = committed s (s .depth - 1) in
+        close-none s (outputs c (opsOf ws)) (taken c ws) (rest-committed s (s .depth - 1) ws (ih c (eight-committed s (s .depth - 1) h))) (none-held s (eqb-true _ _ e))
     go false e =
         let n : 0 < s .npending = positive (s .npending) (eqb-false _ _ e) in
-        fewer n ∙ ap (λ (l : List ℕ). each itemBytes (written l ws)) (held-dropped s h n) ∙ some-held (held s) ws (omega (arith, held-length s h))
+        let l : 0 < length (held s) = omega (arith, held-length s h) in
+        ih (dropped s) (eight-dropped s h)
+        ∙ ap (λ (l : List ℕ). each itemBytes (written l (taken (dropped s) ws))) (held-dropped s h n)
+        ∙ ap (each itemBytes) (some-held (held s) (taken (dropped s) ws) l)
 
--- The writes' outputs are the items written, one after another.
-pub outputs-written : (s : OStream) (ws : List Write) → Eight s → outputs s (opsOf ws) ≡ each itemBytes (written (held s) ws)
-unfolding outputs written each
-outputs-written s [] h = refl
-outputs-written s (puts ts x ∷ ws) h = content-written s (s .depth) x ws (outputs-written (committed s (s .depth)) ws (eight-committed s (s .depth) h) ∙ no-held s (s .depth) ws)
-outputs-written s (opens id ∷ ws) h =
-    open-written s id ws h (λ n. outputs-written (holding s id) ws (eight-holding s id h n))
-    (outputs-written (committed s (s .depth + 1)) ws (eight-committed s (s .depth + 1) h) ∙ no-held s (s .depth + 1) ws)
-outputs-written s (closes ∷ ws) h =
-    close-written s ws h (λ n. outputs-written (dropped s) ws (eight-dropped s h))
-    (outputs-written (committed s (s .depth - 1)) ws (eight-committed s (s .depth - 1) h) ∙ no-held s (s .depth - 1) ws)
-outputs-written s (keeps ∷ ws) h = content-written s (s .depth - 1) (field (end 0)) ws (outputs-written (committed s (s .depth - 1)) ws (eight-committed s (s .depth - 1) h) ∙ no-held s (s .depth - 1) ws)
+-- a write that is accepted
+accepted-written : (w : Write) (s : OStream) (ws : List Write) → Eight s → ((s : OStream) → Eight s → Rest s ws)
+    → op w .output s ++ outputs (op w .done s) (opsOf ws) ≡ each itemBytes (written (held s) (w ∷ taken (op w .done s) ws))
+unfolding written
+accepted-written (puts ts x) s ws h ih =
+    let c : OStream = committed s (s .depth) in
+    content-written s x (outputs c (opsOf ws)) (taken c ws) (rest-committed s (s .depth) ws (ih c (eight-committed s (s .depth) h)))
+accepted-written (opens id) s ws h ih = open-written s id ws h ih
+accepted-written closes s ws h ih = close-written s ws h ih
+accepted-written keeps s ws h ih =
+    let c : OStream = committed s (s .depth - 1) in
+    content-written s (field (end 0)) (outputs c (opsOf ws)) (taken c ws) (rest-committed s (s .depth - 1) ws (ih c (eight-committed s (s .depth - 1) h)))
 
--- ---- from the start
+-- The outputs are the items written by the accepted writes, one after another.
+pub outputs-written : (ws : List Write) (s : OStream) → Eight s → outputs s (opsOf ws) ≡ each itemBytes (written (held s) (taken s ws))
+unfolding outputs written each taken
+outputs-written [] s h = refl
+outputs-written (w ∷ ws) s h = go (outputs-written ws) (verdict (op w) s)
+  where
+    go : ((s : OStream) → Eight s → Rest s ws) → (v : Verdict) → outputBy v (op w) s ++ outputs (doneBy v (op w) s) (opsOf ws) ≡ each itemBytes (written (held s) (takenBy v w (taken (doneBy v (op w) s) ws)))
+    go ih accepted = accepted-written w s ws h ih
+    go ih (refusedWith e) = ih s h
 
--- a fresh writer over a buffer, its first o bytes reserved
-abbrev pub freshDesk : List ℕ → ℕ → List Write → Desk
-freshDesk b o ws = record { stream = opened o; buf = b; reserved = o; sent = []; ops = opsOf ws; place = 0; full = false; drains = 0 }
+-- of an accepted series all writes are, and none is refused
+pub taken-all : (ws : List Write) (s : OStream) → Accepted s ws → taken s ws ≡ ws
+unfolding taken Accepted
+taken-all [] s h = refl
+taken-all (w ∷ ws) s h = ap (λ (v : Verdict). takenBy v w (taken (doneBy v (op w) s) ws)) (h .0) ∙ ap (λ (l : List Write). w ∷ l) (taken-all ws (op w .done s) (h .1))
 
-pub fresh-able : (o size : ℕ) → o ≤ size → Able (opened o) size
-unfolding opened every
-fresh-able o size h = (make-sound (opened o) size (record { inside = h; few = omega arith; nested = omega arith; shallow = omega arith; legal = refl; zeros = refl }), refl)
+pub none-refused : (ws : List Write) (s : OStream) → Accepted s ws → refusals s (opsOf ws) ≡ []
+unfolding refusals Accepted
+none-refused [] s h = refl
+none-refused (w ∷ ws) s h = ap (λ (v : Verdict). numbersBy v ++ refusals (doneBy v (op w) s) (opsOf ws)) (h .0) ∙ none-refused ws (op w .done s) (h .1)
 
-start-placed : (o : ℕ) (ws : List Write) → Placed 0 (opened o) (opsOf ws)
-start-placed o ws = at-start (opened o) (opsOf ws)
-
-pub fresh-fine : (b : List ℕ) (o : ℕ) (ws : List Write) → o ≤ length b → Fine (freshDesk b o ws)
-unfolding opened
-fresh-fine b o ws h = record { sound = fresh-able o (length b) h; reserved = omega arith; steady = steady ws; placed = start-placed o ws }
-
-fresh-whole : (b : List ℕ) (o : ℕ) (ws : List Write) → whole (freshDesk b o ws) ≡ each itemBytes (written [] ws)
-unfolding whole opened
-fresh-whole b o ws =
-    let y : length (take o b) ≤ o = omega (arith, length-take o b) in
-    ap (λ (l : List ℕ). l ++ outputs (opened o) (opsOf ws)) (drop-of-length-le (take o b) y) ∙ outputs-written (opened o) ws (refl, omega arith)
-
--- For every list of writes, every buffer with any bytes reserved at its start, and every series of calls, drains and buffer changes after
--- which no write is left: the bytes sent, less the reserved ones, are the items written, by the rule for held sequences.
-pub writes-sent : (b : List ℕ) (o : ℕ) (ws : List Write) (as′ : List Act) → o ≤ length b → acts as′ (freshDesk b o ws) .ops ≡ []
-    → act drain (acts as′ (freshDesk b o ws)) .sent ≡ each itemBytes (written [] ws)
-writes-sent b o ws as′ h e = all-sent as′ (freshDesk b o ws) (fresh-fine b o ws h) e ∙ fresh-whole b o ws
-
--- From offset 0, over buffers of any lengths from 1 that start at 0: no more drains than bytes.
-pub writes-drains : (b : List ℕ) (ws : List Write) (as′ : List Act) → 1 ≤ length b → All Plain as′ → acts as′ (freshDesk b 0 ws) .ops ≡ []
-    → act drain (acts as′ (freshDesk b 0 ws)) .drains ≤ length (each itemBytes (written [] ws))
-writes-drains b ws as′ h p e =
-    subst (λ (l : List ℕ). act drain (acts as′ (freshDesk b 0 ws)) .drains ≤ length l) (fresh-whole b 0 ws)
-    (few-drains as′ (freshDesk b 0 ws) (fresh-fine b 0 ws (omega arith))
-    (record { room = h; start = refl; few = omega arith; filled = λ x. let w : _≡_ {A = ℕ} 0 1 = cc in absurd (omega arith) }) p e)
+-- the writes of any series that are accepted are an accepted series
+pub taken-accepted : (ws : List Write) (s : OStream) → Accepted s (taken s ws)
+unfolding taken Accepted
+taken-accepted [] s = tt
+taken-accepted (w ∷ ws) s = go (taken-accepted ws) (verdict (op w) s) refl
+  where
+    go : ((s : OStream) → Accepted s (taken s ws)) → (v : Verdict) → verdict (op w) s ≡ v → Accepted s (takenBy v w (taken (doneBy v (op w) s) ws))
+    go ih accepted e = (e, ih (op w .done s))
+    go ih (refusedWith x) e = ih s

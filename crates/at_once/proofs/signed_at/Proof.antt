@@ -3,7 +3,7 @@ use Rattle.at_once.specs.declared.Found.{Found}
 use Rattle.at_once.specs.AtOnce.{Stands, raisedOf}
 use Rattle.at_once.proofs.AtOnce.{signed-element}
 use Rattle.phase.specs.Phases.{phaseIn}
-use Rattle.field.specs.declared.Stepped.the-variants.{Raised}
+use Rattle.stepped.specs.declared.Stepped.the-variants.{Raised}
 use Rattle.event.specs.declared.Event.the-variants as Events
 use Rattle.machine.specs.Machine.{firstOr, inSigned}
 use mathlib.Core.Path.{_≡_, ap, _∙_, subst}

@@ -2,7 +2,7 @@
 use Rattle.at_once.specs.declared.Found.{Found}
 use Rattle.at_once.specs.AtOnce.{Stands, raisedOf}
 use Rattle.at_once.proofs.AtOnce.{unsigned-after, signed-after, word-after}
-use Rattle.field.specs.declared.Stepped.the-variants.{Raised}
+use Rattle.stepped.specs.declared.Stepped.the-variants.{Raised}
 use Rattle.event.specs.declared.Event.the-variants as Events
 use mathlib.Core.Path.{_≡_, ap, _∙_, subst}
 use mir.Val.{Fits, ofZ, toZ}

@@ -17,8 +17,7 @@ shared-slice-read-push : tie.Need-shared-slice-read-push
 shared-slice-read-push c = search needs
 
 push-requires : tie.Need-push-requires
-push-requires c κs =
-    under-start (c .before .before .before .before .args .chunk .now) 0 _ (c .before .new .ensures) .sound
+push-requires c κs = search needs
 
 enum-known-p : tie.Need-enum-known-p
 enum-known-p c = search needs
@@ -52,8 +51,7 @@ shared-slice-read-push-2 : tie.Need-shared-slice-read-push-2
 shared-slice-read-push-2 c = search needs
 
 push-requires-2 : tie.Need-push-requires-2
-push-requires-2 c κs =
-    under-more {c = c .before .before .before .before .before .before .before .before .before .before .before .args .chunk .now} {first = c .before .before .before .before .before .before .before .before .before .before .before .args .at} (under-start _ _ _ (c .before .before .before .before .before .before .before .before .new .ensures)) (c .before .before .before .before .before .before .before .before .before .if1 .left) _ (sym (c .before .before .before .before .before .before .push .ensures) ∙ c .before .before .before .p2 .given .1) .sound
+push-requires-2 c κs = search needs
 
 enum-known-q : tie.Need-enum-known-q
 enum-known-q c = search needs

@@ -1,5 +1,5 @@
 -- `events::list_all` is safe and ends.
-use Prim.Native.Nat.{_≤_, _-_, _+_}
+use Prim.Native.Nat.{_≤_, _-_}
 use mathlib.Core.Path.{_≡_}
 use lib.ListN.{length}
 use borrow.Author.Needs.{needs}
@@ -7,9 +7,8 @@ use Rattle.events.proofs.list_all.Statement.{statement}
 use Rattle.events.proofs.list_all.Tie as tie
 use Rattle.events.proofs.list_all.Reads as reads
 use Rattle.events.proofs.list_all.Lts as lts
-use Rattle.events.proofs.stop.Reads as stop-reads
 use Rattle.events.proofs.take_chunk.Reads as take-chunk-reads
-use Rattle.istream.proofs.IStream.new.Reads as new-reads
+use Rattle.listing.proofs.Listing.new.Reads as new-reads
 
 abbrev Inv-loop : tie.InvT-loop
 Inv-loop input₀ out₀ l₀ turns₀ input out l turns = (length input ≡ length input₀) × (length out ≡ length out₀)
@@ -20,14 +19,11 @@ abbrev μ-loop : tie.MeasureT-loop
 new-requires : tie.Need-new-requires Inv-loop μ-loop
 new-requires c κs = search needs
 
-stop-requires : tie.Need-stop-requires Inv-loop μ-loop
-stop-requires c κs = search needs
-
 loop-holds : tie.Need-loop-holds Inv-loop μ-loop
 loop-holds c = search needs
 
-take-chunk-requires : tie.Need-take-chunk-requires Inv-loop μ-loop
-take-chunk-requires c κs = search needs
+enum-told : tie.Need-enum-told Inv-loop μ-loop
+enum-told c = search needs
 
 same-length : tie.Need-same-length Inv-loop μ-loop
 same-length c = search needs
@@ -37,6 +33,9 @@ same-length-2 c = search needs
 
 returns : tie.Need-returns Inv-loop μ-loop
 returns c = search needs
+
+take-chunk-requires : tie.Need-take-chunk-requires Inv-loop μ-loop
+take-chunk-requires c κs = search needs
 
 sub-turns : tie.Need-sub-turns Inv-loop μ-loop
 sub-turns c = search needs
@@ -63,12 +62,12 @@ list-all-spec =
     Inv-loop
     μ-loop
     new-requires
-    stop-requires
     loop-holds
-    take-chunk-requires
+    enum-told
     same-length
     same-length-2
     returns
+    take-chunk-requires
     sub-turns
     loop-less
     loop-again

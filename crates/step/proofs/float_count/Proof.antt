@@ -18,12 +18,12 @@ enum-known-p-2 c = search needs
 returns : tie.Need-returns
 unfolding step
 returns c =
-    over-in (c .before .before .before .args .a) (c .before .before .before .args .b) (c .before .before .push .result) (c .before .before .push .ensures) _ _ _ (c .before .match .keys2) (c .match2 .keys2)
+    over-in (c .before .before .before .args .a) (c .before .before .before .args .b) (c .before .before .before .pre) (c .before .before .push .result) (c .before .before .push .ensures) _ _ _ (c .before .match .keys2) (c .match2 .keys2)
 
 returns-2 : tie.Need-returns-2
 unfolding step
 returns-2 c =
-    more-in (c .before .before .before .before .before .args .a) (c .before .before .before .before .before .args .b) (c .before .before .before .before .push .result) (c .before .before .before .before .push .ensures) _ _ _ _ (c .before .p2 .given .1)
+    more-in (c .before .before .before .before .before .args .a) (c .before .before .before .before .before .args .b) (c .before .before .before .before .before .pre) (c .before .before .before .before .push .result) (c .before .before .before .before .push .ensures) _ _ _ _ (c .before .p2 .given .1)
 
 cast-if1 : tie.Need-cast-if1
 cast-if1 c = search needs
@@ -31,7 +31,7 @@ cast-if1 c = search needs
 returns-3 : tie.Need-returns-3
 unfolding step
 returns-3 c =
-    count-bad-float (c .before .before .before .before .before .args .depth) (c .before .before .before .before .before .args .id) (c .before .before .p .given .0 .0) (c .if1 .taken) ∙ value-in (c .before .before .before .before .before .args .a) (c .before .before .before .before .before .args .b) (c .before .before .before .before .push .result) (c .before .before .before .before .push .ensures) _ _ _ _ (c .before .before .p .given .1)
+    count-bad-float (c .before .before .before .before .before .args .depth) (c .before .before .before .before .before .args .id) (c .before .before .p .given .0 .0) (c .if1 .taken) ∙ value-in (c .before .before .before .before .before .args .a) (c .before .before .before .before .before .args .b) (c .before .before .before .before .before .pre) (c .before .before .before .before .push .result) (c .before .before .before .before .push .ensures) _ _ _ _ (c .before .before .p .given .1)
 
 cast-count : tie.Need-cast-count
 cast-count c = search needs
@@ -39,7 +39,7 @@ cast-count c = search needs
 returns-4 : tie.Need-returns-4
 unfolding step
 returns-4 c =
-    count-in-float (c .before .before .before .before .before .args .depth) (c .before .before .before .before .before .args .id) (c .before .before .p .given .0 .0) (c .if1 .left) ∙ value-in (c .before .before .before .before .before .args .a) (c .before .before .before .before .before .args .b) (c .before .before .before .before .push .result) (c .before .before .before .before .push .ensures) _ _ _ _ (c .before .before .p .given .1)
+    count-in-float (c .before .before .before .before .before .args .depth) (c .before .before .before .before .before .args .id) (c .before .before .p .given .0 .0) (c .if1 .left) ∙ value-in (c .before .before .before .before .before .args .a) (c .before .before .before .before .before .args .b) (c .before .before .before .before .before .pre) (c .before .before .before .before .push .result) (c .before .before .before .before .push .ensures) _ _ _ _ (c .before .before .p .given .1)
 
 pub float-count-spec : {M : Type 1} → statement M
 float-count-spec =

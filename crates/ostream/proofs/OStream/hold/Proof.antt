@@ -1,20 +1,17 @@
--- `ostream::OStream::hold`: one place is stored to.
-use mathlib.Core.Path.{_≡_, refl}
+-- `ostream::OStream::hold`: the places and the numbers.
+use Prim.Native.Nat.{ℕ, _+_, _-_}
+use mathlib.Core.List.{List}
+use mathlib.Core.Path.{ap}
+use Rattle.ostream.specs.Stream.{holding}
 use borrow.Author.Needs.{needs}
-use Rattle.ostream.specs.Stream.{holding, dropped}
 use Rattle.ostream.proofs.OStream.hold.Statement.{statement}
 use Rattle.ostream.proofs.OStream.hold.Tie as tie
 use Rattle.ostream.proofs.OStream.hold.Reads as reads
 use Rattle.ostream.proofs.OStream.hold.Lts as lts
+use Rattle.held.proofs.add_id.Reads as add-id-reads
 
-cast-last : tie.Need-cast-last
-cast-last c = search needs
-
-mul-self : tie.Need-mul-self
-mul-self c = search needs
-
-element-write-self : tie.Need-element-write-self
-element-write-self c = search needs
+add-id-requires : tie.Need-add-id-requires
+add-id-requires c κs = search needs
 
 add-self : tie.Need-add-self
 add-self c = search needs
@@ -23,8 +20,10 @@ add-self-2 : tie.Need-add-self-2
 add-self-2 c = search needs
 
 returns : tie.Need-returns
-unfolding holding dropped
-returns c = refl
+unfolding holding
+returns c =
+    let a = c .before .before .before .before .args in
+    ap (λ (l : List ℕ). record { offset = a .self .offset; depth = a .self .depth + 1; pending = l; npending = a .self .npending + 1 }) (c .before .before .add-id .ensures)
 
 pub hold-spec : {M : Type 1} → statement M
-hold-spec = tie.close (tie.spec cast-last mul-self element-write-self add-self add-self-2 returns)
+hold-spec = tie.close (tie.spec add-id-requires add-self add-self-2 returns)

@@ -1,23 +1,17 @@
--- `ostream::OStream::unhold`: one place is stored to.
-use mathlib.Core.Path.{_≡_, refl}
+-- `ostream::OStream::unhold`: the places and the numbers.
+use Prim.Native.Nat.{ℕ, _+_, _-_}
+use mathlib.Core.List.{List}
+use mathlib.Core.Path.{ap}
+use Rattle.ostream.specs.Stream.{dropped}
 use borrow.Author.Needs.{needs}
-use Rattle.ostream.specs.Stream.{holding, dropped}
 use Rattle.ostream.proofs.OStream.unhold.Statement.{statement}
 use Rattle.ostream.proofs.OStream.unhold.Tie as tie
 use Rattle.ostream.proofs.OStream.unhold.Reads as reads
 use Rattle.ostream.proofs.OStream.unhold.Lts as lts
+use Rattle.held.proofs.drop_id.Reads as drop-id-reads
 
-cast-last : tie.Need-cast-last
-cast-last c = search needs
-
-sub-last : tie.Need-sub-last
-sub-last c = search needs
-
-mul-self : tie.Need-mul-self
-mul-self c = search needs
-
-element-write-self : tie.Need-element-write-self
-element-write-self c = search needs
+drop-id-requires : tie.Need-drop-id-requires
+drop-id-requires c κs = search needs
 
 sub-self : tie.Need-sub-self
 sub-self c = search needs
@@ -26,9 +20,10 @@ sub-self-2 : tie.Need-sub-self-2
 sub-self-2 c = search needs
 
 returns : tie.Need-returns
-unfolding holding dropped
-returns c = refl
+unfolding dropped
+returns c =
+    let a = c .before .before .before .before .args in
+    ap (λ (l : List ℕ). record { offset = a .self .offset; depth = a .self .depth - 1; pending = l; npending = a .self .npending - 1 }) (c .before .before .drop-id .ensures)
 
 pub unhold-spec : {M : Type 1} → statement M
-unhold-spec =
-    tie.close (tie.spec cast-last sub-last mul-self element-write-self sub-self sub-self-2 returns)
+unhold-spec = tie.close (tie.spec drop-id-requires sub-self sub-self-2 returns)

@@ -1,44 +1,76 @@
 -- `ostream::OStream::write_array_unsigned`: straight away from a state that holds nothing, and otherwise left to the slow form.
-use Prim.Native.Nat.{_+_, _*_}
+use Prim.Native.Nat.{ℕ, _+_, _*_, _≤_}
 use mathlib.Core.Path.{_≡_, refl, sym, ap, _∙_}
 use mathlib.Core.List.{_++_}
 use mathlib.Core.Logic.{⊎-elim}
 use native.Mathlib.Omega.{arith}
-use borrow.Author.Tests.{leb-true}
 use lib.ListN.{length, length-append}
 use Rattle.layout.specs.Varint.{shortest}
+use Rattle.varint.proofs.Shortest.{length-64, length-some}
+use Rattle.straight.proofs.Straight.{went, unmoved}
+use Rattle.ostream.proofs.Called.{committed-none}
 use Rattle.layout.specs.Field.{each}
 use Rattle.layout.specs.Copy.{fieldBytes}
-use Rattle.varint.proofs.Shortest.{length-some}
 use Rattle.ostream.specs.Calls.{unsignedArrayCall}
-use Rattle.ostream.proofs.Called.{committed-none}
-use Rattle.ostream.proofs.Straight.{is-ready, is-easy, ready-array, went, unmoved, spelled, straight, left-to}
+use Rattle.ostream.proofs.Straight.{is-ready, is-easy, ready-array, spelled, straight, left-to}
 use borrow.Author.Needs.{needs}
 use Rattle.ostream.proofs.OStream.write_array_unsigned.Statement.{statement}
 use Rattle.ostream.proofs.OStream.write_array_unsigned.Tie as tie
 use Rattle.ostream.proofs.OStream.write_array_unsigned.Reads as reads
 use Rattle.ostream.proofs.OStream.write_array_unsigned.Lts as lts
+use Rattle.held.proofs.tagged.Reads as tagged-reads
 use Rattle.ostream.proofs.OStream.anew.Reads as OStream-anew-reads
-use Rattle.ostream.proofs.OStream.at_ease.Reads as at-ease-reads
 use Rattle.ostream.proofs.OStream.write_array_unsigned_slowly.Reads as write-array-unsigned-slowly-reads
 use Rattle.ostream.proofs.Written.anew.Reads as Written-anew-reads
-use Rattle.ostream.proofs.put_unsigneds.Reads as put-unsigneds-reads
-use Rattle.ostream.proofs.tagged.Reads as tagged-reads
+use Rattle.straight.proofs.at_ease.Reads as at-ease-reads
+use Rattle.straight.proofs.put_unsigneds.Reads as put-unsigneds-reads
 
 -- where the straight form has written nothing, the buffer is as it was
-unaltered : (c : tie.Joined2-2) → c .if2 .buf ≡ c .before .before .before .before .before .args .buf .now
+unaltered : (c : tie.Joined1) → c .if1 .buf ≡ c .before .before .before .before .args .buf .now
 unaltered c =
-    let a = c .before .before .before .before .before .args in
+    let a = c .before .before .before .before .args in
     ⊎-elim
     (λ x.
-    let h = x .4 .result in
+    let h = x .3 .result in
     let r = shortest (length (a .items .now)) ++ each shortest (a .items .now) in
     let o = length-append (shortest h) r in
     let l = length-some h in
-    let e = x .5 .ensures in
-    x .10 ∙ unmoved _ _ _ _ (10 * length (a .items .now)) (shortest h ++ r) _ _ refl (e .0, e .1) (omega arith) (x .9 .left))
+    let e = x .4 .ensures in
+    x .9 ∙ unmoved _ _ _ _ (10 * length (a .items .now)) (shortest h ++ r) _ _ refl (e .0, e .1) (omega arith) (x .8 .left))
     (λ x. x .1)
-    (c .if2 .came)
+    (c .if1 .came)
+
+at-ease-requires : tie.Need-at-ease-requires
+at-ease-requires c κs = search needs
+
+tagged-requires : tie.Need-tagged-requires
+tagged-requires c κs = search needs
+
+put-unsigneds-requires : tie.Need-put-unsigneds-requires
+put-unsigneds-requires c κs =
+    let a = c .before .before .before .before .before .before .before .args in
+    is-easy (a .self) (a .place) (a .id) (length (a .items .now)) (sym (c .before .before .before .before .at-ease .ensures) ∙ c .before .before .before .if1 .taken) .short
+
+same-length : tie.Need-same-length
+same-length c = search needs
+
+returns : tie.Need-returns
+unfolding fieldBytes
+returns c =
+    let a = c .before .before .before .before .before .before .before .before .before .before .before .before .args in
+    let q = c .before .before .before .before .put-unsigneds .ensures in
+    let w = went _ _ _ _ _ _ (q .0, q .1) (c .if2 .taken) in
+    let e = is-easy (a .self) (a .place) (a .id) (length (a .items .now)) (sym (c .before .before .before .before .before .before .before .before .before .at-ease .ensures) ∙ c .before .before .before .before .before .before .before .before .if1 .taken) in
+    let y = is-ready (a .self) (length (a .buf .now)) (a .place) (a .id) (length (a .items .now)) (10 * length (a .items .now)) e (w .0) in
+    let h = c .before .before .before .before .before .tagged .result in
+    let l = shortest (length (a .items .now)) ++ each shortest (a .items .now) in
+    straight (unsignedArrayCall (a .self) (length (a .buf .now)) (a .id) (a .items .now)) (a .self) (a .buf .now) (shortest h ++ l) (a .place) _ _ (a .self)
+    (ready-array (a .self) (length (a .buf .now)) (a .id) (length (a .items .now)) (10 * length (a .items .now)) y (e .short))
+    (spelled (a .self) (y .none) h (a .id * 8 + 3) l (c .before .before .before .before .before .tagged .ensures))
+    (committed-none (a .self) (a .self .depth) (y .none))
+    (e .start)
+    (q .2 (w .0))
+    (w .1)
 
 anew-requires : tie.Need-anew-requires
 anew-requires c κs = search needs
@@ -49,81 +81,25 @@ write-array-unsigned-slowly-requires c κs = search needs
 anew-requires-2 : tie.Need-anew-requires-2
 anew-requires-2 c κs = search needs
 
-same-length : tie.Need-same-length
-same-length c = search needs
-
-returns : tie.Need-returns
-returns c =
-    let a = c .before .before .before .before .before .before .before .before .before .args in
-    left-to (λ s n. unsignedArrayCall s n (a .id) (a .items .now)) (a .self) _ (a .buf .now) (a .buf .now) (a .place) _ _ _ (c .before .before .before .before .before .anew .ensures) refl (c .anew2 .ensures) (c .before .before .before .write-array-unsigned-slowly .ensures)
-
-at-ease-requires : tie.Need-at-ease-requires
-at-ease-requires c κs = search needs
-
-cast-if3 : tie.Need-cast-if3
-cast-if3 c = search needs
-
-tagged-requires : tie.Need-tagged-requires
-tagged-requires c κs = search needs
-
-put-unsigneds-requires : tie.Need-put-unsigneds-requires
-put-unsigneds-requires c κs = search needs
-
 same-length-2 : tie.Need-same-length-2
-same-length-2 c = search needs
+same-length-2 c = search (needs, ap length (unaltered (c .before .before .before .before .before .before)))
 
 returns-2 : tie.Need-returns-2
-unfolding fieldBytes
 returns-2 c =
-    let a = c .before .before .before .before .before .before .before .before .before .before .before .before .before .before .args in
-    let q = c .before .before .before .before .put-unsigneds .ensures in
-    let e = went _ _ _ _ _ _ (q .0, q .1) (c .if4 .taken) in
-    let y = is-ready (a .self) (length (a .buf .now)) (a .id) (10 * length (a .items .now)) (is-easy _ _ (sym (c .before .before .before .before .before .before .before .before .before .before .at-ease .ensures) ∙ c .before .before .before .before .before .before .before .before .before .if2 .taken)) (e .0) in
-    let h = c .before .before .before .before .before .tagged .result in
-    let l = shortest (length (a .items .now)) ++ each shortest (a .items .now) in
-    let p = c .before .before .before .before .before .before .before .before .before .before .before .if1 .left in
-    straight (unsignedArrayCall (a .self) (length (a .buf .now)) (a .id) (a .items .now)) (a .self) (a .buf .now) (shortest h ++ l) (a .place) _ _ (a .self)
-    (ready-array (a .self) (length (a .buf .now)) (a .id) (length (a .items .now)) (10 * length (a .items .now)) y (leb-true _ _ (c .before .before .before .before .before .before .before .before .if3 .taken)))
-    (spelled (a .self) (y .none) h (a .id * 8 + 3) l (c .before .before .before .before .before .tagged .ensures))
-    (committed-none (a .self) (a .self .depth) (y .none))
-    (omega arith)
-    (q .2 (e .0))
-    (e .1)
-
-anew-requires-3 : tie.Need-anew-requires-3
-anew-requires-3 c κs = search needs
-
-write-array-unsigned-slowly-requires-2 : tie.Need-write-array-unsigned-slowly-requires-2
-write-array-unsigned-slowly-requires-2 c κs = search needs
-
-anew-requires-4 : tie.Need-anew-requires-4
-anew-requires-4 c κs = search needs
-
-same-length-3 : tie.Need-same-length-3
-same-length-3 c = search (needs, ap length (unaltered (c .before .before .before .before .before .before)))
-
-returns-3 : tie.Need-returns-3
-returns-3 c =
-    let a = c .before .before .before .before .before .before .before .before .before .before .before .args in
-    left-to (λ s n. unsignedArrayCall s n (a .id) (a .items .now)) (a .self) _ (a .buf .now) (c .before .before .before .before .before .before .if2 .buf) (a .place) _ _ _ (c .before .before .before .before .before .anew3 .ensures) (unaltered (c .before .before .before .before .before .before)) (c .anew4 .ensures) (c .before .before .before .write-array-unsigned-slowly2 .ensures)
+    let a = c .before .before .before .before .before .before .before .before .before .before .args in
+    left-to (λ s n. unsignedArrayCall s n (a .id) (a .items .now)) (a .self) _ (a .buf .now) (c .before .before .before .before .before .before .if1 .buf) (a .place) _ _ _ (c .before .before .before .before .before .anew .ensures) (unaltered (c .before .before .before .before .before .before)) (c .anew2 .ensures) (c .before .before .before .write-array-unsigned-slowly .ensures)
 
 pub write-array-unsigned-spec : {M : Type 1} → statement M
 write-array-unsigned-spec =
     tie.close
     (tie.spec
+    at-ease-requires
+    tagged-requires
+    put-unsigneds-requires
+    same-length
+    returns
     anew-requires
     write-array-unsigned-slowly-requires
     anew-requires-2
-    same-length
-    returns
-    at-ease-requires
-    cast-if3
-    tagged-requires
-    put-unsigneds-requires
     same-length-2
-    returns-2
-    anew-requires-3
-    write-array-unsigned-slowly-requires-2
-    anew-requires-4
-    same-length-3
-    returns-3)
+    returns-2)

@@ -8,7 +8,7 @@ use Rattle.ostream.proofs.OStream.write_fp32_bits.Tie as tie
 use Rattle.ostream.proofs.OStream.write_fp32_bits.Reads as reads
 use Rattle.ostream.proofs.OStream.write_fp32_bits.Lts as lts
 use Rattle.ostream.proofs.OStream.write_fixlen_raw.Reads as write-fixlen-raw-reads
-use Rattle.ostream.proofs.le32.Reads as le32-reads
+use Rattle.fields.proofs.le32.Reads as le32-reads
 
 le32-requires : tie.Need-le32-requires
 le32-requires c κs = search needs

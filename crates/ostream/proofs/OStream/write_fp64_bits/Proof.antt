@@ -8,7 +8,7 @@ use Rattle.ostream.proofs.OStream.write_fp64_bits.Tie as tie
 use Rattle.ostream.proofs.OStream.write_fp64_bits.Reads as reads
 use Rattle.ostream.proofs.OStream.write_fp64_bits.Lts as lts
 use Rattle.ostream.proofs.OStream.write_fixlen_raw.Reads as write-fixlen-raw-reads
-use Rattle.ostream.proofs.le64.Reads as le64-reads
+use Rattle.fields.proofs.le64.Reads as le64-reads
 
 le64-requires : tie.Need-le64-requires
 le64-requires c κs = search needs

@@ -9,7 +9,7 @@ use Rattle.ostream.specs.declared.OStream.{OStream}
 use Rattle.ostream.specs.declared.Answer.the-variants.{Done}
 use Rattle.ostream.specs.Stream.{holding, at}
 use Rattle.ostream.specs.Calls.{beginCall}
-use Rattle.ostream.proofs.Called.{is-sound, accepts-as, answered-all, left-nothing}
+use Rattle.ostream.proofs.Called.{is-sound, alters}
 use Rattle.ostream.proofs.Straight.{Holds, can-hold}
 use borrow.Author.Needs.{needs}
 use Rattle.ostream.proofs.OStream.write_sequence_begin_lazy.Statement.{statement}
@@ -23,11 +23,6 @@ use Rattle.ostream.proofs.OStream.hold.Reads as hold-reads
 held : (c : tie.Then2) → Holds (c .before .before .before .before .args .self) (length (c .before .before .before .before .args .buf .now)) (c .before .before .before .before .args .id)
 held c = can-hold _ _ _ (sym (c .before .can-hold .ensures) ∙ c .if2 .taken)
 
--- a state with one more held stands where it stood
-in-place : (s : OStream) (id : ℕ) → holding s id ≡ at (holding s id) (s .offset)
-unfolding holding
-in-place s id = refl
-
 can-hold-requires : tie.Need-can-hold-requires
 can-hold-requires c κs = search needs
 
@@ -35,19 +30,20 @@ hold-requires : tie.Need-hold-requires
 hold-requires c κs = let h = held c in (h .few, h .shallow)
 
 returns : tie.Need-returns
+unfolding holding
 returns c =
     let a = c .before .before .before .before .before .args in
     let h = held (c .before) in
     let n = h .few in
     let i = is-sound (a .self) (length (a .buf .now)) (h .sound) .inside in
     let z = c .before .before .before .if1 .taken in
-    accepts-as (beginCall (a .self) (length (a .buf .now)) (a .id)) (a .self) (a .buf .now) (a .place) _ [] (holding (a .self) (a .id)) _
+    alters (beginCall (a .self) (length (a .buf .now)) (a .id)) (a .self) (a .buf .now) (a .place) _ (holding (a .self) (a .id))
     (simp (lt-ltb (a .self .npending) 8 n))
     (simp (lt-ltb (a .self .npending) 8 n))
-    (simp (h .sound, lt-leb _ _ (h .shallow), le-ltb _ _ (h .legal))) (
-      ap (λ (x : OStream). record { answer = Done; stream = x }) (c .hold .ensures ∙ in-place (a .self) (a .id)) ∙ answered-all (a .self) (length (a .buf .now)) 0 (a .place) (holding (a .self) (a .id)) z (omega arith) (a .self .offset) (omega arith),
-      left-nothing (a .self) (a .buf .now) [] (a .place) refl,
-    )
+    (simp (h .sound, lt-leb _ _ (h .shallow), le-ltb _ _ (h .legal)))
+    i
+    refl
+    (ap (λ (x : OStream). record { answer = Done; stream = x }) (c .hold .ensures) ∙ sym (simp (le-ltb 0 (a .place) (omega arith))))
 
 begin-slowly-requires : tie.Need-begin-slowly-requires
 begin-slowly-requires c κs = search needs

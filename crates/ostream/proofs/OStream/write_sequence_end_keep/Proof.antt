@@ -1,77 +1,60 @@
--- `ostream::OStream::write_sequence_end_keep`: the held headers and the close.
-use Prim.Native.Nat.{ℕ, _+_, _-_, _*_, _≤_, _<_}
+-- `ostream::OStream::write_sequence_end_keep`: the refusals, then the close, behind what is held.
+use Prim.Native.Nat.{ℕ, _+_, _*_}
+use mathlib.Core.Bool.{Bool}
+use mathlib.Core.List.{List, [], _∷_, _++_}
 use mathlib.Core.Path.{_≡_, refl, sym, ap, _∙_}
-use mathlib.Core.Bool.{Bool, true, false, not}
-use mathlib.Core.List.{List, [], _++_}
 use native.Mathlib.Omega.{arith}
-use borrow.Author.Needs.{needs}
-use borrow.Author.Tests.{eq-eqb, ne-eqb}
 use lib.ListN.{length}
 use Rattle.layout.specs.Varint.{shortest}
 use Rattle.layout.specs.Copy.{fieldBytes}
-use Rattle.ostream.specs.declared.OStream.{OStream}
-use Rattle.ostream.specs.Stream.{soundStream, heldBytes, dropped}
-use Rattle.ostream.specs.Emission.{answered}
-use Rattle.ostream.proofs.Called.{Sound, is-sound, refuses, accepts-as, left-nothing, none-held, tested-unsound, tested-sound}
+use Rattle.answers.specs.Judged.{judged, checkOf, accepted}
+use Rattle.answers.specs.Tests.{unsoundWriter, deepest, outermost, idTooLarge}
+use Rattle.answers.proofs.Checks.{check-passes, check-fails}
+use Rattle.ostream.proofs.Called.{refuses, end-knows}
+use Rattle.ostream.specs.Calls.{endCall}
+use borrow.Author.Needs.{needs}
 use Rattle.ostream.proofs.OStream.write_sequence_end_keep.Statement.{statement}
 use Rattle.ostream.proofs.OStream.write_sequence_end_keep.Tie as tie
 use Rattle.ostream.proofs.OStream.write_sequence_end_keep.Reads as reads
 use Rattle.ostream.proofs.OStream.write_sequence_end_keep.Lts as lts
+use Rattle.answers.proofs.check_end.Reads as check-end-reads
+use Rattle.ostream.proofs.OStream.close.Reads as close-reads
 use Rattle.ostream.proofs.OStream.refuse.Reads as refuse-reads
 use Rattle.ostream.proofs.OStream.sound.Reads as sound-reads
-use Rattle.ostream.proofs.OStream.write_marker.Reads as write-marker-reads
-use Rattle.ostream.proofs.tagged.Reads as tagged-reads
-
-sound : (c : tie.Else1) → soundStream (c .before .before .before .args .self) (length (c .before .before .before .args .buf .now)) ≡ true
-sound c = tested-sound _ _ _ (c .before .sound .ensures) (c .if1 .left)
 
 sound-requires : tie.Need-sound-requires
 sound-requires c κs = search needs
+
+check-end-requires : tie.Need-check-end-requires
+check-end-requires c κs = search needs
 
 refuse-requires : tie.Need-refuse-requires
 refuse-requires c κs = search needs
 
 returns : tie.Need-returns
-returns c = refuses _ _ _ _ _ _ (simp (tested-unsound _ _ _ (c .before .before .sound .ensures) (c .before .if1 .taken))) (c .refuse .ensures)
+returns c =
+    let a = c .before .before .before .before .before .before .args in
+    refuses _ _ _ _ _ _ (check-fails _ _ (c .before .before .before .check-end .ensures ∙ ap (λ (t : Bool). checkOf (judged (unsoundWriter t ∷ outermost (a .self .depth) ∷ []))) (c .before .before .before .before .sound .ensures)) (c .before .if1 .taken)) (c .refuse .ensures)
 
-refuse-requires-2 : tie.Need-refuse-requires-2
-refuse-requires-2 c κs = search needs
-
-returns-2 : tie.Need-returns-2
-returns-2 c = refuses _ _ _ _ _ _ (simp (sound (c .before .before), eq-eqb _ _ (c .before .if2 .taken))) (c .refuse2 .ensures)
-
-tagged-requires : tie.Need-tagged-requires
-tagged-requires c κs = search needs
-
-sub-write-marker : tie.Need-sub-write-marker
-sub-write-marker c = search needs
-
-write-marker-requires : tie.Need-write-marker-requires
-write-marker-requires c κs = let h = is-sound _ _ (sound (c .before .before .before)) in (h .few, h .inside)
+close-requires : tie.Need-close-requires
+close-requires c κs =
+    let a = c .before .before .before .before .before .before .args in
+    end-knows (a .self) (length (a .buf .now)) (check-passes (judged (endCall (a .self) (length (a .buf .now)) .tests)) _ (c .before .before .before .check-end .ensures ∙ ap (λ (t : Bool). checkOf (judged (unsoundWriter t ∷ outermost (a .self .depth) ∷ []))) (c .before .before .before .before .sound .ensures)) (c .before .if1 .left))
 
 same-length : tie.Need-same-length
 same-length c = search needs
 
-returns-3 : tie.Need-returns-3
-unfolding fieldBytes
-returns-3 c =
-    let t = c .before .before .before .before .before in
-    let a = t .before .before .before .before .args in
-    accepts-as _ _ _ _ _ _ _ _ (ap (λ (h : ℕ). heldBytes (a .self) ++ shortest h) (c .before .before .before .tagged .ensures)) refl
-    (simp (sound (t .before), ne-eqb _ _ (t .if2 .left)))
-    (c .before .before .write-marker .ensures)
+returns-2 : tie.Need-returns-2
+returns-2 c = search needs
 
 pub write-sequence-end-keep-spec : {M : Type 1} → statement M
 write-sequence-end-keep-spec =
     tie.close
     (tie.spec
     sound-requires
+    check-end-requires
     refuse-requires
     returns
-    refuse-requires-2
-    returns-2
-    tagged-requires
-    sub-write-marker
-    write-marker-requires
+    close-requires
     same-length
-    returns-3)
+    returns-2)

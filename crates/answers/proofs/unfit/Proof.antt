@@ -1,0 +1,15 @@
+-- `answers::unfit`: the two tests of an offset.
+use mathlib.Core.Path.{_≡_, sym, ap, _∙_}
+use Rattle.answers.proofs.unfit.Statement.{statement}
+use Rattle.answers.proofs.unfit.Tie as tie
+use Rattle.answers.proofs.unfit.Reads as reads
+use Rattle.answers.proofs.unfit.Lts as lts
+
+returns : tie.Need-returns
+returns c = simp (c .if1 .taken)
+
+returns-2 : tie.Need-returns-2
+returns-2 c = simp (c .if1 .left)
+
+pub unfit-spec : {M : Type 1} → statement M
+unfit-spec = tie.close (tie.spec returns returns-2)

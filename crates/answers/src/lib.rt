@@ -1,0 +1,163 @@
+// What a call of the writer answers, by numbers alone: what it refuses, and in which order (whether the state is sound is told), and how
+// far its output goes.
+use types::ARRAY_MAX;
+use types::Error;
+use types::FixlenType;
+use types::ID_MAX;
+use types::MAX_DEPTH;
+ghost use mathlib.Core.Path.{_≡_};
+ghost use mathlib.Core.List.{[], _∷_};
+ghost use mathlib.Core.Bool.{true, false};
+ghost use Rattle.types.specs.Types.{subtype};
+ghost use Rattle.answers.specs.Judged.{accepted, refusedWith, judged, checkOf};
+ghost use Rattle.answers.specs.Tests.{badBuffer, unsoundWriter, isString, stringSubtype, deepest, outermost, idTooLarge, payloadTooLong};
+ghost use Rattle.answers.specs.Outcome.{reaches};
+ghost use Prim.Native.Nat.{_≤_, min};
+
+// Whether a call's first tests pass; else the refusal. (With `ok`, the error says nothing: the place is tested later.)
+pub struct Check {
+    pub ok: bool,
+    pub error: Error,
+}
+
+// What a call comes to: all its bytes are out, up to a position; the buffer is full, and that many are out; or refused.
+pub enum Outcome {
+    Through(usize),
+    Full(usize),
+    Refused(Error),
+}
+
+fn failed(error: Error) -> Check
+    ensures { λ r. ⌜ r ≡ checkOf (refusedWith error) ⌝ }
+{
+    Check { ok: false, error }
+}
+
+fn passed() -> Check
+    ensures { λ r. ⌜ r ≡ checkOf accepted ⌝ }
+{
+    Check {
+        ok: true,
+        error: Error::PlaceBeyond,
+    }
+}
+
+// Whether a subtype is a string's.
+fn is_string(t: FixlenType) -> bool
+    ensures { λ r. ⌜ r ≡ isString (subtype t) ⌝ }
+{
+    match t {
+        FixlenType::Fp32 => false,
+        FixlenType::Fp64 => false,
+        FixlenType::Str => true,
+        FixlenType::Blob => false,
+    }
+}
+
+// Whether a buffer of this size cannot be written from the offset on; one that is to be drained needs a byte.
+pub fn unfit(size: usize, offset: usize, drained: bool) -> bool
+    ensures { λ r. ⌜ r ≡ badBuffer size offset drained .fails ⌝ }
+{
+    if drained {
+        size <= offset
+    } else {
+        size < offset
+    }
+}
+
+// The refusals of a buffer change: the new buffer, then the state.
+pub fn check_change(sound: bool, size: usize, offset: usize, drained: bool) -> Check
+    ensures { λ r. ⌜ r ≡ checkOf (judged (badBuffer size offset drained ∷ unsoundWriter sound ∷ [])) ⌝ }
+{
+    if unfit(size, offset, drained) {
+        return failed(Error::BadBuffer);
+    }
+    if !sound {
+        return failed(Error::UnsoundWriter);
+    }
+    passed()
+}
+
+// The refusals of a field: the state, the id, and how long its payload or array is.
+pub fn check_field(sound: bool, id: u32, len: usize) -> Check
+    ensures { λ r. ⌜ r ≡ checkOf (judged (unsoundWriter sound ∷ idTooLarge id ∷ payloadTooLong len ∷ [])) ⌝ }
+{
+    if !sound {
+        return failed(Error::UnsoundWriter);
+    }
+    if ID_MAX < id {
+        return failed(Error::IdTooLarge);
+    }
+    if (ARRAY_MAX as usize) < len {
+        return failed(Error::TooLong);
+    }
+    passed()
+}
+
+// The refusals of a fixed-length field of any subtype: a string's, too, behind the state.
+pub fn check_fixlen(sound: bool, t: FixlenType, id: u32, len: usize) -> Check
+    ensures { λ r. ⌜ r ≡ checkOf (judged (unsoundWriter sound ∷ stringSubtype t ∷ idTooLarge id ∷ payloadTooLong len ∷ [])) ⌝ }
+{
+    if !sound {
+        return failed(Error::UnsoundWriter);
+    }
+    if is_string(t) {
+        return failed(Error::StringSubtype);
+    }
+    check_field(true, id, len)
+}
+
+// The refusals of an open: the state, the depth, the id.
+pub fn check_begin(sound: bool, depth: u16, id: u32) -> Check
+    ensures { λ r. ⌜ r ≡ checkOf (judged (unsoundWriter sound ∷ deepest depth ∷ idTooLarge id ∷ [])) ⌝ }
+{
+    if !sound {
+        return failed(Error::UnsoundWriter);
+    }
+    if MAX_DEPTH <= depth as u32 {
+        return failed(Error::Nesting);
+    }
+    if ID_MAX < id {
+        return failed(Error::IdTooLarge);
+    }
+    passed()
+}
+
+// The refusals of a close: the state, the depth.
+pub fn check_end(sound: bool, depth: u16) -> Check
+    ensures { λ r. ⌜ r ≡ checkOf (judged (unsoundWriter sound ∷ outermost depth ∷ [])) ⌝ }
+{
+    if !sound {
+        return failed(Error::UnsoundWriter);
+    }
+    if depth == 0 {
+        return failed(Error::Nesting);
+    }
+    passed()
+}
+
+fn least(a: usize, b: usize) -> usize
+    ensures { λ r. ⌜ r ≡ min a b ⌝ }
+{
+    if a < b { a } else { b }
+}
+
+// What a call comes to whose output has `total` bytes, those from the place on being out as far as there is room.
+pub fn finish(pos: usize, size: usize, total: usize, place: usize) -> Outcome
+    requires { ⌜ pos ≤ size ⌝ }
+    ensures { λ r. ⌜ r ≡ reaches pos size total place ⌝ }
+{
+    if total < place {
+        return Outcome::Refused(Error::PlaceBeyond);
+    }
+    let owed = total - place;
+    let room = size - pos;
+    let out = least(owed, room);
+    let end = pos + out;
+    let count = place + out;
+    if owed <= room {
+        Outcome::Through(end)
+    } else {
+        Outcome::Full(count)
+    }
+}

@@ -1,0 +1,2 @@
+-- `Floats` has the law of a float array from its elements' bytes.
+pub mod Floats

@@ -1,0 +1,42 @@
+-- `arrays::finish_floats`: the lengths, summed up.
+use Prim.Native.Nat.{ℕ, _+_}
+use mathlib.Core.Path.{ap, _∙_}
+use native.Mathlib.Omega.{arith}
+use lib.ListN.{length}
+use Rattle.answers.specs.Outcome.{reaches}
+use Rattle.held.specs.Headers.{headOf}
+use borrow.Author.Needs.{needs}
+use Rattle.arrays.proofs.finish_floats.Statement.{statement}
+use Rattle.arrays.proofs.finish_floats.Tie as tie
+use Rattle.arrays.proofs.finish_floats.Reads as reads
+use Rattle.arrays.proofs.finish_floats.Lts as lts
+use Rattle.answers.proofs.finish.Reads as finish-reads
+use Rattle.held.proofs.head_len.Reads as head-len-reads
+use Rattle.held.proofs.tagged.Reads as tagged-reads
+
+tagged-requires : tie.Need-tagged-requires
+tagged-requires c κs = search needs
+
+head-len-requires : tie.Need-head-len-requires
+head-len-requires c κs = search needs
+
+add-finish : tie.Need-add-finish
+add-finish c = search needs
+
+add-finish-2 : tie.Need-add-finish-2
+add-finish-2 c = let l = c .head-len .ensures .1 in record { fits = omega arith }
+
+finish-requires : tie.Need-finish-requires
+finish-requires c κs = search needs
+
+returns : tie.Need-returns
+returns c =
+    let a = c .before .before .before .args in
+    c .finish .ensures
+    ∙ ap (λ (n : ℕ). reaches (a .pos) (a .size) (n + (1 + a .bytes)) (a .place)) (c .before .head-len .ensures .0)
+    ∙ ap (λ (h : ℕ). reaches (a .pos) (a .size) (length (headOf (a .held) (a .places) h (a .n)) + (1 + a .bytes)) (a .place)) (c .before .before .tagged .ensures)
+
+pub finish-floats-spec : {M : Type 1} → statement M
+finish-floats-spec =
+    tie.close
+    (tie.spec tagged-requires head-len-requires add-finish add-finish-2 finish-requires returns)

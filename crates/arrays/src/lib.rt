@@ -1,0 +1,210 @@
+// Arrays, from any place on and behind the headers that are held back.
+use answers::Outcome;
+use answers::finish;
+use emit::Cursor;
+use emit::varints_go_on;
+use emit::varints_len;
+use emit::zigzags_go_on;
+use emit::zigzags_len;
+use held::head_len;
+use held::put_head;
+use held::tagged;
+use types::T_FIXLENARRAY;
+use types::T_VARINTARRAY_SIGNED;
+use types::T_VARINTARRAY_UNSIGNED;
+ghost use mathlib.Core.Path.{_≡_};
+ghost use mathlib.Core.List.{_++_, map};
+ghost use Prim.Native.Nat.{_+_, _*_, _≤_};
+ghost use lib.ListN.{length};
+ghost use lib.Ieee.{binary32, binary64, toBits};
+ghost use Rattle.layout.specs.Varint.{shortest};
+ghost use Rattle.layout.specs.Field.{fp32, fp64, unsignedArray, signedArray, floatArray};
+ghost use Rattle.layout.specs.Copy.{fieldBytes};
+ghost use Rattle.layout.specs.Limits.{base};
+ghost use Rattle.emit.specs.Cursor.{placed, moved};
+ghost use Rattle.answers.specs.Outcome.{reaches};
+ghost use Rattle.held.specs.Headers.{headersOf, headOf, startAt, leftAt};
+
+// An array of unsigned integers. Where it ends before the buffer does, its elements need no second look; nor do those beyond the
+// buffer's end.
+pub fn put_unsigned_array(
+    buf: &mut [u8],
+    pos: usize,
+    places: [u32; 8],
+    held: u16,
+    id: u32,
+    items: &[u64],
+    place: usize,
+) -> Outcome
+    requires { ⌜ (held ≤ 8) × (pos ≤ length (now buf)) × (length (now items) ≤ base .count) ⌝ }
+    ensures { λ r. ⌜ (r ≡ reaches pos (length (now (buf .entry))) (length (headersOf held places ++ fieldBytes (unsignedArray id (now (items .entry))))) place) × (now (buf .exit) ≡ leftAt pos (now (buf .entry)) (headersOf held places ++ fieldBytes (unsignedArray id (now (items .entry)))) place) ⌝ }
+{
+    let size = buf.len();
+    let header = tagged(id, T_VARINTARRAY_UNSIGNED);
+    let count = items.len() as u64;
+    let start = put_head(buf, pos, places, held, header, count, place);
+    let end = start.put_varints(buf, items);
+    if end.skip == 0 && end.pos < size {
+        return Outcome::Through(end.pos);
+    }
+    let head = head_len(places, held, header, count);
+    let room = size - pos;
+    if varints_go_on(items, head, place, room) {
+        return Outcome::Full(place + room);
+    }
+    finish(pos, size, head + varints_len(items), place)
+}
+
+// An array of signed integers, likewise.
+pub fn put_signed_array(
+    buf: &mut [u8],
+    pos: usize,
+    places: [u32; 8],
+    held: u16,
+    id: u32,
+    items: &[i64],
+    place: usize,
+) -> Outcome
+    requires { ⌜ (held ≤ 8) × (pos ≤ length (now buf)) × (length (now items) ≤ base .count) ⌝ }
+    ensures { λ r. ⌜ (r ≡ reaches pos (length (now (buf .entry))) (length (headersOf held places ++ fieldBytes (signedArray id (now (items .entry))))) place) × (now (buf .exit) ≡ leftAt pos (now (buf .entry)) (headersOf held places ++ fieldBytes (signedArray id (now (items .entry)))) place) ⌝ }
+{
+    let size = buf.len();
+    let header = tagged(id, T_VARINTARRAY_SIGNED);
+    let count = items.len() as u64;
+    let start = put_head(buf, pos, places, held, header, count, place);
+    let end = start.put_zigzags(buf, items);
+    if end.skip == 0 && end.pos < size {
+        return Outcome::Through(end.pos);
+    }
+    let head = head_len(places, held, header, count);
+    let room = size - pos;
+    if zigzags_go_on(items, head, place, room) {
+        return Outcome::Full(place + room);
+    }
+    finish(pos, size, head + zigzags_len(items), place)
+}
+
+// What stands before the elements of a float array: the held headers, the header, the count, and the word, which stands even where the
+// array is empty.
+fn put_announced(
+    buf: &mut [u8],
+    pos: usize,
+    places: [u32; 8],
+    held: u16,
+    id: u32,
+    count: u64,
+    word: u64,
+    place: usize,
+) -> Cursor
+    requires { ⌜ (held ≤ 8) × (pos ≤ length (now buf)) ⌝ }
+    ensures { λ r. ⌜ (r ≡ moved (startAt pos place) (now (buf .entry)) (headOf held places (id * 8 + 5) count ++ shortest word)) × (now (buf .exit) ≡ placed (startAt pos place) (now (buf .entry)) (headOf held places (id * 8 + 5) count ++ shortest word)) ⌝ }
+{
+    let head = put_head(
+        buf,
+        pos,
+        places,
+        held,
+        tagged(id, T_FIXLENARRAY),
+        count,
+        place,
+    );
+    head.put_varint(buf, word)
+}
+
+// How far an array of n floats goes that take so many bytes; its word takes one.
+fn finish_floats(
+    size: usize,
+    pos: usize,
+    places: [u32; 8],
+    held: u16,
+    id: u32,
+    n: usize,
+    bytes: usize,
+    place: usize,
+) -> Outcome
+    requires { ⌜ (held ≤ 8) × (pos ≤ size) × (n ≤ base .count) × (bytes ≤ 17179869176) ⌝ }
+    ensures { λ r. ⌜ r ≡ reaches pos size (length (headOf held places (id * 8 + 5) n) + (1 + bytes)) place ⌝ }
+{
+    let head = head_len(places, held, tagged(id, T_FIXLENARRAY), n as u64);
+    finish(pos, size, head + (1 + bytes), place)
+}
+
+// An array of floats of 32 bits, by their bits.
+pub fn put_fp32_bits_array(
+    buf: &mut [u8],
+    pos: usize,
+    places: [u32; 8],
+    held: u16,
+    id: u32,
+    items: &[u32],
+    place: usize,
+) -> Outcome
+    requires { ⌜ (held ≤ 8) × (pos ≤ length (now buf)) × (length (now items) ≤ base .count) ⌝ }
+    ensures { λ r. ⌜ (r ≡ reaches pos (length (now (buf .entry))) (length (headersOf held places ++ fieldBytes (floatArray id fp32 (now (items .entry))))) place) × (now (buf .exit) ≡ leftAt pos (now (buf .entry)) (headersOf held places ++ fieldBytes (floatArray id fp32 (now (items .entry)))) place) ⌝ }
+{
+    let size = buf.len();
+    let n = items.len();
+    let word = put_announced(buf, pos, places, held, id, n as u64, tagged(4, 0), place);
+    word.put_fp32s(buf, items);
+    finish_floats(size, pos, places, held, id, n, n * 4, place)
+}
+
+// An array of floats of 32 bits. A NaN's bits are the one pattern that the logic knows.
+pub fn put_fp32_array(
+    buf: &mut [u8],
+    pos: usize,
+    places: [u32; 8],
+    held: u16,
+    id: u32,
+    items: &[f32],
+    place: usize,
+) -> Outcome
+    requires { ⌜ (held ≤ 8) × (pos ≤ length (now buf)) × (length (now items) ≤ base .count) ⌝ }
+    ensures { λ r. ⌜ (r ≡ reaches pos (length (now (buf .entry))) (length (headersOf held places ++ fieldBytes (floatArray id fp32 (map (toBits binary32) (now (items .entry)))))) place) × (now (buf .exit) ≡ leftAt pos (now (buf .entry)) (headersOf held places ++ fieldBytes (floatArray id fp32 (map (toBits binary32) (now (items .entry))))) place) ⌝ }
+{
+    let size = buf.len();
+    let n = items.len();
+    let word = put_announced(buf, pos, places, held, id, n as u64, tagged(4, 0), place);
+    word.put_f32s(buf, items);
+    finish_floats(size, pos, places, held, id, n, n * 4, place)
+}
+
+// An array of floats of 64 bits, by their bits.
+pub fn put_fp64_bits_array(
+    buf: &mut [u8],
+    pos: usize,
+    places: [u32; 8],
+    held: u16,
+    id: u32,
+    items: &[u64],
+    place: usize,
+) -> Outcome
+    requires { ⌜ (held ≤ 8) × (pos ≤ length (now buf)) × (length (now items) ≤ base .count) ⌝ }
+    ensures { λ r. ⌜ (r ≡ reaches pos (length (now (buf .entry))) (length (headersOf held places ++ fieldBytes (floatArray id fp64 (now (items .entry))))) place) × (now (buf .exit) ≡ leftAt pos (now (buf .entry)) (headersOf held places ++ fieldBytes (floatArray id fp64 (now (items .entry)))) place) ⌝ }
+{
+    let size = buf.len();
+    let n = items.len();
+    let word = put_announced(buf, pos, places, held, id, n as u64, tagged(8, 1), place);
+    word.put_fp64s(buf, items);
+    finish_floats(size, pos, places, held, id, n, n * 8, place)
+}
+
+// An array of floats of 64 bits. A NaN's bits are the one pattern that the logic knows.
+pub fn put_fp64_array(
+    buf: &mut [u8],
+    pos: usize,
+    places: [u32; 8],
+    held: u16,
+    id: u32,
+    items: &[f64],
+    place: usize,
+) -> Outcome
+    requires { ⌜ (held ≤ 8) × (pos ≤ length (now buf)) × (length (now items) ≤ base .count) ⌝ }
+    ensures { λ r. ⌜ (r ≡ reaches pos (length (now (buf .entry))) (length (headersOf held places ++ fieldBytes (floatArray id fp64 (map (toBits binary64) (now (items .entry)))))) place) × (now (buf .exit) ≡ leftAt pos (now (buf .entry)) (headersOf held places ++ fieldBytes (floatArray id fp64 (map (toBits binary64) (now (items .entry))))) place) ⌝ }
+{
+    let size = buf.len();
+    let n = items.len();
+    let word = put_announced(buf, pos, places, held, id, n as u64, tagged(8, 1), place);
+    word.put_f64s(buf, items);
+    finish_floats(size, pos, places, held, id, n, n * 8, place)
+}

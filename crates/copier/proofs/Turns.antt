@@ -1,0 +1,425 @@
+-- One event of the copier's loop is a turn of the definition: it goes out and the call goes on, or the call stops where the definition
+-- does.
+use mathlib.Core.Path.{_≡_, refl, sym, ap, _∙_, subst}
+use mathlib.Core.Bool.{Bool, true, false}
+use mathlib.Core.List.{List, [], _∷_}
+use Prim.Native.Nat.{ℕ, zero, suc, _+_, _-_, _*_, _<_, _≤_, min}
+use native.Mathlib.Omega.{arith}
+use lib.Dec.{leb, ltb, eqb}
+use lib.ListN.{length, take, drop, length-take, length-drop}
+use lib.Seq.{take-all, take-take, drop-drop}
+use borrow.Author.Tests.{leb-true, leb-false, ltb-true}
+use Rattle.layout.specs.Limits.{base, pick}
+use Rattle.layout.specs.Field.{Raw}
+use Rattle.layout.specs.Event.{Event, Piece}
+use Rattle.layout.specs.Message.{Verdict, complete, incomplete}
+use Rattle.machine.specs.Machine.{Phase, inHeader, inUnsigned, inSigned, inWord, inUnsignedCount, inSignedCount, inFloatCount, inArrayWord, inFloat, inPayload, judge, ending}
+use Rattle.machine.specs.Call as calls
+use Rattle.machine.specs.Call.{State, reading, owing, broke, Called, event, verdict, invalid, verdictAt, Pace, byte, bulk, paceOf, piece, scan, call}
+use Rattle.machine.specs.Machine.{idle}
+use Rattle.machine.specs.Run.{placeOf}
+use Rattle.machine.proofs.Calls.{FairPlace, weight, Judged, Closes}
+use Rattle.types.specs.Types.{rawSort}
+use Rattle.types.specs.declared.RawType.{RawType}
+use Rattle.varint.proofs.Laws.{sound-start}
+use Rattle.event.specs.Event.{eventOf, declared}
+use Rattle.event.proofs.Laws.{InRange, declared-back}
+use Rattle.istream.specs.declared.IStream.{IStream}
+use Rattle.istream.specs.declared.Fed.{Fed}
+use Rattle.phase.specs.declared.Phase as code
+use Rattle.phase.specs.declared.Phase.the-variants as phases
+use Rattle.istream.specs.declared.Status.the-variants.{Incomplete}
+use Rattle.phase.specs.Phases.{stateAt}
+use Rattle.stepped.specs.Steps.{covered}
+use Rattle.istream.specs.Stream.{stateOf, streamIn, soundStream, statusIn, fedIn, fedOf}
+use Rattle.phase.specs.Sound.{SoundState}
+use Rattle.phase.proofs.Phases.{Live}
+use Rattle.istream.proofs.Calls.{state-of-stream, stream-back}
+use Rattle.istream.proofs.Laws.{is-sound, sound-is, fed-sound, feed-keeps}
+use Rattle.reading.proofs.Feeds.{Ranged, call-range}
+use Rattle.emit.specs.Put.{put, reached}
+use Rattle.emit.proofs.Writes.{length-put, reached-le}
+use Rattle.laws.specs.Events.{eventBytes}
+use Rattle.ostream.specs.declared.OStream.{OStream}
+use Rattle.copying.specs.Owed.{nothing, owes, rest, further, depthBy, depthOnce, dueIn}
+use Rattle.copying.specs.Copy as copying
+use Rattle.copying.specs.Copy.{Copy, after, settled, filled, gone, handed, stuck, heard, copy}
+use Rattle.copying.proofs.Turns.{copy-full, copy-settles, copy-stuck, copy-turn, Heard, turn-heard, paced, handed-is}
+use Rattle.owed.specs.declared.Owed.{Owed}
+use Rattle.owed.specs.Owed.{owe, outputOf, outputBytes}
+use Rattle.owed.proofs.Laws.{owe-any, spelled-event, Spelt}
+use Rattle.owed.specs.declared.Owed.the-variants.{Nothing}
+use Rattle.copier.specs.declared.Stop.{Stop}
+use Rattle.copier.specs.declared.Copier.{Copier}
+use Rattle.copier.specs.declared.Turn.{Turn}
+use Rattle.copier.specs.declared.Turn.the-variants as turns
+use Rattle.copier.specs.declared.Answer.the-variants.{Full, Status}
+use Rattle.copier.specs.Copier.{copierIn}
+use Rattle.copier.specs.Calls as says
+use Rattle.copier.specs.Calls.{Said, Left, saidOf}
+use Rattle.copier.specs.Turns.{standing, leftAs, stopLeft, Stops, fullStop, eventTurn, eventBuf, heardTurn, heardBuf, Went, Turned, Ran, InPayload, BulkState, later}
+use Rattle.copier.proofs.Events.{AtEvent, Bytes, Steady, call-level, fair, to-bytes}
+
+-- ---- what the reader is handed
+
+still-handed : (st : State) (room : ℕ) (c : List ℕ) → Steady st → handed st room c ≡ c
+unfolding handed
+still-handed (reading d p) room c a = handed-is d p room c ∙ ap (λ (q : Pace). paced q room c) (a .1 .1)
+still-handed (owing d id r) room c a = refl
+still-handed broke room c a = absurd a
+
+not-stuck : (st : State) (room : ℕ) (c : List ℕ) → Steady st → stuck st room c ≡ false
+unfolding stuck
+not-stuck (reading d p) room [] a = refl
+not-stuck (reading d p) zero (b ∷ c) a = ap (λ (q : Pace). elim q [ byte ↦ false | bulk id r total o ↦ true ]) (a .1 .1)
+not-stuck (reading d p) (suc room) (b ∷ c) a = refl
+not-stuck (owing d id r) room c a = refl
+not-stuck broke room c a = absurd a
+
+-- ---- verdicts
+
+said-pick : (t : Bool) → Said.verdict (pick t complete incomplete) ≡ saidOf (Status (statusIn (pick t complete incomplete)))
+said-pick true = refl
+said-pick false = refl
+
+said-at : (d : ℕ) (p : Phase) → Said.verdict (verdictAt d p) ≡ saidOf (Status (statusIn (verdictAt d p)))
+unfolding judge ending
+said-at d (inHeader zero v) = said-pick (eqb d 0)
+said-at d (inHeader (suc k) v) = refl
+said-at d (inUnsigned id left k v) = refl
+said-at d (inSigned id left k v) = refl
+said-at d (inWord id k v) = refl
+said-at d (inUnsignedCount id k v) = refl
+said-at d (inSignedCount id k v) = refl
+said-at d (inFloatCount id k v) = refl
+said-at d (inArrayWord id c k v) = refl
+said-at d (inFloat id w left k v) = refl
+said-at d (inPayload id r total o) = refl
+
+said-judged : (st : State) (v : Verdict) → Judged st v → Said.verdict v ≡ saidOf (Status (statusIn v))
+said-judged (reading d p) v e = subst (λ (x : Verdict). Said.verdict x ≡ saidOf (Status (statusIn x))) (sym e) (said-at d p)
+said-judged (owing d id r) v e = absurd e
+said-judged broke v e = absurd e
+
+-- ---- one event
+
+rest-is : (left : ℕ) (e : Event) → rest (owes left e 0) ≡ eventBytes left e
+unfolding rest
+rest-is left e = refl
+
+-- the event is out: the definition goes on as one that finds nothing owed
+settled-is : (k : Copy) (st : State) (left : ℕ) (e : Event) (pos : ℕ) → depthBy (k .depth) e ≡ streamIn st .depth → settled (gone k st (owes left e 0)) pos ≡ standing (streamIn st) pos
+unfolding depthOnce
+settled-is k st left e pos h = λ i. record { reader = sym (state-of-stream st) i; depth = h i; pos = pos; owed = nothing }
+
+-- the event fills the buffer
+filled-is : (w : OStream) (k : Copy) (st : State) (left : ℕ) (e : Event) (end : ℕ) → copierIn w (filled (gone k st (owes left e 0)) end)
+    ≡ record { reader = streamIn st; writer = record { offset = end; depth = k .depth; pending = w .pending; npending = w .npending }; owed = owe left e; place = end - k .pos }
+unfolding further
+filled-is w k st left e end =
+    let z : 0 + (end - k .pos) ≡ end - k .pos = omega arith in
+    ap (λ (x : ℕ). record { reader = streamIn st; writer = record { offset = end; depth = k .depth; pending = w .pending; npending = w .npending }; owed = owe left e; place = x }) z
+
+module _ (s : IStream) (pos : ℕ) (c b : List ℕ) (h : pos ≤ length b) where
+  -- the call up to an event
+  abbrev Gives : ℕ → Event → State → Type 0
+  Gives n e st = copy base (standing s pos) c b ≡ after n (copy base (gone (standing s pos) st (owes (dueIn (stateOf s)) e 0)) (drop n c) b)
+
+  pub goes-out : (n : ℕ) (e : Event) (st : State) (out : List ℕ) → eventBytes (dueIn (stateOf s)) e ≡ out → length out ≤ length b - pos → Gives n e st → n ≤ length c
+      → Closes (event e) (stateOf s) st n (length c) → depthBy (s .depth) e ≡ streamIn st .depth → Live st → SoundState st
+      → Went s pos c b (streamIn st) n (reached b pos out) (put b pos out)
+  goes-out n e st out z f q few cl dp lv ss =
+      let k = gone (standing s pos) st (owes (dueIn (stateOf s)) e 0) in
+      let y : rest (owes (dueIn (stateOf s)) e 0) ≡ out = rest-is (dueIn (stateOf s)) e ∙ z in
+      let back = state-of-stream st in
+      record {
+        same =
+            q ∙ ap (after n)
+            (copy-settles base k (drop n c) b h (subst (λ (l : List ℕ). length l ≤ length b - pos) (sym y) f)
+            ∙ ap (λ (l : List ℕ). copy base (settled k (reached b pos l)) (drop n c) (put b pos l)) y
+            ∙ ap (λ (j : Copy). copy base j (drop n c) (put b pos out)) (settled-is (standing s pos) st (dueIn (stateOf s)) e (reached b pos out) dp));
+        few = few;
+        nearer = subst (λ (x : State). 2 * (length c - n) + weight x < 2 * length c + weight (stateOf s)) (sym back) cl;
+        sound = sound-is st ss;
+        live = subst Live (sym back) lv;
+        size = length-put b pos out h;
+        within = reached-le b pos out h;
+      }
+
+  by-room : (t : Bool) (n : ℕ) (e : Event) (st : State) → let o = owe (dueIn (stateOf s)) e in leb (length (outputBytes (outputOf o))) (length b - pos) ≡ t → Gives n e st → n ≤ length c
+      → Closes (event e) (stateOf s) st n (length c) → AtEvent (s .depth) (event e) st → SoundState st
+      → Turned s pos c b (pick t (turns.On (streamIn st) n (reached b pos (outputBytes (outputOf o)))) (turns.Stop (fullStop (s .depth) o n (streamIn st) pos b))) (eventBuf o pos b)
+  by-room true n e st t q few cl ae ss =
+      goes-out n e st (outputBytes (outputOf (owe (dueIn (stateOf s)) e))) (spelled-event (dueIn (stateOf s)) e (ae .1 .0)) (leb-true _ _ t) q few cl (ae .0) (ae .1 .1) ss
+  by-room false n e st t q few cl ae ss =
+      let out = outputBytes (outputOf (owe (dueIn (stateOf s)) e)) in
+      let k = gone (standing s pos) st (owes (dueIn (stateOf s)) e 0) in
+      let y : rest (owes (dueIn (stateOf s)) e 0) ≡ out = rest-is (dueIn (stateOf s)) e ∙ spelled-event (dueIn (stateOf s)) e (ae .1 .0) in
+      let f : length b - pos < length (rest (owes (dueIn (stateOf s)) e 0)) = subst (λ (l : List ℕ). length b - pos < length l) (sym y) (leb-false _ _ t) in
+      let z : n + 0 ≡ n = omega arith in
+      let full : copy base (standing s pos) c b ≡ record { used = n; answer = copying.full; copy = filled k (reached b pos out); buf = put b pos out } =
+      q ∙ ap (after n) (copy-full base k (drop n c) b f) ∙ ap (λ (l : List ℕ). record { used = n + 0; answer = copying.full; copy = filled k (reached b pos l); buf = put b pos l }) y
+      ∙ ap (λ (m : ℕ). record { used = m; answer = copying.full; copy = filled k (reached b pos out); buf = put b pos out }) z in
+      (λ w. ap (leftAs w) full ∙ ap (λ (x : Copier). record { used = n; said = Said.full; copier = x; buf = put b pos out }) (filled-is w (standing s pos) st (dueIn (stateOf s)) e (reached b pos out)), few, length-put b pos out h)
+
+  at-event : (n : ℕ) (e : Event) (st : State) (o : Owed) → o ≡ owe (dueIn (stateOf s)) e → Gives n e st → n ≤ length c → Closes (event e) (stateOf s) st n (length c)
+      → AtEvent (s .depth) (event e) st → SoundState st → Turned s pos c b (eventTurn (s .depth) o n (streamIn st) pos b) (eventBuf o pos b)
+  at-event n e st o i q few cl ae ss =
+      subst (λ (x : Owed). Turned s pos c b (eventTurn (s .depth) x n (streamIn st) pos b) (eventBuf x pos b)) (sym i)
+      (by-room (leb (length (outputBytes (outputOf (owe (dueIn (stateOf s)) e)))) (length b - pos)) n e st refl q few cl ae ss)
+
+  by-answer : (n : ℕ) (a : calls.Answer) (st : State)
+      → copy base (standing s pos) c b ≡ heard (standing s pos) c b (record { read = n; answer = a; state = st }) (λ e. copy base (gone (standing s pos) st (owes (dueIn (stateOf s)) e 0)) (drop n c) b)
+      → n ≤ length c → Closes a (stateOf s) st n (length c) → Ranged c n a → AtEvent (s .depth) a st → SoundState st
+      → let f = fedIn (record { read = n; answer = a; state = st }) in Turned s pos c b (heardTurn (s .depth) (dueIn (stateOf s)) f pos b) (heardBuf (dueIn (stateOf s)) f pos b)
+  unfolding heard fedIn
+  by-answer n (event e) st q few cl rg ae ss =
+      at-event n e st _ (owe-any (dueIn (stateOf s)) c (declared (n - covered e) e) ∙ ap (owe (dueIn (stateOf s))) (declared-back c (n - covered e) e rg)) q few cl ae ss
+  by-answer n (verdict v) st q few cl rg ae ss = (
+    λ w. ap (leftAs w) q ∙ ap (λ (x : Said). record { used = n; said = x; copier = copierIn w (gone (standing s pos) st nothing); buf = b }) (said-judged st v (cl .1)),
+    few,
+    refl,
+  )
+  by-answer n invalid st q few cl rg ae ss = (λ w. ap (leftAs w) q, few, refl)
+
+  depth-there : Live (stateOf s) → streamIn (stateOf s) .depth ≡ s .depth
+  depth-there l = ap (λ (x : IStream). x .depth) (stream-back (s .depth) (s .phase) l)
+
+  -- a call of the reader that is handed the chunk
+  called : (r : Called) → copy base (standing s pos) c b ≡ heard (standing s pos) c b r (λ e. copy base (gone (standing s pos) (r .state) (owes (dueIn (stateOf s)) e 0)) (drop (r .read) c) b)
+      → Heard base (stateOf s) c r → Ranged c (r .read) (r .answer) → AtEvent (s .depth) (r .answer) (r .state) → SoundState (r .state)
+      → Turned s pos c b (heardTurn (s .depth) (dueIn (stateOf s)) (fedIn r) pos b) (heardBuf (dueIn (stateOf s)) (fedIn r) pos b)
+  called r q hd rg ae ss = by-answer (r .read) (r .answer) (r .state) q (hd .few) (hd .closes) rg ae ss
+
+  call-sound : Bytes c → soundStream s ≡ true → Live (stateOf s) → SoundState (call base (stateOf s) c .state)
+  unfolding fedIn
+  call-sound bs t l =
+      let e : soundStream (streamIn (call base (stateOf s) c .state)) ≡ true =
+      ap (λ (f : Fed). soundStream (f .stream)) (fed-sound s (stateOf s) c refl l t) ∙ feed-keeps s c bs t in
+      subst SoundState (state-of-stream (call base (stateOf s) c .state)) (is-sound (streamIn (call base (stateOf s) c .state)) e)
+
+  -- where no payload is under way
+  pub steady-turn : soundStream s ≡ true → Live (stateOf s) → Steady (stateOf s) → Bytes c
+      → Turned s pos c b (heardTurn (s .depth) (dueIn (stateOf s)) (fedOf s c) pos b) (heardBuf (dueIn (stateOf s)) (fedOf s c) pos b)
+  steady-turn t l a bs =
+      let st = stateOf s in
+      let room = length b - pos in
+      let i : handed st room c ≡ c = still-handed st room c a in
+      let f : FairPlace (placeOf st) = fair st (is-sound s t) in
+      let k = standing s pos in
+      let q = subst (λ (x : List ℕ). copy base k c b ≡ heard k c b (call base st x) (λ e. copy base (gone k (call base st x .state) (owes (dueIn st) e 0)) (drop (call base st x .read) c) b)) i (copy-turn base k c b f refl (not-stuck st room c a)) in
+      let hd = subst (λ (x : List ℕ). Heard base st c (call base st x)) i (turn-heard base st room c f (not-stuck st room c a)) in
+      subst (λ (x : Fed). Turned s pos c b (heardTurn (s .depth) (dueIn st) x pos b) (heardBuf (dueIn st) x pos b)) (fed-sound s st c refl l t)
+      (called (call base st c) q hd (call-range st c (is-sound s t) (to-bytes c bs)) (subst (λ (x : ℕ). AtEvent x (call base st c .answer) (call base st c .state)) (depth-there l) (call-level st c bs a)) (call-sound bs t l))
+
+-- ---- a payload
+
+record Inside (s : IStream) : Type 0 where
+  id : ℕ
+  r : RawType
+  total : ℕ
+  o : ℕ
+  is : s ≡ record { phase = phases.Payload id r total o; depth = s .depth }
+
+inside : (s : IStream) → BulkState (stateOf s) → Inside s
+inside s u = go (s .phase) refl u
+  where
+    go : (p : code.Phase) → s .phase ≡ p → BulkState (stateAt (s .depth) p) → Inside s
+    go (phases.Header a) e u = absurd u
+    go (phases.Unsigned id left a) e u = absurd u
+    go (phases.Signed id left a) e u = absurd u
+    go (phases.Word id a) e u = absurd u
+    go (phases.UnsignedCount id a) e u = absurd u
+    go (phases.SignedCount id a) e u = absurd u
+    go (phases.FloatCount id a) e u = absurd u
+    go (phases.ArrayWord id count a) e u = absurd u
+    go (phases.Float id w left k v) e u = absurd u
+    go (phases.Payload id r total o) e u = record { id = id; r = r; total = total; o = o; is = ap (λ (p : code.Phase). record { phase = p; depth = s .depth }) e }
+    go (phases.Empty id r) e u = absurd u
+    go phases.Broken e u = absurd u
+
+-- a stop within a payload
+abbrev pub pause : IStream → Rattle.copier.specs.declared.Answer.Answer → ℕ → Stop
+pause s a pos = record { used = 0; answer = a; reader = s; depth = s .depth; pos = pos; owed = Nothing; place = 0 }
+
+take-none : (n : ℕ) → take {A = ℕ} n [] ≡ []
+take-none zero = refl
+take-none (suc n) = refl
+
+module _ (d id : ℕ) (r : RawType) (total o pos : ℕ) (b : List ℕ) (h : pos ≤ length b) where
+  abbrev at : IStream
+  at = record { phase = phases.Payload id r total o; depth = d }
+
+  abbrev stands : State
+  stands = reading d (inPayload id (rawSort r) total o)
+
+  -- "an empty chunk"
+  no-bytes : o < total → Turned at pos [] b (turns.Stop (pause at (Status Incomplete) pos)) b
+  unfolding stuck heard call scan judge ending
+  no-bytes f =
+      let k = standing at pos in
+      let room = length b - pos in
+      let i : handed stands room [] ≡ [] = handed-is d (inPayload id (rawSort r) total o) room [] ∙ take-none room in
+      let q = subst (λ (x : List ℕ). copy base k [] b ≡ heard k [] b (call base stands x) (λ e. copy base (gone k (call base stands x .state) (owes (dueIn stands) e 0)) (drop (call base stands x .read) []) b)) i (copy-turn base k [] b f refl refl) in
+      (λ w. ap (leftAs w) q ∙ ap (λ (x : IStream). record { used = 0; said = Said.verdict incomplete; copier = record { reader = x; writer = record { offset = pos; depth = d; pending = w .pending; npending = w .npending }; owed = Nothing; place = 0 }; buf = b }) (stream-back d (phases.Payload id r total o) tt), omega arith, refl)
+
+  no-room : (x : ℕ) (xs : List ℕ) → length b - pos ≡ 0 → Turned at pos (x ∷ xs) b (turns.Stop (pause at Full pos)) b
+  unfolding stuck
+  no-room x xs z =
+      let e : stuck stands (length b - pos) (x ∷ xs) ≡ true = ap (λ (m : ℕ). stuck stands m (x ∷ xs)) z in
+      (λ w. ap (leftAs w) (copy-stuck base (standing at pos) (x ∷ xs) b refl e) ∙ ap (λ (y : IStream). record { used = 0; said = Said.full; copier = record { reader = y; writer = record { offset = pos; depth = d; pending = w .pending; npending = w .npending }; owed = Nothing; place = 0 }; buf = b }) (stream-back d (phases.Payload id r total o) tt), omega arith, refl)
+
+  -- as many bytes as there is room for
+  module _ (x : ℕ) (xs : List ℕ) (m : ℕ) (e : length b - pos ≡ suc m) (s : SoundState stands) where
+    part : ℕ
+    part = min (total - o) (length (take (suc m) (x ∷ xs)))
+
+    abbrev next : State
+    next = reading d (pick (ltb (o + part) total) (inPayload id (rawSort r) total (o + part)) idle)
+
+    gives : call base stands (handed stands (length b - pos) (x ∷ xs)) ≡ piece 0 d id (rawSort r) total o part (take (suc m) (x ∷ xs))
+    unfolding call scan part
+    gives = ap (call base stands) (handed-is d (inPayload id (rawSort r) total o) (length b - pos) (x ∷ xs) ∙ ap (λ (n : ℕ). take n (x ∷ xs)) e)
+
+    free : stuck stands (length b - pos) (x ∷ xs) ≡ false
+    unfolding stuck
+    free = ap (λ (n : ℕ). stuck stands n (x ∷ xs)) e
+
+    sound-next : SoundState next
+    sound-next = go (ltb (o + part) total) refl
+      where
+        go : (t : Bool) → ltb (o + part) total ≡ t → SoundState (reading d (pick t (inPayload id (rawSort r) total (o + part)) idle))
+        go true q = (s .0, (s .1 .0, (s .1 .1 .0, ltb-true _ _ q)))
+        go false q = (s .0, sound-start)
+
+    least : length (take (suc m) (x ∷ xs)) ≤ suc m → part ≤ suc m
+    unfolding part
+    least l = omega arith
+
+    called-part : call base stands (take (suc m) (x ∷ xs)) ≡ piece 0 d id (rawSort r) total o part (take (suc m) (x ∷ xs))
+    unfolding call scan part
+    called-part = refl
+
+    fed-part : soundStream at ≡ true → fedOf at (take (suc m) (x ∷ xs)) ≡ fedIn (piece 0 d id (rawSort r) total o part (take (suc m) (x ∷ xs)))
+    fed-part t = sym (fed-sound at stands (take (suc m) (x ∷ xs)) refl tt t) ∙ ap fedIn called-part
+
+    some-go : Went at pos (x ∷ xs) b (streamIn next) (0 + part) (reached b pos (take (0 + part) (x ∷ xs))) (put b pos (take (0 + part) (x ∷ xs)))
+    unfolding heard depthBy eventBytes
+    some-go =
+        let c = x ∷ xs in
+        let k = standing at pos in
+        let f : FairPlace (placeOf stands) = fair stands s in
+        let ev = Piece id (rawSort r) total o (take part (take (suc m) c)) in
+        let q = subst (λ (y : Called). copy base k c b ≡ heard k c b y (λ e. copy base (gone k (y .state) (owes (dueIn stands) e 0)) (drop (y .read) c) b)) gives (copy-turn base k c b f refl free) in
+        let hd = subst (λ (y : Called). Heard base stands c y) gives (turn-heard base stands (length b - pos) c f free) in
+        let l : length (take (suc m) c) ≤ suc m = short c in
+        let p : part ≤ suc m = least l in
+        let z : 0 + part ≡ part = omega arith in
+        let w : take part (take (suc m) c) ≡ take (0 + part) c = take-take part (suc m) c p ∙ ap (λ (n : ℕ). take n c) (sym z) in
+        goes-out at pos c b h (0 + part) ev next (take (0 + part) c) w (fits c p z) q (hd .few) (hd .closes) refl tt sound-next
+      where
+        short : (c : List ℕ) → length (take (suc m) c) ≤ suc m
+        short c = omega (arith, length-take (suc m) c)
+
+        fits : (c : List ℕ) → part ≤ suc m → 0 + part ≡ part → length (take (0 + part) c) ≤ length b - pos
+        fits c p z = omega (arith, length-take (0 + part) c, e)
+
+-- the three ways of a reader within a payload
+pub piece-none : (s : IStream) (pos : ℕ) (c b : List ℕ) → pos ≤ length b → InPayload s → length c ≡ 0 → Turned s pos c b (turns.Stop (pause s (Status Incomplete) pos)) b
+piece-none s pos [] b h (t, u) z =
+    let i = inside s u in
+    let st = subst (λ (x : IStream). SoundState (stateOf x)) (i .is) (is-sound s t) in
+    subst (λ (x : IStream). Turned x pos [] b (turns.Stop (pause x (Status Incomplete) pos)) b) (sym (i .is)) (no-bytes (s .depth) (i .id) (i .r) (i .total) (i .o) pos b h (st .1 .1 .1))
+piece-none s pos (x ∷ xs) b h p z = absurd (omega arith)
+
+pub piece-full : (s : IStream) (pos : ℕ) (c b : List ℕ) → pos ≤ length b → InPayload s → (length c ≡ 0 → ⊥) → length b - pos ≡ 0 → Turned s pos c b (turns.Stop (pause s Full pos)) b
+piece-full s pos [] b h p n z = absurd (n refl)
+piece-full s pos (x ∷ xs) b h (t, u) n z =
+    let i = inside s u in
+    subst (λ (y : IStream). Turned y pos (x ∷ xs) b (turns.Stop (pause y Full pos)) b) (sym (i .is)) (no-room (s .depth) (i .id) (i .r) (i .total) (i .o) pos b h x xs z)
+
+take-least : (n room : ℕ) (c : List ℕ) → n ≡ min (length c) room → take n c ≡ take room c
+take-least n room c e = go (leb (length c) room) refl
+  where
+    go : (t : Bool) → leb (length c) room ≡ t → take n c ≡ take room c
+    go true q = let l = leb-true (length c) room q in take-all n c (omega arith) ∙ sym (take-all room c l)
+    go false q = let l = leb-false (length c) room q in let i : n ≡ room = omega arith in ap (λ (m : ℕ). take m c) i
+
+pub piece-goes : (s : IStream) (pos : ℕ) (c b : List ℕ) → pos ≤ length b → InPayload s → (length c ≡ 0 → ⊥) → (length b - pos ≡ 0 → ⊥) → (n : ℕ) → n ≡ min (length c) (length b - pos) → (f : Fed) → f ≡ fedOf s (take n c)
+    → Went s pos c b (f .stream) (f .read) (reached b pos (take (f .read) c)) (put b pos (take (f .read) c))
+unfolding fedIn
+piece-goes s pos [] b h p n z j w f g = absurd (n refl)
+piece-goes s pos (x ∷ xs) b h (t, u) n z j w f g = go (length b - pos) refl
+  where
+    i : Inside s
+    i = inside s u
+
+    Goes : IStream → Fed → Type 0
+    Goes y v = Went y pos (x ∷ xs) b (v .stream) (v .read) (reached b pos (take (v .read) (x ∷ xs))) (put b pos (take (v .read) (x ∷ xs)))
+
+    go : (m : ℕ) → length b - pos ≡ m → Goes s f
+    go zero e = absurd (z e)
+    go (suc m) e =
+        let y : IStream = record { phase = phases.Payload (i .id) (i .r) (i .total) (i .o); depth = s .depth } in
+        let st = subst (λ (x : IStream). SoundState (stateOf x)) (i .is) (is-sound s t) in
+        let v = some-go (s .depth) (i .id) (i .r) (i .total) (i .o) pos b h x xs m e st in
+        let a = fed-part (s .depth) (i .id) (i .r) (i .total) (i .o) pos b h x xs m e st (subst (λ (x : IStream). soundStream x ≡ true) (i .is) t) in
+        let k : f ≡ fedOf s (take (suc m) (x ∷ xs)) = g ∙ ap (fedOf s) (take-least j (length b - pos) (x ∷ xs) w ∙ ap (λ (n : ℕ). take n (x ∷ xs)) e) in
+        subst (λ (q : Fed). Goes s q) (sym k)
+        (subst (λ (q : IStream). Goes q (fedOf q (take (suc m) (x ∷ xs)))) (sym (i .is)) (subst (Goes y) (sym a) v))
+
+-- ---- the loop
+
+after-after : (n m : ℕ) (r : copying.Copied) → after n (after m r) ≡ after (n + m) r
+after-after n m r = let e : n + (m + r .used) ≡ n + m + r .used = omega arith in ap (λ (x : ℕ). record { used = x; answer = r .answer; copy = r .copy; buf = r .buf }) e
+
+-- n bytes of the chunk are used, and the call goes on from the reader s at pos over b
+pub record Going (s₀ : IStream) (pos₀ : ℕ) (c b₀ b : List ℕ) (s : IStream) (pos n : ℕ) : Type 0 where
+  pub used : n ≤ length c
+  pub within : pos ≤ length b
+  pub size : length b ≡ length b₀
+  pub sound : soundStream s ≡ true
+  pub live : Live (stateOf s)
+  pub same : copy base (standing s₀ pos₀) c b₀ ≡ after n (copy base (standing s pos) (drop n c) b)
+
+pub going-start : (s : IStream) (pos : ℕ) (c b : List ℕ) → soundStream s ≡ true → Live (stateOf s) → pos ≤ length b → Going s pos c b b s pos 0
+going-start s pos c b t l h =
+    let r = copy base (standing s pos) c b in
+    let z : r .used ≡ 0 + r .used = omega arith in
+    record { used = omega arith; within = h; size = refl; sound = t; live = l; same = ap (λ (x : ℕ). record { used = x; answer = r .answer; copy = r .copy; buf = r .buf }) z }
+
+module _ (s₀ : IStream) (pos₀ : ℕ) (c b₀ b : List ℕ) (s : IStream) (pos n : ℕ) (g : Going s₀ pos₀ c b₀ b s pos n) where
+  pub going-next : (s′ : IStream) (m pos′ : ℕ) (b′ : List ℕ) → Went s pos (drop n c) b s′ m pos′ b′ → Going s₀ pos₀ c b₀ b′ s′ pos′ (n + m)
+  going-next s′ m pos′ b′ w =
+      let l = length-drop n c in
+      let k = w .few in
+      let u = g .used in
+      let v = w .within in
+      let z = w .size in
+      record {
+        used = omega arith;
+        within = omega arith;
+        size = w .size ∙ g .size;
+        sound = w .sound;
+        live = w .live;
+        same =
+            g .same ∙ ap (after n) (w .same) ∙ after-after n m (copy base (standing s′ pos′) (drop m (drop n c)) b′)
+            ∙ ap (λ (x : List ℕ). after (n + m) (copy base (standing s′ pos′) x b′)) (drop-drop m n c);
+      }
+
+  pub going-less : (s′ : IStream) (m pos′ : ℕ) (b′ : List ℕ) → Went s pos (drop n c) b s′ m pos′ b′ → 2 * (length c - (n + m)) + weight (stateOf s′) < 2 * (length c - n) + weight (stateOf s)
+  going-less s′ m pos′ b′ w = let l = length-drop n c in let k = w .nearer in omega arith
+
+  pub going-stop : (t : Stop) (b′ : List ℕ) → Turned s pos (drop n c) b (turns.Stop t) b′ → Ran s₀ pos₀ c b₀ (later n t) b′
+  going-stop t b′ (q, u, v) w =
+      ap (leftAs w) (g .same)
+      ∙ ap (λ (x : Left). record { used = n + x .used; said = x .said; copier = x .copier; buf = x .buf }) (q w)
+
+  pub stop-used : (t : Stop) (b′ : List ℕ) → Turned s pos (drop n c) b (turns.Stop t) b′ → n + t .used ≤ length c
+  stop-used t b′ (q, u, v) = let l = length-drop n c in let k = g .used in omega arith
+
+pub ran-by : (s : IStream) (pos : ℕ) (c b : List ℕ) (t t′ : Stop) (b′ : List ℕ) → t ≡ t′ → Ran s pos c b t′ b′ → Ran s pos c b t b′
+ran-by s pos c b t t′ b′ e h = subst (λ (x : Stop). Ran s pos c b x b′) (sym e) h
+
+pub rest-is-whole : (n : ℕ) (c : List ℕ) → take (length c - n) (drop n c) ≡ drop n c
+rest-is-whole n c = take-all (length c - n) (drop n c) (omega (arith, length-drop n c))

@@ -1,0 +1,47 @@
+-- `copier::due`: by phase.
+use mathlib.Core.Path.{_≡_, refl, sym, ap, _∙_, subst}
+use Rattle.phase.specs.declared.Phase.{Phase}
+use Rattle.phase.specs.Phases.{stateAt}
+use Rattle.copying.specs.Owed.{dueIn}
+use Rattle.copier.proofs.Tests.{none-due}
+use borrow.Author.Needs.{needs}
+use Rattle.copier.proofs.due.Statement.{statement}
+use Rattle.copier.proofs.due.Tie as tie
+use Rattle.copier.proofs.due.Reads as reads
+use Rattle.copier.proofs.due.Lts as lts
+
+enum-known-phase : tie.Need-enum-known-phase
+enum-known-phase c = search needs
+
+enum-known-phase-2 : tie.Need-enum-known-phase-2
+enum-known-phase-2 c = search needs
+
+enum-known-phase-3 : tie.Need-enum-known-phase-3
+enum-known-phase-3 c = search needs
+
+returns : tie.Need-returns
+unfolding dueIn
+returns c = sym (ap (λ (p : Phase). dueIn (stateAt (c .before .before .before .args .reader .depth) p)) (c .before .phase .given .1))
+
+returns-2 : tie.Need-returns-2
+unfolding dueIn
+returns-2 c = sym (ap (λ (p : Phase). dueIn (stateAt (c .before .before .before .args .reader .depth) p)) (c .before .phase2 .given .1))
+
+returns-3 : tie.Need-returns-3
+unfolding dueIn
+returns-3 c = sym (ap (λ (p : Phase). dueIn (stateAt (c .before .before .before .args .reader .depth) p)) (c .before .phase3 .given .1))
+
+returns-4 : tie.Need-returns-4
+returns-4 c = none-due (c .before .args .reader) (c .match .keys4)
+
+pub due-spec : {M : Type 1} → statement M
+due-spec =
+    tie.close
+    (tie.spec
+    enum-known-phase
+    enum-known-phase-2
+    enum-known-phase-3
+    returns
+    returns-2
+    returns-3
+    returns-4)

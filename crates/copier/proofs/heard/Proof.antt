@@ -1,0 +1,50 @@
+-- `copier::heard`: by the reader's answer.
+use Rattle.copier.proofs.Tests.{heard-event, heard-status, heard-refused}
+use borrow.Author.Needs.{needs}
+use Rattle.copier.proofs.heard.Statement.{statement}
+use Rattle.copier.proofs.heard.Tie as tie
+use Rattle.copier.proofs.heard.Reads as reads
+use Rattle.copier.proofs.heard.Lts as lts
+use Rattle.copier.proofs.written.Reads as written-reads
+use Rattle.owed.proofs.owe.Reads as owe-reads
+
+enum-known-answer : tie.Need-enum-known-answer
+enum-known-answer c = search needs
+
+owe-requires : tie.Need-owe-requires
+owe-requires c κs = search needs
+
+written-requires : tie.Need-written-requires
+written-requires c κs = search needs
+
+enum-known-answer-2 : tie.Need-enum-known-answer-2
+enum-known-answer-2 c = search needs
+
+enum-known-answer-3 : tie.Need-enum-known-answer-3
+enum-known-answer-3 c = search needs
+
+same-length : tie.Need-same-length
+same-length c = search needs
+
+returns : tie.Need-returns
+returns c = heard-event (c .before .before .before .before .before .before .before .before .before .before .args .depth) (c .before .before .before .before .before .before .before .before .before .before .args .left) (c .before .before .before .before .before .before .before .before .before .before .args .fed) (c .before .before .before .before .before .before .before .before .before .before .args .pos) (c .before .before .before .before .before .before .before .before .before .before .args .buf .now) _ _ _ _ (c .before .before .before .before .before .before .answer .given .1) (c .before .before .before .before .owe .ensures) (c .before .before .written .ensures)
+
+returns-2 : tie.Need-returns-2
+returns-2 c = heard-status (c .before .before .before .before .before .args .depth) (c .before .before .before .before .before .args .left) (c .before .before .before .before .before .args .fed) (c .before .before .before .before .before .args .pos) (c .before .before .before .before .before .args .buf .now) _ (c .before .answer2 .given .1)
+
+returns-3 : tie.Need-returns-3
+returns-3 c = heard-refused (c .before .before .before .before .before .args .depth) (c .before .before .before .before .before .args .left) (c .before .before .before .before .before .args .fed) (c .before .before .before .before .before .args .pos) (c .before .before .before .before .before .args .buf .now) _ (c .before .answer3 .given .1)
+
+pub heard-spec : {M : Type 1} → statement M
+heard-spec =
+    tie.close
+    (tie.spec
+    enum-known-answer
+    owe-requires
+    written-requires
+    enum-known-answer-2
+    enum-known-answer-3
+    same-length
+    returns
+    returns-2
+    returns-3)

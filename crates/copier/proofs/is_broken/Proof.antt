@@ -1,0 +1,19 @@
+-- `copier::is_broken`: one phase.
+use Rattle.copier.proofs.Tests.{not-broke}
+use borrow.Author.Needs.{needs}
+use Rattle.copier.proofs.is_broken.Statement.{statement}
+use Rattle.copier.proofs.is_broken.Tie as tie
+use Rattle.copier.proofs.is_broken.Reads as reads
+use Rattle.copier.proofs.is_broken.Lts as lts
+
+enum-told : tie.Need-enum-told
+enum-told c = search needs
+
+returns : tie.Need-returns
+returns c = search needs
+
+returns-2 : tie.Need-returns-2
+returns-2 c = not-broke (c .before .args .reader) (c .match .keys2)
+
+pub is-broken-spec : {M : Type 1} → statement M
+is-broken-spec = tie.close (tie.spec enum-told returns returns-2)

@@ -1,0 +1,61 @@
+-- `copier::written`: the event fits or fills the buffer.
+use Prim.Native.Nat.{ℕ, _+_, _-_, _≤_, _<_}
+use mathlib.Core.Path.{_≡_}
+use native.Mathlib.Omega.{arith}
+use lib.ListN.{length, drop}
+use Rattle.owed.specs.Owed.{outputBytes}
+use Rattle.emit.proofs.Writes.{reached-is}
+use Rattle.copier.proofs.Tests.{event-full, event-fits}
+use borrow.Author.Needs.{needs}
+use Rattle.copier.proofs.written.Statement.{statement}
+use Rattle.copier.proofs.written.Tie as tie
+use Rattle.copier.proofs.written.Reads as reads
+use Rattle.copier.proofs.written.Lts as lts
+use Rattle.owed.proofs.Output.len.Reads as len-reads
+use Rattle.owed.proofs.Output.put.Reads as put-reads
+use Rattle.owed.proofs.Owed.output.Reads as output-reads
+
+output-requires : tie.Need-output-requires
+output-requires c κs = search needs
+
+len-requires : tie.Need-len-requires
+len-requires c κs = search needs
+
+sub-room : tie.Need-sub-room
+sub-room c = search needs
+
+put-requires : tie.Need-put-requires
+put-requires c κs = search needs
+
+sub-t17 : tie.Need-sub-t17
+sub-t17 c = let e = c .before .before .before .put .ensures .0 in let r = reached-is (c .before .before .before .before .before .before .before .before .args .buf .now) (c .before .before .before .before .before .before .before .before .args .pos) (drop 0 (outputBytes (c .before .before .before .before .before .before .output .result))) in omega arith
+
+cast-t18 : tie.Need-cast-t18
+cast-t18 c = let e = c .before .before .before .put .ensures .0 in let r = reached-is (c .before .before .before .before .before .before .before .before .args .buf .now) (c .before .before .before .before .before .before .before .before .args .pos) (drop 0 (outputBytes (c .before .before .before .before .before .before .output .result))) in let l = c .before .before .before .before .before .len .ensures in record { fits = omega (arith, l .0, l .1) }
+
+same-length : tie.Need-same-length
+same-length c = search needs
+
+returns : tie.Need-returns
+returns c = event-full (c .before .before .before .before .before .before .before .before .args .depth) (c .before .before .before .before .before .before .before .before .args .owed) (c .before .before .before .before .before .before .before .before .args .read) (c .before .before .before .before .before .before .before .before .args .reader) (c .before .before .before .before .before .before .before .before .args .pos) (c .before .before .before .before .before .before .before .before .args .buf .now) (c .before .before .before .put .result) (c .before .before .before .before .before .len .result) _ (c .before .before .before .before .before .before .output .result) (c .before .before .before .before .before .before .output .ensures) (c .before .before .before .before .before .len .ensures .0) (c .before .before .before .put .ensures) (c .if1 .taken)
+
+same-length-2 : tie.Need-same-length-2
+same-length-2 c = search needs
+
+returns-2 : tie.Need-returns-2
+returns-2 c = event-fits (c .before .before .before .before .before .before .before .before .args .depth) (c .before .before .before .before .before .before .before .before .args .owed) (c .before .before .before .before .before .before .before .before .args .read) (c .before .before .before .before .before .before .before .before .args .reader) (c .before .before .before .before .before .before .before .before .args .pos) (c .before .before .before .before .before .before .before .before .args .buf .now) (c .before .before .before .put .result) (c .before .before .before .before .before .len .result) _ (c .before .before .before .before .before .before .output .result) (c .before .before .before .before .before .before .output .ensures) (c .before .before .before .before .before .len .ensures .0) (c .before .before .before .put .ensures) (c .if1 .left)
+
+pub written-spec : {M : Type 1} → statement M
+written-spec =
+    tie.close
+    (tie.spec
+    output-requires
+    len-requires
+    sub-room
+    put-requires
+    sub-t17
+    cast-t18
+    same-length
+    returns
+    same-length-2
+    returns-2)

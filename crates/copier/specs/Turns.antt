@@ -1,0 +1,134 @@
+-- What one event comes to in the code's loop, and the loop itself: cited by private functions alone. `feed` has its equation in `Calls`.
+use Prim.Native.Nat.{ℕ, _+_, _-_, _*_, _<_, _≤_}
+use mathlib.Core.Path.{_≡_}
+use mathlib.Core.Bool.{Bool, true, false}
+use mathlib.Core.List.{List, []}
+use lib.Dec.{leb}
+use lib.ListN.{length, drop}
+use Rattle.layout.specs.Limits.{base, pick}
+use Rattle.machine.specs.Call.{State, reading, owing, broke, Pace, byte, bulk, paceOf}
+use Rattle.machine.proofs.Calls.{weight}
+use Rattle.types.specs.declared.Error.{Error}
+use Rattle.event.specs.Event.{eventOf}
+use Rattle.istream.specs.declared.IStream.{IStream}
+use Rattle.istream.specs.declared.Fed.{Fed}
+use Rattle.istream.specs.declared.Answer as heard
+use Rattle.istream.specs.declared.Answer.the-variants as answers
+use Rattle.istream.specs.Stream.{stateOf, soundStream}
+use Rattle.istream.proofs.Calls.{Live}
+use Rattle.ostream.specs.declared.OStream.{OStream}
+use Rattle.emit.specs.Put.{put, reached}
+use Rattle.copying.specs.Owed.{nothing}
+use Rattle.copying.specs.Copy.{Copy, after, copy}
+use Rattle.copying.specs.Copy as copying
+use Rattle.owed.specs.declared.Owed.{Owed}
+use Rattle.owed.specs.declared.Owed.the-variants.{Nothing}
+use Rattle.owed.specs.Owed.{owe, outputOf, outputBytes}
+use Rattle.copier.specs.declared.Copier.{Copier}
+use Rattle.copier.specs.declared.Copied.{Copied}
+use Rattle.copier.specs.declared.Answer.the-variants.{Full, Status, Refused}
+use Rattle.copier.specs.declared.Stop.{Stop}
+use Rattle.copier.specs.declared.Turn.{Turn}
+use Rattle.copier.specs.declared.Turn.the-variants as turns
+use Rattle.copier.specs.Copier.{moved, copierIn, soundWriter}
+use Rattle.copier.specs.Calls.{Left, saidOf, saidIn}
+
+abbrev pub isBroke : State → Bool
+isBroke (reading d p) = false
+isBroke (owing d id r) = false
+isBroke broke = true
+
+abbrev pub refused : Error → Copier → Copied
+refused e k = record { used = 0; answer = Refused e; copier = k }
+
+-- ---- between events
+
+-- the copier where nothing is owed
+abbrev pub standing : IStream → ℕ → Copy
+standing s pos = record { reader = stateOf s; depth = s .depth; pos = pos; owed = nothing }
+
+-- what a stop leaves, with the writer's places
+abbrev pub copierAt : OStream → Stop → Copier
+copierAt w s = record { reader = s .reader; writer = moved w (s .pos) (s .depth); owed = s .owed; place = s .place }
+
+abbrev pub finished : OStream → Stop → Copied
+finished w s = record { used = s .used; answer = s .answer; copier = copierAt w s }
+
+abbrev pub stopLeft : OStream → Stop → List ℕ → Left
+stopLeft w s b = record { used = s .used; said = saidOf (s .answer); copier = copierAt w s; buf = b }
+
+abbrev pub leftAs : OStream → copying.Copied → Left
+leftAs w r = record { used = r .used; said = saidIn (r .answer); copier = copierIn w (r .copy); buf = r .buf }
+
+-- a stop is what the call comes to, whatever the writer's places
+abbrev pub Stops : copying.Copied → Stop → List ℕ → Type 0
+Stops r s b = (w : OStream) → leftAs w r ≡ stopLeft w s b
+
+abbrev pub later : ℕ → Stop → Stop
+later n s = record { used = n + s .used; answer = s .answer; reader = s .reader; depth = s .depth; pos = s .pos; owed = s .owed; place = s .place }
+
+-- ---- one event
+
+abbrev pub fullStop : ℕ → Owed → ℕ → IStream → ℕ → List ℕ → Stop
+fullStop d o n s pos b =
+    let end = reached b pos (outputBytes (outputOf o)) in
+    record { used = n; answer = Full; reader = s; depth = d; pos = end; owed = o; place = end - pos }
+
+abbrev pub eventTurn : ℕ → Owed → ℕ → IStream → ℕ → List ℕ → Turn
+eventTurn d o n s pos b =
+    pick (leb (length (outputBytes (outputOf o))) (length b - pos)) (turns.On s n (reached b pos (outputBytes (outputOf o)))) (turns.Stop (fullStop d o n s pos b))
+
+abbrev pub eventBuf : Owed → ℕ → List ℕ → List ℕ
+eventBuf o pos b = put b pos (outputBytes (outputOf o))
+
+-- by what the reader answers
+abbrev pub turnBy : ℕ → ℕ → heard.Answer → ℕ → IStream → ℕ → List ℕ → Turn
+turnBy d left (answers.Event e) n s pos b = eventTurn d (owe left (eventOf [] e)) n s pos b
+turnBy d left (answers.Status v) n s pos b = turns.Stop (record { used = n; answer = Status v; reader = s; depth = d; pos = pos; owed = Nothing; place = 0 })
+turnBy d left (answers.Refused e) n s pos b = turns.Stop (record { used = n; answer = Refused e; reader = s; depth = d; pos = pos; owed = Nothing; place = 0 })
+
+abbrev pub bufBy : ℕ → heard.Answer → ℕ → List ℕ → List ℕ
+bufBy left (answers.Event e) pos b = eventBuf (owe left (eventOf [] e)) pos b
+bufBy left (answers.Status v) pos b = b
+bufBy left (answers.Refused e) pos b = b
+
+abbrev pub heardTurn : ℕ → ℕ → Fed → ℕ → List ℕ → Turn
+heardTurn d left f pos b = turnBy d left (f .answer) (f .read) (f .stream) pos b
+
+abbrev pub heardBuf : ℕ → Fed → ℕ → List ℕ → List ℕ
+heardBuf left f pos b = bufBy left (f .answer) pos b
+
+abbrev pub Bulk : Pace → Type 0
+Bulk byte = ⊥
+Bulk (bulk id r total o) = Unit {0}
+
+abbrev pub BulkState : State → Type 0
+BulkState (reading d p) = Bulk (paceOf p)
+BulkState (owing d id r) = ⊥
+BulkState broke = ⊥
+
+-- a sound reader within a payload
+abbrev pub InPayload : IStream → Type 0
+InPayload s = (soundStream s ≡ true) × BulkState (stateOf s)
+
+-- an event is out, with n bytes of the chunk: the call goes on from there, nearer to its end
+pub record Went (s : IStream) (pos : ℕ) (c b : List ℕ) (s′ : IStream) (n pos′ : ℕ) (b′ : List ℕ) : Type 0 where
+  pub same : copy base (standing s pos) c b ≡ after n (copy base (standing s′ pos′) (drop n c) b′)
+  pub few : n ≤ length c
+  pub nearer : 2 * (length c - n) + weight (stateOf s′) < 2 * length c + weight (stateOf s)
+  pub sound : soundStream s′ ≡ true
+  pub live : Live (stateOf s′)
+  pub size : length b′ ≡ length b
+  pub within : pos′ ≤ length b
+
+abbrev pub Turned : IStream → ℕ → List ℕ → List ℕ → Turn → List ℕ → Type 0
+Turned s pos c b (turns.On s′ n pos′) b′ = Went s pos c b s′ n pos′ b′
+Turned s pos c b (turns.Stop t) b′ = Stops (copy base (standing s pos) c b) t b′ × (t .used ≤ length c) × (length b′ ≡ length b)
+
+-- the loop
+abbrev pub Ran : IStream → ℕ → List ℕ → List ℕ → Stop → List ℕ → Type 0
+Ran s pos c b t b′ = Stops (copy base (standing s pos) c b) t b′
+
+-- a copier that is sound for a buffer of this size, and whose reader goes on
+abbrev pub Ready : Copier → ℕ → Type 0
+Ready k size = (soundStream (k .reader) ≡ true) × (Live (stateOf (k .reader)) × (soundWriter k size ≡ true))

@@ -1,0 +1,94 @@
+-- `fields::put_fixlen_field`: straight away, or the head and the bytes from the place on.
+use Prim.Native.Nat.{_+_, _-_, _≤_}
+use mathlib.Core.Path.{_≡_, sym, _∙_}
+use mathlib.Core.List.{_++_}
+use native.Mathlib.Omega.{arith}
+use lib.ListN.{length, length-append}
+use borrow.Author.Tests.{leb-true}
+use Rattle.layout.specs.Varint.{shortest}
+use Rattle.varint.proofs.Shortest.{length-64}
+use Rattle.emit.proofs.Segments.{joined}
+use Rattle.held.specs.Headers.{headersOf, headOf}
+use Rattle.held.proofs.Ends.{ended, ended-as, grouped}
+use Rattle.straight.proofs.Straight.{clean-zeros}
+use Rattle.fields.proofs.Behind.{behind}
+use borrow.Author.Needs.{needs}
+use Rattle.fields.proofs.put_fixlen_field.Statement.{statement}
+use Rattle.fields.proofs.put_fixlen_field.Tie as tie
+use Rattle.fields.proofs.put_fixlen_field.Reads as reads
+use Rattle.fields.proofs.put_fixlen_field.Lts as lts
+use Rattle.answers.proofs.finish.Reads as finish-reads
+use Rattle.emit.proofs.Cursor.put_bytes.Reads as put-bytes-reads
+use Rattle.held.proofs.has_room_behind.Reads as has-room-behind-reads
+use Rattle.held.proofs.head_len.Reads as head-len-reads
+use Rattle.held.proofs.put_head.Reads as put-head-reads
+use Rattle.held.proofs.put_held.Reads as put-held-reads
+use Rattle.straight.proofs.put_field.Reads as put-field-reads
+
+has-room-behind-requires : tie.Need-has-room-behind-requires
+has-room-behind-requires c κs = search needs
+
+put-held-requires : tie.Need-put-held-requires
+put-held-requires c κs = search needs
+
+put-field-requires : tie.Need-put-field-requires
+put-field-requires c κs = search needs
+
+same-length : tie.Need-same-length
+same-length c = search needs
+
+returns : tie.Need-returns
+returns c =
+    let z = c .before .before .before .before .before .before .before .before .before .before .before .before .before in
+    let a = z .args in
+    let m : length (headersOf (a .held) (a .places)) + 20 + length (a .bytes .now) ≤ length (a .buf .now) - a .pos = leb-true _ _ (sym (c .before .before .before .before .before .before .before .before .before .has-room-behind .ensures) ∙ c .before .before .before .before .before .before .before .before .if2 .taken) in
+    let lh = length-64 (a .header) (z .fits .header .fits) in
+    let lw = length-64 (a .word) (z .fits .word .fits) in
+    let d = length-append (shortest (a .header)) (shortest (a .word) ++ a .bytes .now) in
+    let o = length-append (shortest (a .word)) (a .bytes .now) in
+    behind (a .pos) (a .buf .now) (headersOf (a .held) (a .places)) (shortest (a .header) ++ (shortest (a .word) ++ a .bytes .now)) (a .place) (length (a .bytes .now)) _ _ _ _ _ (c .before .before .before .before .before .before .before .before .before .before .if1 .taken) (omega arith) (omega arith) (c .before .before .before .before .before .before .put-held .ensures) clean-zeros (c .before .before .put-field .ensures)
+
+put-head-requires : tie.Need-put-head-requires
+put-head-requires c κs = search needs
+
+put-bytes-requires : tie.Need-put-bytes-requires
+put-bytes-requires c κs = search needs
+
+head-len-requires : tie.Need-head-len-requires
+head-len-requires c κs = search needs
+
+add-total : tie.Need-add-total
+add-total c = search needs
+
+finish-requires : tie.Need-finish-requires
+finish-requires c κs = search needs
+
+same-length-2 : tie.Need-same-length-2
+same-length-2 c = search needs
+
+returns-2 : tie.Need-returns-2
+returns-2 c =
+    let z = c .before .before .before .before .before .before .before .before .before .before .before .before .before in
+    let a = z .args in
+    let h = headOf (a .held) (a .places) (a .header) (a .word) in
+    let l = c .before .head-len .ensures .0 in
+    let n = length-append h (a .bytes .now) in
+    let e = joined _ _ _ _ _ _ _ _ (z .pre .1) (c .before .before .before .before .before .before .before .before .put-head .ensures) (c .before .before .before .before .put-bytes .ensures) in
+    ended-as (a .pos) (a .buf .now) (h ++ a .bytes .now) _ (a .place) _ _ (grouped (headersOf (a .held) (a .places)) (shortest (a .header)) (shortest (a .word)) (a .bytes .now)) (ended _ _ _ _ _ _ e _ _ (omega arith) (c .finish .ensures))
+
+pub put-fixlen-field-spec : {M : Type 1} → statement M
+put-fixlen-field-spec =
+    tie.close
+    (tie.spec
+    has-room-behind-requires
+    put-held-requires
+    put-field-requires
+    same-length
+    returns
+    put-head-requires
+    put-bytes-requires
+    head-len-requires
+    add-total
+    finish-requires
+    same-length-2
+    returns-2)

@@ -1,0 +1,68 @@
+-- `fields::put_marker`: two segments.
+use Prim.Native.Nat.{_+_, _≤_}
+use mathlib.Core.Path.{_≡_, sym, _∙_}
+use native.Mathlib.Omega.{arith}
+use lib.ListN.{length, length-append}
+use Rattle.layout.specs.Varint.{shortest}
+use Rattle.varint.proofs.Shortest.{length-64}
+use Rattle.emit.proofs.Segments.{joined}
+use Rattle.held.specs.Headers.{headersOf}
+use Rattle.held.proofs.Ends.{ended}
+use borrow.Author.Needs.{needs}
+use Rattle.fields.proofs.put_marker.Statement.{statement}
+use Rattle.fields.proofs.put_marker.Tie as tie
+use Rattle.fields.proofs.put_marker.Reads as reads
+use Rattle.fields.proofs.put_marker.Lts as lts
+use Rattle.answers.proofs.finish.Reads as finish-reads
+use Rattle.emit.proofs.Cursor.put_varint.Reads as put-varint-reads
+use Rattle.held.proofs.held_len.Reads as held-len-reads
+use Rattle.held.proofs.put_held.Reads as put-held-reads
+use Rattle.varint.proofs.varint_len.Reads as varint-len-reads
+
+put-held-requires : tie.Need-put-held-requires
+put-held-requires c κs = search needs
+
+put-varint-requires : tie.Need-put-varint-requires
+put-varint-requires c κs = search needs
+
+held-len-requires : tie.Need-held-len-requires
+held-len-requires c κs = search needs
+
+varint-len-requires : tie.Need-varint-len-requires
+varint-len-requires c κs = search needs
+
+add-finish : tie.Need-add-finish
+add-finish c =
+    let z = c .before .before .before .before .before .before .before .before .before .before .before in
+    let h = length-64 (z .args .header) (z .fits .header .fits) in
+    let e = c .varint-len .ensures in
+    let l = c .before .held-len .ensures .1 in
+    record { fits = omega arith }
+
+finish-requires : tie.Need-finish-requires
+finish-requires c κs = search needs
+
+same-length : tie.Need-same-length
+same-length c = search needs
+
+returns : tie.Need-returns
+returns c =
+    let z = c .before .before .before .before .before .before .before .before .before .before .before .before in
+    let a = z .args in
+    let l = c .before .before .held-len .ensures .0 in
+    let v = c .before .varint-len .ensures in
+    let n = length-append (headersOf (a .held) (a .places)) (shortest (a .header)) in
+    ended _ _ _ _ _ _ (joined _ _ _ _ _ _ _ _ (z .pre .1) (c .before .before .before .before .before .before .before .before .before .put-held .ensures) (c .before .before .before .before .before .put-varint .ensures)) _ _ (omega arith) (c .finish .ensures)
+
+pub put-marker-spec : {M : Type 1} → statement M
+put-marker-spec =
+    tie.close
+    (tie.spec
+    put-held-requires
+    put-varint-requires
+    held-len-requires
+    varint-len-requires
+    add-finish
+    finish-requires
+    same-length
+    returns)

@@ -1,0 +1,76 @@
+-- `fields::put_varint_field`: straight away, or the head from the place on.
+use Prim.Native.Nat.{_+_, _-_, _≤_}
+use mathlib.Core.Path.{_≡_, sym, _∙_}
+use mathlib.Core.List.{_++_}
+use native.Mathlib.Omega.{arith}
+use lib.ListN.{length, length-append}
+use borrow.Author.Tests.{leb-true}
+use Rattle.layout.specs.Varint.{shortest}
+use Rattle.varint.proofs.Shortest.{length-64}
+use Rattle.held.specs.Headers.{headersOf}
+use Rattle.held.proofs.Ends.{ended}
+use Rattle.straight.proofs.Straight.{clean-zeros}
+use Rattle.fields.proofs.Behind.{behind}
+use borrow.Author.Needs.{needs}
+use Rattle.fields.proofs.put_varint_field.Statement.{statement}
+use Rattle.fields.proofs.put_varint_field.Tie as tie
+use Rattle.fields.proofs.put_varint_field.Reads as reads
+use Rattle.fields.proofs.put_varint_field.Lts as lts
+use Rattle.answers.proofs.finish.Reads as finish-reads
+use Rattle.held.proofs.has_room_behind.Reads as has-room-behind-reads
+use Rattle.held.proofs.head_len.Reads as head-len-reads
+use Rattle.held.proofs.put_head.Reads as put-head-reads
+use Rattle.held.proofs.put_held.Reads as put-held-reads
+use Rattle.straight.proofs.put_pair.Reads as put-pair-reads
+
+has-room-behind-requires : tie.Need-has-room-behind-requires
+has-room-behind-requires c κs = search needs
+
+put-held-requires : tie.Need-put-held-requires
+put-held-requires c κs = search needs
+
+put-pair-requires : tie.Need-put-pair-requires
+put-pair-requires c κs = search needs
+
+same-length : tie.Need-same-length
+same-length c = search needs
+
+returns : tie.Need-returns
+returns c =
+    let z = c .before .before .before .before .before .before .before .before .before .before .before .before in
+    let a = z .args in
+    let m : length (headersOf (a .held) (a .places)) + 20 + 0 ≤ length (a .buf .now) - a .pos = leb-true _ _ (sym (c .before .before .before .before .before .before .before .before .before .has-room-behind .ensures) ∙ c .before .before .before .before .before .before .before .before .if2 .taken) in
+    let lh = length-64 (a .header) (z .fits .header .fits) in
+    let lv = length-64 (a .value) (z .fits .value .fits) in
+    let o = length-append (shortest (a .header)) (shortest (a .value)) in
+    behind (a .pos) (a .buf .now) (headersOf (a .held) (a .places)) (shortest (a .header) ++ shortest (a .value)) (a .place) 0 _ _ _ _ _ (c .before .before .before .before .before .before .before .before .before .before .if1 .taken) (omega arith) (omega arith) (c .before .before .before .before .before .before .put-held .ensures) clean-zeros (c .before .before .put-pair .ensures)
+
+put-head-requires : tie.Need-put-head-requires
+put-head-requires c κs = search needs
+
+head-len-requires : tie.Need-head-len-requires
+head-len-requires c κs = search needs
+
+finish-requires : tie.Need-finish-requires
+finish-requires c κs = search needs
+
+same-length-2 : tie.Need-same-length-2
+same-length-2 c = search needs
+
+returns-2 : tie.Need-returns-2
+returns-2 c = ended _ _ _ _ _ _ (c .before .before .before .before .put-head .ensures) _ _ (c .before .head-len .ensures .0) (c .finish .ensures)
+
+pub put-varint-field-spec : {M : Type 1} → statement M
+put-varint-field-spec =
+    tie.close
+    (tie.spec
+    has-room-behind-requires
+    put-held-requires
+    put-pair-requires
+    same-length
+    returns
+    put-head-requires
+    head-len-requires
+    finish-requires
+    same-length-2
+    returns-2)

@@ -1,0 +1,64 @@
+-- `held::clear`: the first i places are zeroed.
+use Prim.Native.Nat.{ℕ, _+_, _-_, _≤_, _<_}
+use mathlib.Core.Path.{_≡_, refl, sym, ap, _∙_}
+use mathlib.Core.Bool.{Bool, true, false}
+use native.Mathlib.Omega.{arith}
+use borrow.Author.Needs.{needs}
+use borrow.Author.Tests.{le-leb, lt-leb, eq-eqb, ne-eqb}
+use lib.Dec.{leb, eqb}
+use mathlib.Core.List.{List}
+use lib.ListN.{length, take, drop, set}
+use Rattle.layout.specs.Limits.{base}
+use Rattle.held.specs.Places.{every, zeroed}
+use Rattle.held.proofs.Places.{zeroed-more, length-zeroed}
+use Rattle.held.proofs.clear.Statement.{statement}
+use Rattle.held.proofs.clear.Tie as tie
+use Rattle.held.proofs.clear.Reads as reads
+use Rattle.held.proofs.clear.Lts as lts
+
+abbrev Inv-loop : tie.InvT-loop
+Inv-loop n cleared₀ i₀ cleared i = (i ≤ n) × (n ≤ 8) × (length cleared₀ ≡ 8) × (cleared ≡ zeroed i cleared₀)
+
+abbrev μ-loop : tie.MeasureT-loop
+μ-loop n cleared₀ i₀ cleared i = n - i
+
+loop-holds : tie.Need-loop-holds Inv-loop μ-loop
+loop-holds c =
+    let l : length (c .args .places) ≡ 8 = search needs in
+    (omega arith, c .pre, l, refl)
+
+mul-cleared : tie.Need-mul-cleared Inv-loop μ-loop
+mul-cleared c = search needs
+
+array-write-cleared : tie.Need-array-write-cleared Inv-loop μ-loop
+array-write-cleared c = let i = c .before .loop .inv in omega (arith, ap length (i .3), length-zeroed (c .before .before .args .places) (c .before .loop .i) (omega arith))
+
+add-i : tie.Need-add-i Inv-loop μ-loop
+add-i c = search needs
+
+loop-less : tie.Need-loop-less Inv-loop μ-loop
+loop-less c = search needs
+
+loop-again : tie.Need-loop-again Inv-loop μ-loop
+loop-again c =
+    let i = c .before .loop .inv in
+    (omega arith, i .1, i .2, ap (λ (l : List ℕ). set l (c .before .loop .i) 0) (i .3) ∙ zeroed-more (c .before .before .args .places) (c .before .loop .i) (omega arith))
+
+returns : tie.Need-returns Inv-loop μ-loop
+returns c =
+    let e : c .before .loop .i ≡ c .before .before .args .n = omega arith in
+    c .before .loop .inv .3 ∙ ap (λ (k : ℕ). zeroed k (c .before .before .args .places)) e
+
+pub clear-spec : {M : Type 1} → statement M
+clear-spec =
+    tie.close
+    (tie.spec
+    Inv-loop
+    μ-loop
+    loop-holds
+    mul-cleared
+    array-write-cleared
+    add-i
+    loop-less
+    loop-again
+    returns)

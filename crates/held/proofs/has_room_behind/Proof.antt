@@ -1,0 +1,40 @@
+-- `held::has_room_behind`: the two tests as one.
+use Prim.Native.Nat.{ℕ, _+_, _-_, _≤_, _<_}
+use mathlib.Core.Path.{_≡_, refl, sym}
+use mathlib.Core.Bool.{Bool, true, false}
+use native.Mathlib.Omega.{arith}
+use lib.Dec.{leb}
+use lib.ListN.{length}
+use borrow.Author.Tests.{le-leb, lt-leb, leb-true, leb-false}
+use Rattle.held.specs.Headers.{headersOf}
+use borrow.Author.Needs.{needs}
+use Rattle.held.proofs.has_room_behind.Statement.{statement}
+use Rattle.held.proofs.has_room_behind.Tie as tie
+use Rattle.held.proofs.has_room_behind.Reads as reads
+use Rattle.held.proofs.has_room_behind.Lts as lts
+use Rattle.held.proofs.held_len.Reads as held-len-reads
+
+shifted : (a m n r : ℕ) → m ≡ n → m + 20 ≤ r → leb a (r - (m + 20)) ≡ leb (n + 20 + a) r
+shifted a m n r q h = go (leb a (r - (m + 20))) refl
+  where
+    go : (t : Bool) → leb a (r - (m + 20)) ≡ t → t ≡ leb (n + 20 + a) r
+    go true e = let l : a ≤ r - (m + 20) = leb-true _ _ e in sym (le-leb (n + 20 + a) r (omega arith))
+    go false e = let l : r - (m + 20) < a = leb-false _ _ e in sym (lt-leb (n + 20 + a) r (omega arith))
+
+sub-room : tie.Need-sub-room
+sub-room c = search needs
+
+held-len-requires : tie.Need-held-len-requires
+held-len-requires c κs = search needs
+
+add-head : tie.Need-add-head
+add-head c = search needs
+
+returns : tie.Need-returns
+returns c = let a = c .before .before .args in let e = c .before .held-len .ensures .0 in sym (lt-leb (length (headersOf (a .held) (a .places)) + 20 + a .more) (a .size - a .pos) (omega arith))
+
+returns-2 : tie.Need-returns-2
+returns-2 c = shifted _ _ _ _ (c .before .held-len .ensures .0) (c .if1 .left)
+
+pub has-room-behind-spec : {M : Type 1} → statement M
+has-room-behind-spec = tie.close (tie.spec sub-room held-len-requires add-head returns returns-2)

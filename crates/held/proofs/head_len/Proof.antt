@@ -1,0 +1,65 @@
+-- `held::head_len`: three lengths, none of which is large.
+use Prim.Native.Nat.{ℕ, _+_, _≤_, _<_}
+use mathlib.Core.Path.{_≡_, sym, ap, _∙_}
+use mathlib.Core.List.{_++_}
+use native.Mathlib.Omega.{arith}
+use borrow.Author.Needs.{needs}
+use lib.ListN.{length, length-append}
+use Rattle.layout.specs.Varint.{shortest}
+use Rattle.varint.proofs.Shortest.{length-64}
+use Rattle.held.specs.Headers.{headersOf}
+use Rattle.held.proofs.head_len.Statement.{statement}
+use Rattle.held.proofs.head_len.Tie as tie
+use Rattle.held.proofs.head_len.Reads as reads
+use Rattle.held.proofs.head_len.Lts as lts
+use Rattle.held.proofs.held_len.Reads as held-len-reads
+use Rattle.varint.proofs.varint_len.Reads as varint-len-reads
+
+held-len-requires : tie.Need-held-len-requires
+held-len-requires c κs = search needs
+
+varint-len-requires : tie.Need-varint-len-requires
+varint-len-requires c κs = search needs
+
+add-result : tie.Need-add-result
+add-result c =
+    let h = length-64 (c .before .before .args .header) (c .before .before .fits .header .fits) in
+    let e = c .varint-len .ensures in
+    let l = c .before .held-len .ensures .1 in
+    record { fits = omega arith }
+
+varint-len-requires-2 : tie.Need-varint-len-requires-2
+varint-len-requires-2 c κs = search needs
+
+add-result-2 : tie.Need-add-result-2
+add-result-2 c =
+    let a = c .before .before .before .args in
+    let g = length-64 (a .header) (c .before .before .before .fits .header .fits) in
+    let h = length-64 (a .second) (c .before .before .before .fits .second .fits) in
+    let d = c .before .varint-len .ensures in
+    let e = c .varint-len2 .ensures in
+    let l = c .before .before .held-len .ensures .1 in
+    record { fits = omega arith }
+
+returns : tie.Need-returns
+returns c =
+    let a = c .before .before .before .args in
+    let g = length-64 (a .header) (c .before .before .before .fits .header .fits) in
+    let h = length-64 (a .second) (c .before .before .before .fits .second .fits) in
+    let d = c .before .varint-len .ensures in
+    let e = c .varint-len2 .ensures in
+    let l = c .before .before .held-len .ensures in
+    let m = length-append (headersOf (a .held) (a .places)) (shortest (a .header) ++ shortest (a .second)) in
+    let n = length-append (shortest (a .header)) (shortest (a .second)) in
+    (omega (arith, l .0), omega (arith, l .1))
+
+pub head-len-spec : {M : Type 1} → statement M
+head-len-spec =
+    tie.close
+    (tie.spec
+    held-len-requires
+    varint-len-requires
+    add-result
+    varint-len-requires-2
+    add-result-2
+    returns)

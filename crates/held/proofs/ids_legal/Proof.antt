@@ -1,0 +1,69 @@
+-- `held::ids_legal`: the ids before i are legal, so what the rest comes to is what all come to.
+use Prim.Native.Nat.{ℕ, _+_, _-_, _≤_, _<_}
+use mathlib.Core.Path.{_≡_, refl, sym, ap, _∙_}
+use mathlib.Core.Bool.{Bool, true, false}
+use native.Mathlib.Omega.{arith}
+use borrow.Author.Needs.{needs}
+use borrow.Author.Tests.{le-leb, lt-leb, eq-eqb, ne-eqb}
+use lib.Dec.{leb, eqb}
+use lib.ListN.{length, take, drop}
+use Rattle.layout.specs.Limits.{base}
+use Rattle.held.specs.Places.{every, zeroed}
+use Rattle.held.proofs.Places.{first-fails, first-on, first-end}
+use Rattle.held.proofs.ids_legal.Statement.{statement}
+use Rattle.held.proofs.ids_legal.Tie as tie
+use Rattle.held.proofs.ids_legal.Reads as reads
+use Rattle.held.proofs.ids_legal.Lts as lts
+
+abbrev Inv-loop : tie.InvT-loop
+Inv-loop n pending i₀ i = (i ≤ n) × (every (λ x. leb x (base .id)) (drop i (take n pending)) ≡ every (λ x. leb x (base .id)) (take n pending))
+
+abbrev μ-loop : tie.MeasureT-loop
+μ-loop n pending i₀ i = n - i
+
+loop-holds : tie.Need-loop-holds Inv-loop μ-loop
+loop-holds c = (omega arith, refl)
+
+mul-if1 : tie.Need-mul-if1 Inv-loop μ-loop
+mul-if1 c = search needs
+
+array-read-if1 : tie.Need-array-read-if1 Inv-loop μ-loop
+array-read-if1 c = search needs
+
+returns : tie.Need-returns Inv-loop μ-loop
+returns c =
+    let l : length (c .before .before .before .args .t1) ≡ 8 = search needs in
+    let i = c .before .before .loop .inv in
+    first-fails _ _ _ _ (omega arith) (c .before .loop-test .taken) (lt-leb _ _ (c .if1 .taken)) ∙ i .1
+
+add-i : tie.Need-add-i Inv-loop μ-loop
+add-i c = search needs
+
+loop-less : tie.Need-loop-less Inv-loop μ-loop
+loop-less c = search needs
+
+loop-again : tie.Need-loop-again Inv-loop μ-loop
+loop-again c =
+    let l : length (c .before .before .before .args .t1) ≡ 8 = search needs in
+    let i = c .before .before .loop .inv in
+    (omega arith, sym (first-on _ _ _ _ (omega arith) (c .before .loop-test .taken) (le-leb _ _ (c .if1 .left))) ∙ i .1)
+
+returns-2 : tie.Need-returns-2 Inv-loop μ-loop
+returns-2 c =
+    let l : length (c .before .before .args .t1) ≡ 8 = search needs in
+    sym (first-end _ _ _ _ (omega arith) (c .loop-test .left)) ∙ c .before .loop .inv .1
+
+pub ids-legal-spec : {M : Type 1} → statement M
+ids-legal-spec =
+    tie.close
+    (tie.spec
+    Inv-loop
+    μ-loop
+    loop-holds
+    mul-if1
+    array-read-if1
+    returns
+    add-i
+    loop-less
+    loop-again
+    returns-2)

@@ -1,0 +1,54 @@
+-- `held::sound_for`: the tests of a sound state, one after another.
+use Prim.Native.Nat.{ℕ, _+_, _-_, _≤_, _<_}
+use mathlib.Core.Path.{_≡_, refl, sym, ap, _∙_}
+use mathlib.Core.Bool.{Bool, true, false}
+use native.Mathlib.Omega.{arith}
+use borrow.Author.Needs.{needs}
+use borrow.Author.Tests.{le-leb, lt-leb}
+use Rattle.held.proofs.sound_for.Statement.{statement}
+use Rattle.held.proofs.sound_for.Tie as tie
+use Rattle.held.proofs.sound_for.Reads as reads
+use Rattle.held.proofs.sound_for.Lts as lts
+use Rattle.held.proofs.ids_legal.Reads as ids-legal-reads
+use Rattle.held.proofs.unused_zero.Reads as unused-zero-reads
+
+returns : tie.Need-returns
+returns c = simp (lt-leb _ _ (c .if1 .taken))
+
+returns-2 : tie.Need-returns-2
+returns-2 c = simp (le-leb _ _ (c .before .if1 .left), lt-leb _ _ (c .if2 .taken))
+
+returns-3 : tie.Need-returns-3
+returns-3 c = simp (le-leb _ _ (c .before .before .if1 .left), le-leb _ _ (c .before .if2 .left), lt-leb _ _ (c .if3 .taken))
+
+returns-4 : tie.Need-returns-4
+returns-4 c = simp (le-leb _ _ (c .before .before .before .if1 .left), le-leb _ _ (c .before .before .if2 .left), le-leb _ _ (c .before .if3 .left), lt-leb _ _ (c .if4 .taken))
+
+ids-legal-requires : tie.Need-ids-legal-requires
+ids-legal-requires c κs = search needs
+
+unused-zero-requires : tie.Need-unused-zero-requires
+unused-zero-requires c κs = search needs
+
+returns-5 : tie.Need-returns-5
+returns-5 c =
+    let e = c .before .before .before in
+    simp (le-leb _ _ (e .before .before .before .if1 .left), le-leb _ _ (e .before .before .if2 .left), le-leb _ _ (e .before .if3 .left), le-leb _ _ (e .if4 .left), sym (c .before .before .ids-legal .ensures) ∙ c .before .if5 .taken) (c .unused-zero .ensures)
+
+returns-6 : tie.Need-returns-6
+returns-6 c =
+    let e = c .before .before in
+    simp (le-leb _ _ (e .before .before .before .if1 .left), le-leb _ _ (e .before .before .if2 .left), le-leb _ _ (e .before .if3 .left), le-leb _ _ (e .if4 .left), sym (c .before .ids-legal .ensures) ∙ c .if5 .left)
+
+pub sound-for-spec : {M : Type 1} → statement M
+sound-for-spec =
+    tie.close
+    (tie.spec
+    returns
+    returns-2
+    returns-3
+    returns-4
+    ids-legal-requires
+    unused-zero-requires
+    returns-5
+    returns-6)

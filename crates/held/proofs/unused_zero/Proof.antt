@@ -1,0 +1,69 @@
+-- `held::unused_zero`: the places before i are zero, so what the rest comes to is what all come to.
+use Prim.Native.Nat.{ℕ, _+_, _-_, _≤_, _<_}
+use mathlib.Core.Path.{_≡_, refl, sym, ap, _∙_}
+use mathlib.Core.Bool.{Bool, true, false}
+use native.Mathlib.Omega.{arith}
+use borrow.Author.Needs.{needs}
+use borrow.Author.Tests.{le-leb, lt-leb, eq-eqb, ne-eqb}
+use lib.Dec.{leb, eqb}
+use lib.ListN.{length, take, drop}
+use Rattle.layout.specs.Limits.{base}
+use Rattle.held.specs.Places.{every, zeroed}
+use Rattle.held.proofs.Places.{every-fails, every-on, every-end}
+use Rattle.held.proofs.unused_zero.Statement.{statement}
+use Rattle.held.proofs.unused_zero.Tie as tie
+use Rattle.held.proofs.unused_zero.Reads as reads
+use Rattle.held.proofs.unused_zero.Lts as lts
+
+abbrev Inv-loop : tie.InvT-loop
+Inv-loop n pending i₀ i = (i ≤ 8) × (every (λ x. eqb x 0) (drop i pending) ≡ every (λ x. eqb x 0) (drop n pending))
+
+abbrev μ-loop : tie.MeasureT-loop
+μ-loop n pending i₀ i = 8 - i
+
+loop-holds : tie.Need-loop-holds Inv-loop μ-loop
+loop-holds c = (omega arith, refl)
+
+mul-if1 : tie.Need-mul-if1 Inv-loop μ-loop
+mul-if1 c = search needs
+
+array-read-if1 : tie.Need-array-read-if1 Inv-loop μ-loop
+array-read-if1 c = search needs
+
+returns : tie.Need-returns Inv-loop μ-loop
+returns c =
+    let l : length (c .before .before .before .args .t1) ≡ 8 = search needs in
+    let i = c .before .before .loop .inv in
+    every-fails (λ x. eqb x 0) (c .before .before .before .args .t1) (c .before .before .loop .i) (omega arith) (ne-eqb _ _ (c .if1 .taken)) ∙ i .1
+
+add-i : tie.Need-add-i Inv-loop μ-loop
+add-i c = search needs
+
+loop-less : tie.Need-loop-less Inv-loop μ-loop
+loop-less c = search needs
+
+loop-again : tie.Need-loop-again Inv-loop μ-loop
+loop-again c =
+    let l : length (c .before .before .before .args .t1) ≡ 8 = search needs in
+    let i = c .before .before .loop .inv in
+    (omega arith, sym (every-on (λ x. eqb x 0) (c .before .before .before .args .t1) (c .before .before .loop .i) (omega arith) (eq-eqb _ _ (c .if1 .left))) ∙ i .1)
+
+returns-2 : tie.Need-returns-2 Inv-loop μ-loop
+returns-2 c =
+    let l : length (c .before .before .args .t1) ≡ 8 = search needs in
+    sym (every-end (λ x. eqb x 0) (c .before .before .args .t1) (c .before .loop .i) (omega arith)) ∙ c .before .loop .inv .1
+
+pub unused-zero-spec : {M : Type 1} → statement M
+unused-zero-spec =
+    tie.close
+    (tie.spec
+    Inv-loop
+    μ-loop
+    loop-holds
+    mul-if1
+    array-read-if1
+    returns
+    add-i
+    loop-less
+    loop-again
+    returns-2)

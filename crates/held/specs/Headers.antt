@@ -1,0 +1,26 @@
+-- The headers that are held back, and where a call's output goes on that begins with them.
+use mathlib.Core.List.{List, _++_}
+use Prim.Native.Nat.{ℕ}
+use lib.Dec.{ltb}
+use lib.ListN.{length, take, drop}
+use Rattle.layout.specs.Limits.{pick}
+use Rattle.layout.specs.Varint.{shortest}
+use Rattle.layout.specs.Field.{header, each, T-begin}
+use Rattle.emit.specs.Put.{put}
+use Rattle.emit.specs.declared.Cursor.{Cursor}
+
+-- the headers of the sequences that are held back, "outermost first"
+unfoldable pub headersOf : ℕ → List ℕ → List ℕ
+headersOf held places = each (λ id. header id T-begin) (take held places)
+
+-- with the header and one more varint of the field after them
+abbrev pub headOf : ℕ → List ℕ → ℕ → ℕ → List ℕ
+headOf held places header second = headersOf held places ++ (shortest header ++ shortest second)
+
+-- where the emission of a call's output starts
+abbrev pub startAt : ℕ → ℕ → Cursor
+startAt pos place = record { pos = pos; skip = place }
+
+-- the buffer after a call: as many of the bytes still to go as there is room for, from the position on
+unfoldable pub leftAt : ℕ → List ℕ → List ℕ → ℕ → List ℕ
+leftAt pos b o place = pick (ltb (length o) place) b (put b pos (drop place o))

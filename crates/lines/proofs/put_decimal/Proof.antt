@@ -1,0 +1,44 @@
+-- `lines::put_decimal`.
+use Rattle.lines.proofs.Numbers.{decimal-is, hexadecimal-is}
+use mathlib.Core.Path.{_∙_}
+use native.Mathlib.Omega.{arith}
+use lib.Dec.{lit≤}
+use Rattle.lines.proofs.Texts.{says, joined, nothing}
+use borrow.Author.Needs.{needs}
+use Rattle.lines.proofs.put_decimal.Statement.{statement}
+use Rattle.lines.proofs.put_decimal.Tie as tie
+use Rattle.lines.proofs.put_decimal.Reads as reads
+use Rattle.lines.proofs.put_decimal.Lts as lts
+use Rattle.emit.proofs.put_rest.Reads as put-rest-reads
+use Rattle.io.proofs.decimal.Reads as decimal-reads
+
+decimal-requires : tie.Need-decimal-requires
+decimal-requires c κs = search needs
+
+array-share-prefix-digits : tie.Need-array-share-prefix-digits
+array-share-prefix-digits c = search needs
+
+slice-aggregate-put-rest : tie.Need-slice-aggregate-put-rest
+slice-aggregate-put-rest c = search needs
+
+put-rest-requires : tie.Need-put-rest-requires
+put-rest-requires c κs = search needs
+
+same-length : tie.Need-same-length
+same-length c = search needs
+
+returns : tie.Need-returns
+returns c =
+    let d = c .before .before .before .before .before .decimal .ensures in
+    says _ _ _ _ _ _ (d .1 .1 ∙ decimal-is _ _ (d .1 .0) (c .before .before .before .before .before .before .before .before .fits .n .fits)) (c .before .before .put-rest .ensures)
+
+pub put-decimal-spec : {M : Type 1} → statement M
+put-decimal-spec =
+    tie.close
+    (tie.spec
+    decimal-requires
+    array-share-prefix-digits
+    slice-aggregate-put-rest
+    put-rest-requires
+    same-length
+    returns)

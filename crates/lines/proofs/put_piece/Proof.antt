@@ -1,0 +1,63 @@
+-- `lines::put_piece`.
+use mathlib.Core.Path.{_≡_, sym, ap, _∙_}
+use mathlib.Core.List.{List}
+use Prim.Native.Nat.{ℕ, min}
+use lib.ListN.{length}
+use lib.Seq.{slice}
+use Rattle.layout.specs.Field.{each}
+use Rattle.lines.specs.Lines.{byteLine}
+use Rattle.lines.proofs.Texts.{says, clipped, part-is}
+use borrow.Author.Needs.{needs}
+use Rattle.lines.proofs.put_piece.Statement.{statement}
+use Rattle.lines.proofs.put_piece.Tie as tie
+use Rattle.lines.proofs.put_piece.Reads as reads
+use Rattle.lines.proofs.put_piece.Lts as lts
+use Rattle.lines.proofs.least.Reads as least-reads
+use Rattle.lines.proofs.put_bytes.Reads as put-bytes-reads
+
+least-requires : tie.Need-least-requires
+least-requires c κs = search needs
+
+least-requires-2 : tie.Need-least-requires-2
+least-requires-2 c κs = search needs
+
+sub-put-bytes : tie.Need-sub-put-bytes
+sub-put-bytes c = search needs
+
+part-put-bytes-start : tie.Need-part-put-bytes-start
+part-put-bytes-start c = search needs
+
+part-put-bytes-end : tie.Need-part-put-bytes-end
+part-put-bytes-end c = search needs
+
+put-bytes-requires : tie.Need-put-bytes-requires
+put-bytes-requires c κs = search needs
+
+same-length : tie.Need-same-length
+same-length c = search needs
+
+within : (f t from to : ℕ) (l : List ℕ) → from ≡ min f to → to ≡ min t (length l) → slice from to l ≡ slice f t l
+within f t from to l p q =
+    ap (λ (k : ℕ). slice k to l) p ∙ ap (λ (k : ℕ). slice (min f k) k l) q ∙ clipped f t l
+
+returns : tie.Need-returns
+returns c =
+    let to = c .before .before .before .before .before .before .least .result in
+    let from = c .before .before .before .before .before .least2 .result in
+    let chunk = c .before .before .before .before .before .before .before .before .before .args .chunk .now in
+    let f : from ≡ min (c .before .before .before .before .before .before .before .before .before .args .b .from) to = c .before .before .before .before .before .least2 .ensures in
+    let t : to ≡ min (c .before .before .before .before .before .before .before .before .before .args .b .to) (length chunk) = c .before .before .before .before .before .before .least .ensures in
+    says _ _ _ _ _ _ (ap (each byteLine) (part-is from to chunk ∙ within _ _ from to chunk f t)) (c .before .before .put-bytes .ensures)
+
+pub put-piece-spec : {M : Type 1} → statement M
+put-piece-spec =
+    tie.close
+    (tie.spec
+    least-requires
+    least-requires-2
+    sub-put-bytes
+    part-put-bytes-start
+    part-put-bytes-end
+    put-bytes-requires
+    same-length
+    returns)

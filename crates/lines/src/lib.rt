@@ -1,0 +1,226 @@
+// The lines of the event list: what an event says and the verdict, put as text into a lent buffer as far as there is room.
+ghost use mathlib.Core.Path.{_≡_};
+ghost use mathlib.Core.List.{_∷_};
+ghost use Prim.Native.Nat.{min};
+ghost use lib.Seq.{slice};
+ghost use Rattle.layout.specs.Field.{each};
+ghost use Rattle.event.specs.Event.{eventOf};
+ghost use Rattle.lines.specs.Lines.{decimal, signed, hexadecimal, byteLine, linesOf, lastLine};
+ghost use Rattle.lines.specs.Spelled.{Puts, partText, lineText, lined, closed, Shows, verdictIn};
+use emit::put_rest;
+use event::Bounds;
+use event::Event;
+use event::fp32_bits;
+use event::fp64_bits;
+
+// A part of a line after its letter. `Minus` is a number below 0, by its size.
+pub enum Part {
+    Nothing,
+    Number(u64),
+    Minus(u64),
+    Bits32(u32),
+    Bits64(u64),
+}
+
+pub struct Line {
+    pub letter: u8,
+    pub first: Part,
+    pub second: Part,
+    pub third: Part,
+}
+
+// An event has one line; a piece has one for each of its bytes.
+pub enum Shown {
+    Line(Line),
+    Piece(Bounds),
+}
+
+pub enum Verdict {
+    Complete,
+    Incomplete,
+    Invalid,
+}
+
+fn put_decimal(out: &mut [u8], at: usize, n: u64) -> usize
+    ensures { λ r. ⌜ Puts (now (out .entry)) at (decimal n) (now (out .exit)) r ⌝ }
+{
+    let mut digits = [0u8; 20];
+    let k = io::decimal(n, &mut digits);
+    put_rest(out, at, &digits[..k], 0)
+}
+
+fn put_bits32(out: &mut [u8], at: usize, n: u32) -> usize
+    ensures { λ r. ⌜ Puts (now (out .entry)) at (hexadecimal 8 n) (now (out .exit)) r ⌝ }
+{
+    let mut digits = [0u8; 16];
+    let k = io::hex(n as u64, 8, &mut digits);
+    put_rest(out, at, &digits[..k], 0)
+}
+
+fn put_bits64(out: &mut [u8], at: usize, n: u64) -> usize
+    ensures { λ r. ⌜ Puts (now (out .entry)) at (hexadecimal 16 n) (now (out .exit)) r ⌝ }
+{
+    let mut digits = [0u8; 16];
+    let k = io::hex(n, 16, &mut digits);
+    put_rest(out, at, &digits[..k], 0)
+}
+
+fn put_part(out: &mut [u8], at: usize, p: Part) -> usize
+    ensures { λ r. ⌜ Puts (now (out .entry)) at (partText p) (now (out .exit)) r ⌝ }
+{
+    match p {
+        Part::Nothing => at,
+        Part::Number(n) => {
+            let next = put_rest(out, at, b" ", 0);
+            put_decimal(out, next, n)
+        }
+        Part::Minus(n) => {
+            let next = put_rest(out, at, b" -", 0);
+            put_decimal(out, next, n)
+        }
+        Part::Bits32(n) => {
+            let next = put_rest(out, at, b" ", 0);
+            put_bits32(out, next, n)
+        }
+        Part::Bits64(n) => {
+            let next = put_rest(out, at, b" ", 0);
+            put_bits64(out, next, n)
+        }
+    }
+}
+
+fn put_line(out: &mut [u8], at: usize, l: Line) -> usize
+    ensures { λ r. ⌜ Puts (now (out .entry)) at (lineText l) (now (out .exit)) r ⌝ }
+{
+    let letter = [l.letter];
+    let first = l.first;
+    let second = l.second;
+    let third = l.third;
+    let a = put_rest(out, at, &letter, 0);
+    let b = put_part(out, a, first);
+    let c = put_part(out, b, second);
+    let d = put_part(out, c, third);
+    put_rest(out, d, b"\n", 0)
+}
+
+// A letter, an id and up to two parts more.
+fn with_id(letter: u8, id: u32, second: Part, third: Part) -> Shown
+    ensures { λ r. ⌜ r ≡ lined letter id second third ⌝ }
+{
+    Shown::Line(Line {
+        letter,
+        first: Part::Number(id as u64),
+        second,
+        third,
+    })
+}
+
+fn signed_part(v: i64) -> Part
+    ensures { λ r. ⌜ partText r ≡ 32 ∷ signed v ⌝ }
+{
+    if v < 0 {
+        Part::Minus((!v) as u64 + 1)
+    } else {
+        Part::Number(v as u64)
+    }
+}
+
+fn close() -> Shown
+    ensures { λ r. ⌜ r ≡ closed ⌝ }
+{
+    Shown::Line(Line {
+        letter: b'E',
+        first: Part::Nothing,
+        second: Part::Nothing,
+        third: Part::Nothing,
+    })
+}
+
+// What is shown of an event.
+fn shown_of(e: Event) -> Shown
+    ensures { λ r. ⌜ Shows r e ⌝ }
+{
+    match e {
+        Event::Unsigned(id, n) => with_id(b'U', id, Part::Number(n), Part::Nothing),
+        Event::Signed(id, v) => with_id(b'S', id, signed_part(v), Part::Nothing),
+        Event::Fp32(id, x) => with_id(b'F', id, Part::Bits32(fp32_bits(x)), Part::Nothing),
+        Event::Fp32Nan(id, n) => with_id(b'F', id, Part::Bits32(n), Part::Nothing),
+        Event::Fp64(id, x) => with_id(b'D', id, Part::Bits64(fp64_bits(x)), Part::Nothing),
+        Event::Fp64Nan(id, n) => with_id(b'D', id, Part::Bits64(n), Part::Nothing),
+        Event::Str(_, b) => Shown::Piece(b),
+        Event::Blob(_, b) => Shown::Piece(b),
+        Event::Fixlen(id, s, total) => with_id(
+            b'P',
+            id,
+            Part::Number(s.raw() as u64),
+            Part::Number(total as u64),
+        ),
+        Event::Array(id, k, count) => with_id(
+            b'A',
+            id,
+            Part::Number(k.raw() as u64),
+            Part::Number(count as u64),
+        ),
+        Event::Begin(id) => with_id(b'B', id, Part::Nothing, Part::Nothing),
+        Event::End => close(),
+    }
+}
+
+// The line of a payload byte.
+fn put_byte(out: &mut [u8], at: usize, b: u8) -> usize
+    ensures { λ r. ⌜ Puts (now (out .entry)) at (byteLine b) (now (out .exit)) r ⌝ }
+{
+    let next = put_rest(out, at, b"Y ", 0);
+    let end = put_decimal(out, next, b as u64);
+    put_rest(out, end, b"\n", 0)
+}
+
+// A line for each byte.
+fn put_bytes(out: &mut [u8], at: usize, bytes: &[u8]) -> usize
+    ensures { λ r. ⌜ Puts (now (out .entry)) at (each byteLine (now (bytes .entry))) (now (out .exit)) r ⌝ }
+{
+    let mut next = at;
+    let mut i: usize = 0;
+    while i < bytes.len() {
+        next = put_byte(out, next, bytes[i]);
+        i += 1;
+    }
+    next
+}
+
+fn least(a: usize, b: usize) -> usize
+    ensures { λ r. ⌜ r ≡ min a b ⌝ }
+{
+    if a < b { a } else { b }
+}
+
+// The lines of a piece: of as many of its bytes as the chunk has.
+fn put_piece(out: &mut [u8], at: usize, chunk: &[u8], b: Bounds) -> usize
+    ensures { λ r. ⌜ Puts (now (out .entry)) at (each byteLine (slice (b .from) (b .to) (now (chunk .entry)))) (now (out .exit)) r ⌝ }
+{
+    let to = least(b.to, chunk.len());
+    let from = least(b.from, to);
+    put_bytes(out, at, &chunk[from..to])
+}
+
+// The lines of an event of a call that was lent this chunk, from `at` on; where they end.
+pub fn put_event(out: &mut [u8], at: usize, chunk: &[u8], e: Event) -> usize
+    ensures { λ r. ⌜ Puts (now (out .entry)) at (linesOf (eventOf (now (chunk .entry)) e)) (now (out .exit)) r ⌝ }
+{
+    let s = shown_of(e);
+    match s {
+        Shown::Line(l) => put_line(out, at, l),
+        Shown::Piece(b) => put_piece(out, at, chunk, b),
+    }
+}
+
+// The last line, from `at` on; where it ends.
+pub fn put_verdict(out: &mut [u8], at: usize, v: Verdict) -> usize
+    ensures { λ r. ⌜ Puts (now (out .entry)) at (lastLine (verdictIn v)) (now (out .exit)) r ⌝ }
+{
+    match v {
+        Verdict::Complete => put_rest(out, at, b"complete\n", 0),
+        Verdict::Incomplete => put_rest(out, at, b"incomplete\n", 0),
+        Verdict::Invalid => put_rest(out, at, b"invalid\n", 0),
+    }
+}

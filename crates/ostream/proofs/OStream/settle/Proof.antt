@@ -1,0 +1,57 @@
+-- `ostream::OStream::settle`: the three outcomes.
+use mathlib.Core.Path.{sym, ap, _∙_}
+use Rattle.answers.specs.declared.Outcome.{Outcome}
+use Rattle.ostream.specs.declared.OStream.{OStream}
+use Rattle.ostream.specs.declared.Answer.the-variants.{Done}
+use Rattle.ostream.specs.Stream.{at, committed}
+use Rattle.ostream.specs.Straight.{settled}
+use borrow.Author.Needs.{needs}
+use Rattle.ostream.proofs.OStream.settle.Statement.{statement}
+use Rattle.ostream.proofs.OStream.settle.Tie as tie
+use Rattle.ostream.proofs.OStream.settle.Reads as reads
+use Rattle.ostream.proofs.OStream.settle.Lts as lts
+use Rattle.ostream.proofs.OStream.commit.Reads as commit-reads
+use Rattle.ostream.proofs.OStream.refuse.Reads as refuse-reads
+
+enum-known-outcome : tie.Need-enum-known-outcome
+enum-known-outcome c = search needs
+
+commit-requires : tie.Need-commit-requires
+commit-requires c κs = search needs
+
+enum-known-outcome-2 : tie.Need-enum-known-outcome-2
+enum-known-outcome-2 c = search needs
+
+enum-known-outcome-3 : tie.Need-enum-known-outcome-3
+enum-known-outcome-3 c = search needs
+
+refuse-requires : tie.Need-refuse-requires
+refuse-requires c κs = search needs
+
+returns : tie.Need-returns
+returns c =
+    let a = c .before .before .before .before .args in
+    ap (λ (n : OStream). record { answer = Done; stream = at n (c .before .before .outcome .given .0 .0) }) (c .commit .ensures) ∙ sym (ap (λ (o : Outcome). settled (a .self) (a .size) (committed (a .self) (a .depth)) o) (c .before .before .outcome .given .1))
+
+returns-2 : tie.Need-returns-2
+returns-2 c =
+    let a = c .before .before .before .args in
+    sym (ap (λ (o : Outcome). settled (a .self) (a .size) (committed (a .self) (a .depth)) o) (c .before .outcome2 .given .1))
+
+returns-3 : tie.Need-returns-3
+returns-3 c =
+    let a = c .before .before .before .before .args in
+    c .refuse .ensures ∙ sym (ap (λ (o : Outcome). settled (a .self) (a .size) (committed (a .self) (a .depth)) o) (c .before .before .outcome3 .given .1))
+
+pub settle-spec : {M : Type 1} → statement M
+settle-spec =
+    tie.close
+    (tie.spec
+    enum-known-outcome
+    commit-requires
+    enum-known-outcome-2
+    enum-known-outcome-3
+    refuse-requires
+    returns
+    returns-2
+    returns-3)

@@ -1,0 +1,2 @@
+-- Laws about what is owed.
+pub mod Laws

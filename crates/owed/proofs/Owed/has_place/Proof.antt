@@ -1,0 +1,32 @@
+-- `owed::Owed::has_place`: nothing has no place.
+use mathlib.Core.Path.{_≡_, ap, _∙_}
+use lib.Dec.{ltb}
+use lib.ListN.{length}
+use Rattle.owed.specs.declared.Output.{Output}
+use Rattle.owed.specs.Owed.{outputBytes}
+use Rattle.owed.proofs.Laws.{place-else}
+use borrow.Author.Needs.{needs}
+use Rattle.owed.proofs.Owed.has_place.Statement.{statement}
+use Rattle.owed.proofs.Owed.has_place.Tie as tie
+use Rattle.owed.proofs.Owed.has_place.Reads as reads
+use Rattle.owed.proofs.Owed.has_place.Lts as lts
+use Rattle.owed.proofs.Output.len.Reads as len-reads
+use Rattle.owed.proofs.Owed.output.Reads as output-reads
+
+enum-told : tie.Need-enum-told
+enum-told c = search needs
+
+returns : tie.Need-returns
+returns c = search needs
+
+output-requires : tie.Need-output-requires
+output-requires c κs = search needs
+
+len-requires : tie.Need-len-requires
+len-requires c κs = search needs
+
+returns-2 : tie.Need-returns-2
+returns-2 c = ap (ltb (c .before .before .before .args .place)) (c .len .ensures .0 ∙ ap (λ (o : Output). length (outputBytes o)) (c .before .output .ensures)) ∙ place-else (c .before .before .before .args .self) (c .before .before .before .args .place) (c .before .before .match .keys2)
+
+pub has-place-spec : {M : Type 1} → statement M
+has-place-spec = tie.close (tie.spec enum-told returns output-requires len-requires returns-2)

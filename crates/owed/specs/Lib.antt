@@ -1,0 +1,2 @@
+-- What a copier owes.
+pub mod Owed

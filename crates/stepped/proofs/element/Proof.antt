@@ -1,0 +1,32 @@
+-- `stepped::element` meets its contract: the float subtypes, and no others.
+use mathlib.Core.Path.{sym, ap, _∙_}
+use Prim.Native.Nat.{ℕ}
+use Rattle.layout.specs.Field.{subtypeOf}
+use Rattle.machine.specs.Machine.{atElement}
+use Rattle.stepped.specs.Steps.{stepped}
+use Rattle.stepped.proofs.Fields.{no-element}
+use borrow.Author.Needs.{needs}
+use Rattle.stepped.proofs.element.Statement.{statement}
+use Rattle.stepped.proofs.element.Tie as tie
+
+float-array-requires : tie.Need-float-array-requires
+float-array-requires c κs = search needs
+
+float-array-requires-2 : tie.Need-float-array-requires-2
+float-array-requires-2 c κs = search needs
+
+returns : tie.Need-returns
+returns c =
+    c .float-array .ensures ∙ sym (ap (λ (n : ℕ). stepped (atElement (c .before .before .args .depth) (c .before .before .args .id) (c .before .before .args .count) (c .before .before .args .len) (subtypeOf n))) (c .before .match .keys1))
+
+returns-2 : tie.Need-returns-2
+returns-2 c =
+    c .float-array2 .ensures ∙ sym (ap (λ (n : ℕ). stepped (atElement (c .before .before .args .depth) (c .before .before .args .id) (c .before .before .args .count) (c .before .before .args .len) (subtypeOf n))) (c .before .match .keys2))
+
+returns-3 : tie.Need-returns-3
+returns-3 c =
+    no-element (c .before .args .depth) (c .before .args .id) (c .before .args .count) (c .before .args .len) (c .before .args .subtype) (c .match .rest .0 .1) (c .match .rest .1)
+
+pub element-spec : {M : Type 1} → statement M
+element-spec =
+    tie.close (tie.spec float-array-requires float-array-requires-2 returns returns-2 returns-3)

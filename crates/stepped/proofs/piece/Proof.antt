@@ -1,0 +1,24 @@
+-- `stepped::piece` meets its contract.
+use mathlib.Core.Path.{sym, ap}
+use Rattle.types.specs.declared.RawType.{RawType}
+use Rattle.stepped.specs.Steps.{pieceIn}
+use borrow.Author.Needs.{needs}
+use Rattle.stepped.proofs.piece.Statement.{statement}
+use Rattle.stepped.proofs.piece.Tie as tie
+
+enum-told : tie.Need-enum-told
+enum-told c = search needs
+
+enum-told-2 : tie.Need-enum-told-2
+enum-told-2 c = search needs
+
+returns : tie.Need-returns
+returns c =
+    sym (ap (λ (r : RawType). pieceIn (c .before .before .args .id) r (c .before .before .args .total) (c .before .before .args .offset) (c .before .before .args .len)) (c .enum-told .given .1))
+
+returns-2 : tie.Need-returns-2
+returns-2 c =
+    sym (ap (λ (r : RawType). pieceIn (c .before .before .args .id) r (c .before .before .args .total) (c .before .before .args .offset) (c .before .before .args .len)) (c .enum-told2 .given .1))
+
+pub piece-spec : {M : Type 1} → statement M
+piece-spec = tie.close (tie.spec enum-told enum-told-2 returns returns-2)

@@ -1,0 +1,24 @@
+-- `stepped::sequence_begin` meets its contract.
+use mathlib.Core.Path.{_∙_}
+use Rattle.event.specs.declared.Event.the-variants.{Begin}
+use Rattle.stepped.proofs.Fields.{raised, begins, too-deep}
+use borrow.Author.Needs.{needs}
+use Rattle.stepped.proofs.sequence_begin.Statement.{statement}
+use Rattle.stepped.proofs.sequence_begin.Tie as tie
+
+idle-requires : tie.Need-idle-requires
+idle-requires c κs = search needs
+
+add-t8 : tie.Need-add-t8
+add-t8 c = search needs
+
+returns : tie.Need-returns
+returns c =
+    raised (Begin (c .before .before .args .id)) _ (c .idle .ensures) ∙ begins (c .before .before .args .depth) (c .before .before .args .id) (c .before .if1 .taken)
+
+returns-2 : tie.Need-returns-2
+returns-2 c =
+    too-deep (c .before .args .depth) (c .before .args .id) (c .if1 .left)
+
+pub sequence-begin-spec : {M : Type 1} → statement M
+sequence-begin-spec = tie.close (tie.spec idle-requires add-t8 returns returns-2)

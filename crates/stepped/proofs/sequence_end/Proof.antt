@@ -1,0 +1,23 @@
+-- `stepped::sequence_end` meets its contract.
+use mathlib.Core.Path.{_∙_}
+use Rattle.event.specs.declared.Event.the-variants.{End}
+use Rattle.stepped.proofs.Fields.{raised, ends, not-open}
+use borrow.Author.Needs.{needs}
+use Rattle.stepped.proofs.sequence_end.Statement.{statement}
+use Rattle.stepped.proofs.sequence_end.Tie as tie
+
+idle-requires : tie.Need-idle-requires
+idle-requires c κs = search needs
+
+sub-t6 : tie.Need-sub-t6
+sub-t6 c = search needs
+
+returns : tie.Need-returns
+returns c = not-open (c .before .args .depth) 0 (c .if1 .taken)
+
+returns-2 : tie.Need-returns-2
+returns-2 c =
+    raised End _ (c .idle .ensures) ∙ ends (c .before .before .args .depth) 0 (c .before .if1 .left)
+
+pub sequence-end-spec : {M : Type 1} → statement M
+sequence-end-spec = tie.close (tie.spec idle-requires sub-t6 returns returns-2)

@@ -1,0 +1,44 @@
+-- What a byte comes to, as the machine has it and as this crate's type; and a payload's piece.
+use Prim.Native.Nat.{ℕ}
+use mathlib.Core.List.{[], _∷_}
+use lib.ListN.{length}
+use Rattle.layout.specs.Limits.{base}
+use Rattle.layout.specs.Event as layout
+use Rattle.machine.specs.Machine as machine
+use Rattle.machine.specs.Machine.{on, bad}
+use Rattle.machine.specs.Call.{State, reading, owing, broke, raisedState}
+use Rattle.types.specs.declared.RawType.{RawType}
+use Rattle.types.specs.declared.RawType.the-variants as Raws
+use Rattle.event.specs.declared.Event.{Event}
+use Rattle.event.specs.declared.Event.the-variants.{Str, Blob}
+use Rattle.event.specs.Event.{declared}
+use Rattle.phase.specs.Phases.{phaseIn, phaseOf, depthOf}
+use Rattle.stepped.specs.declared.Stepped.{Stepped}
+use Rattle.stepped.specs.declared.Stepped.the-variants.{On, Raised, Bad}
+
+-- what the machine makes of a byte, as this crate's: the first event, and the state with the second one still due
+abbrev pub stepped : machine.Stepped → Stepped
+stepped (on [] d p) = On (phaseIn p) d
+stepped (on (e ∷ es) d p) = Raised (declared 0 e) (phaseOf (raisedState d p es)) (depthOf (raisedState d p es))
+stepped bad = Bad
+
+-- a byte in a state that reads on
+abbrev pub stepOn : State → ℕ → machine.Stepped
+stepOn (reading d p) b = machine.step base d p b
+stepOn (owing d id r) b = bad
+stepOn broke b = bad
+
+-- how many bytes of the chunk an event covers
+abbrev pub covered : layout.Event → ℕ
+covered (layout.Unsigned id n) = 0
+covered (layout.Signed id z) = 0
+covered (layout.Float id w n) = 0
+covered (layout.Piece id r total o bs) = length bs
+covered (layout.Fixlen id s n) = 0
+covered (layout.Array id k n) = 0
+covered (layout.Begin id) = 0
+covered layout.End = 0
+
+-- a piece of n bytes, which begins at the chunk's first
+abbrev pub pieceIn : ℕ → RawType → ℕ → ℕ → ℕ → Event
+pieceIn id r total o n = elim r [ Raws.Str ↦ Str id (record { total = total; offset = o; from = 0; to = n }) | Raws.Blob ↦ Blob id (record { total = total; offset = o; from = 0; to = n }) ]

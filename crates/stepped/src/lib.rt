@@ -1,0 +1,168 @@
+// Where a header, a word or a float is whole: the event that is raised there, and the phase and the depth after it.
+ghost use mathlib.Core.Path.{_≡_};
+ghost use Prim.Native.Nat.{_^_, _<_};
+ghost use Rattle.layout.specs.Limits.{base};
+ghost use Rattle.layout.specs.Field.{bytesOf, wireOf, subtypeOf, T-begin, T-end, known, float, raw};
+ghost use Rattle.layout.specs.Event.{Float};
+ghost use Rattle.machine.specs.Machine.{atWire, atSubtype, atElement};
+ghost use Rattle.types.specs.Types.{width, rawSort};
+ghost use Rattle.event.specs.Event.{declared};
+ghost use Rattle.stepped.specs.Steps.{stepped, pieceIn};
+use event::Bounds;
+use event::Event;
+use event::fp32;
+use event::fp64;
+use phase::Phase;
+use phase::floats;
+use phase::idle;
+use types::ARRAY_MAX;
+use types::FloatType;
+use types::MAX_DEPTH;
+use types::RawType;
+use varint::Acc;
+
+// What one byte comes to: the phase and the depth after it, an event before them, or a broken message.
+pub enum Stepped {
+    On(Phase, u8),
+    Raised(Event, Phase, u8),
+    Bad,
+}
+
+// A sequence is opened.
+pub fn sequence_begin(depth: u8, id: u32) -> Stepped
+    ensures { λ r. ⌜ r ≡ stepped (atWire base depth id T-begin) ⌝ }
+{
+    if (depth as u32) < MAX_DEPTH {
+        Stepped::Raised(Event::Begin(id), idle(), depth + 1)
+    } else {
+        Stepped::Bad
+    }
+}
+
+// A sequence is closed; the id that a close carries is ignored.
+pub fn sequence_end(depth: u8) -> Stepped
+    ensures { λ r. ⌜ r ≡ stepped (atWire base depth 0 T-end) ⌝ }
+{
+    if depth == 0 {
+        Stepped::Bad
+    } else {
+        Stepped::Raised(Event::End, idle(), depth - 1)
+    }
+}
+
+// A header is whole.
+pub fn field(depth: u8, id: u32, wire: u8) -> Stepped
+    ensures { λ r. ⌜ r ≡ stepped (atWire base depth id (wireOf wire)) ⌝ }
+{
+    let a = Acc { value: 0, taken: 0 };
+    match wire {
+        0 => Stepped::On(Phase::Unsigned(id, 0, a), depth),
+        1 => Stepped::On(Phase::Signed(id, 0, a), depth),
+        2 => Stepped::On(Phase::Word(id, a), depth),
+        3 => Stepped::On(Phase::UnsignedCount(id, a), depth),
+        4 => Stepped::On(Phase::SignedCount(id, a), depth),
+        5 => Stepped::On(Phase::FloatCount(id, a), depth),
+        6 => sequence_begin(depth, id),
+        _ => sequence_end(depth),
+    }
+}
+
+// A scalar float is announced.
+pub fn scalar(depth: u8, id: u32, w: FloatType, len: u64) -> Stepped
+    ensures { λ r. ⌜ r ≡ stepped (atSubtype base depth id len (known (float (width w)))) ⌝ }
+{
+    if len == (w.bytes() as u64) {
+        Stepped::Raised(
+            Event::Fixlen(id, w.fixlen(), len as u32),
+            Phase::Float(id, w, 0, 0, 0),
+            depth,
+        )
+    } else {
+        Stepped::Bad
+    }
+}
+
+// A string or blob is announced.
+pub fn announced(depth: u8, id: u32, r: RawType, len: u64) -> Stepped
+    ensures { λ s. ⌜ s ≡ stepped (atSubtype base depth id len (known (raw (rawSort r)))) ⌝ }
+{
+    if (ARRAY_MAX as u64) < len {
+        return Stepped::Bad;
+    }
+    let total = len as u32;
+    if total == 0 {
+        Stepped::Raised(Event::Fixlen(id, r.fixlen(), 0), Phase::Empty(id, r), depth)
+    } else {
+        Stepped::Raised(
+            Event::Fixlen(id, r.fixlen(), total),
+            Phase::Payload(id, r, total, 0),
+            depth,
+        )
+    }
+}
+
+// A fixed-length field's word is whole.
+pub fn fixlen(depth: u8, id: u32, len: u64, subtype: u8) -> Stepped
+    ensures { λ r. ⌜ r ≡ stepped (atSubtype base depth id len (subtypeOf subtype)) ⌝ }
+{
+    match subtype {
+        0 => scalar(depth, id, FloatType::Fp32, len),
+        1 => scalar(depth, id, FloatType::Fp64, len),
+        2 => announced(depth, id, RawType::Str, len),
+        3 => announced(depth, id, RawType::Blob, len),
+        _ => Stepped::Bad,
+    }
+}
+
+// A float array is announced, its elements being of this size.
+pub fn float_array(depth: u8, id: u32, count: u32, w: FloatType, size: u64) -> Stepped
+    ensures { λ r. ⌜ r ≡ stepped (atElement depth id count size (known (float (width w)))) ⌝ }
+{
+    if size == (w.bytes() as u64) {
+        Stepped::Raised(
+            Event::Array(id, w.kind(), count),
+            floats(id, w, count),
+            depth,
+        )
+    } else {
+        Stepped::Bad
+    }
+}
+
+// A float array's word is whole.
+pub fn element(depth: u8, id: u32, count: u32, len: u64, subtype: u8) -> Stepped
+    ensures { λ r. ⌜ r ≡ stepped (atElement depth id count len (subtypeOf subtype)) ⌝ }
+{
+    match subtype {
+        0 => float_array(depth, id, count, FloatType::Fp32, len),
+        1 => float_array(depth, id, count, FloatType::Fp64, len),
+        _ => Stepped::Bad,
+    }
+}
+
+// A float is whole, x being its bits. Only `step` calls this, with the bits of as many bytes as the float has.
+pub fn float_event(id: u32, w: FloatType, x: u64) -> Event
+    requires { ⌜ x < 256 ^ bytesOf (width w) ⌝ }
+    ensures { λ r. ⌜ r ≡ declared 0 (Float id (width w) x) ⌝ }
+{
+    match w {
+        FloatType::Fp32 => fp32(id, x as u32),
+        FloatType::Fp64 => fp64(id, x),
+    }
+}
+
+// A piece of a payload, which begins at the chunk's first byte.
+pub fn piece(id: u32, r: RawType, total: u32, offset: u32, len: usize) -> Event
+    ensures { λ e. ⌜ e ≡ pieceIn id r total offset len ⌝ }
+{
+    let bounds = Bounds {
+        total,
+        offset,
+        from: 0,
+        to: len,
+    };
+    match r {
+        RawType::Str => Event::Str(id, bounds),
+        RawType::Blob => Event::Blob(id, bounds),
+    }
+}

@@ -1,0 +1,100 @@
+-- Writing straight away: the room, two tests in a row, and a write that is made only where they pass.
+use mathlib.Core.Path.{_≡_, refl, sym, ap, _∙_}
+use mathlib.Core.List.{List, _++_}
+use mathlib.Core.Bool.{Bool, true, false, _&&_}
+use Prim.Native.Nat.{ℕ, _+_, _-_, _≤_, _<_}
+use native.Mathlib.Omega.{arith}
+use lib.ListN.{length, replicate}
+use borrow.Author.Tests.{leb-true, le-leb}
+use Rattle.emit.specs.Put.{put, reached}
+use Rattle.emit.proofs.Writes.{put-put, reached-reached, reached-is, length-put}
+use Rattle.emit.proofs.Turns.{Whole}
+use Rattle.held.specs.Places.{every, clean}
+use Rattle.held.proofs.Places.{both}
+use Rattle.straight.specs.Straight.{roomFor, reachedIf, putIf}
+
+-- ---- the room
+
+pub has-room : (size pos n : ℕ) → roomFor size pos n ≡ true → pos + 20 + n ≤ size
+unfolding roomFor
+has-room size pos n e =
+    let a = both _ _ e in
+    let b = both _ _ (a .1) in
+    let ha : 20 ≤ size = leb-true _ _ (a .0) in
+    let hb : pos ≤ size - 20 = leb-true _ _ (b .0) in
+    let hn : n ≤ size - 20 - pos = leb-true _ _ (b .1) in
+    omega arith
+
+pub room-for : (size pos n : ℕ) → pos + 20 + n ≤ size → roomFor size pos n ≡ true
+unfolding roomFor
+room-for size pos n h = simp (le-leb 20 size (omega arith), le-leb pos (size - 20) (omega arith), le-leb n (size - 20 - pos) (omega arith))
+
+-- ---- two tests
+
+pub no-first : (a b : Bool) → a ≡ false → (a && b) ≡ false
+no-first a b e = ap (λ (x : Bool). x && b) e
+
+pub no-second : (a b : Bool) → a ≡ true → b ≡ false → (a && b) ≡ false
+no-second a b e f = ap (λ (x : Bool). x && b) e ∙ f
+
+pub yes-both : (a b : Bool) → a ≡ true → b ≡ true → (a && b) ≡ true
+yes-both a b e f = ap (λ (x : Bool). x && b) e ∙ f
+
+-- what follows from a test that fails
+pub untrue : (t : Bool) (a b : ℕ) → t ≡ false → t ≡ true → a ≤ b
+untrue t a b e g = let x : true ≡ false = sym g ∙ e in let z : _≡_ {A = ℕ} 0 1 = cc in absurd (omega arith)
+
+-- ---- a write that is made where a test passes
+
+abbrev pub WholeIf : Bool → List ℕ → ℕ → List ℕ → List ℕ → ℕ → Type 0
+WholeIf t b pos o d end = (end ≡ reachedIf t b pos o) × (d ≡ putIf t b pos o)
+
+pub made : (t : Bool) (b : List ℕ) (pos : ℕ) (o d : List ℕ) (end : ℕ) → t ≡ true → Whole b pos o d end → WholeIf t b pos o d end
+made true b pos o d end e h = h
+made false b pos o d end e h = let z : _≡_ {A = ℕ} 0 1 = cc in absurd (omega arith)
+
+pub was-made : (t : Bool) (b : List ℕ) (pos : ℕ) (o d : List ℕ) (end : ℕ) → t ≡ true → WholeIf t b pos o d end → Whole b pos o d end
+was-made true b pos o d end e h = h
+was-made false b pos o d end e h = let z : _≡_ {A = ℕ} 0 1 = cc in absurd (omega arith)
+
+pub unmade : (t : Bool) (b : List ℕ) (pos : ℕ) (o : List ℕ) → t ≡ false → WholeIf t b pos o b pos
+unmade true b pos o e = let z : _≡_ {A = ℕ} 0 1 = cc in absurd (omega arith)
+unmade false b pos o e = (refl, refl)
+
+-- it has been made where it ends further on, and nothing is altered where it has not
+pub went : (t : Bool) (b : List ℕ) (pos : ℕ) (o d : List ℕ) (end : ℕ) → WholeIf t b pos o d end → pos < end → (t ≡ true) × Whole b pos o d end
+went true b pos o d end h l = (refl, h)
+went false b pos o d end (e, f) l = let z : end ≡ pos = e in absurd (omega arith)
+
+pub stayed : (t : Bool) (b : List ℕ) (pos : ℕ) (o d : List ℕ) (end : ℕ) → WholeIf t b pos o d end → (t ≡ true → (0 < length o) × (pos < length b)) → end ≤ pos → d ≡ b
+stayed true b pos o d end (e, f) h l =
+    let g = h refl in
+    let h0 = g .0 in
+    let h1 = g .1 in
+    let r = reached-is b pos o in
+    let z : end ≡ reached b pos o = e in
+    absurd (omega arith)
+stayed false b pos o d end (e, f) h l = f
+
+-- the same where the output has a byte at least and there is room for it
+pub unmoved : (room rest : Bool) (b : List ℕ) (pos n : ℕ) (o d : List ℕ) (end : ℕ) → room ≡ roomFor (length b) pos n → WholeIf (room && rest) b pos o d end → 0 < length o → end ≤ pos → d ≡ b
+unmoved room rest b pos n o d end e w h l =
+    stayed (room && rest) b pos o d end w (λ t. let r = has-room (length b) pos n (sym e ∙ both room rest t .0) in (h, omega arith)) l
+
+-- two writes in a row
+module _ (b : List ℕ) (pos : ℕ) (s b1 : List ℕ) (mid : ℕ) (h : pos ≤ length b) (w : Whole b pos s b1 mid) where
+  pub in-a-row : (t b2 : List ℕ) (end : ℕ) → Whole b1 mid t b2 end → Whole b pos (s ++ t) b2 end
+  in-a-row t b2 end (g, k) = (
+    g ∙ ap (λ (x : List ℕ). reached x mid t) (w .1) ∙ ap (λ (n : ℕ). reached (put b pos s) n t) (w .0) ∙ reached-reached b pos s t h,
+    k ∙ ap (λ (x : List ℕ). put x mid t) (w .1) ∙ ap (λ (n : ℕ). put (put b pos s) n t) (w .0) ∙ put-put b pos s t h,
+  )
+
+  pub same-size : length b1 ≡ length b
+  same-size = ap length (w .1) ∙ length-put b pos s h
+
+  pub not-beyond : mid ≤ pos + length s
+  not-beyond = let r = reached-is b pos s in let e : mid ≡ reached b pos s = w .0 in omega arith
+
+pub clean-zeros : clean (replicate 8 0) ≡ true
+unfolding every
+clean-zeros = refl

@@ -1,0 +1,34 @@
+-- `straight::at_ease`: the tests in order.
+use borrow.Author.Tests.{le-leb, lt-leb}
+use Rattle.straight.specs.Straight.{easyAt}
+use borrow.Author.Needs.{needs}
+use Rattle.straight.proofs.at_ease.Statement.{statement}
+use Rattle.straight.proofs.at_ease.Tie as tie
+use Rattle.straight.proofs.at_ease.Reads as reads
+use Rattle.straight.proofs.at_ease.Lts as lts
+
+returns : tie.Need-returns
+unfolding easyAt
+returns c = simp (lt-leb _ _ (c .if1 .taken))
+
+returns-2 : tie.Need-returns-2
+unfolding easyAt
+returns-2 c = simp (le-leb _ _ (c .before .if1 .left), lt-leb _ _ (c .if2 .taken))
+
+returns-3 : tie.Need-returns-3
+unfolding easyAt
+returns-3 c = simp (le-leb _ _ (c .before .before .if1 .left), le-leb _ _ (c .before .if2 .left), lt-leb _ _ (c .if3 .taken))
+
+returns-4 : tie.Need-returns-4
+unfolding easyAt
+returns-4 c = simp (le-leb _ _ (c .before .before .before .if1 .left), le-leb _ _ (c .before .before .if2 .left), le-leb _ _ (c .before .if3 .left), lt-leb _ _ (c .if4 .taken))
+
+cast-result : tie.Need-cast-result
+cast-result c = search needs
+
+returns-5 : tie.Need-returns-5
+unfolding easyAt
+returns-5 c = simp (le-leb _ _ (c .before .before .before .if1 .left), le-leb _ _ (c .before .before .if2 .left), le-leb _ _ (c .before .if3 .left), le-leb _ _ (c .if4 .left))
+
+pub at-ease-spec : {M : Type 1} → statement M
+at-ease-spec = tie.close (tie.spec returns returns-2 returns-3 returns-4 cast-result returns-5)

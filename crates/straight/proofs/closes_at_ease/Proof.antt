@@ -1,0 +1,24 @@
+-- `straight::closes_at_ease`: a sequence is open, and the tests of a field.
+use native.Mathlib.Omega.{arith}
+use borrow.Author.Tests.{le-ltb, lt-ltb}
+use Rattle.straight.specs.Straight.{closesAt}
+use borrow.Author.Needs.{needs}
+use Rattle.straight.proofs.closes_at_ease.Statement.{statement}
+use Rattle.straight.proofs.closes_at_ease.Tie as tie
+use Rattle.straight.proofs.closes_at_ease.Reads as reads
+use Rattle.straight.proofs.closes_at_ease.Lts as lts
+use Rattle.straight.proofs.at_ease.Reads as at-ease-reads
+
+returns : tie.Need-returns
+unfolding closesAt
+returns c = simp (le-ltb 0 (c .before .args .depth) (omega arith))
+
+at-ease-requires : tie.Need-at-ease-requires
+at-ease-requires c κs = search needs
+
+returns-2 : tie.Need-returns-2
+unfolding closesAt
+returns-2 c = simp (lt-ltb 0 (c .before .before .args .depth) (omega arith)) (c .at-ease .ensures)
+
+pub closes-at-ease-spec : {M : Type 1} → statement M
+closes-at-ease-spec = tie.close (tie.spec returns at-ease-requires returns-2)

@@ -1,0 +1,160 @@
+// Fields written straight away: where nothing is held and there is room for the longest that they can be, no byte is tested for by itself.
+use emit::put_fitting;
+use emit::put_fitting_zigzags;
+use emit::put_fittings;
+use emit::put_rest;
+use held::unused_zero;
+use types::ARRAY_MAX;
+use types::ID_MAX;
+use types::T_SEQUENCE_END;
+ghost use mathlib.Core.Path.{_≡_};
+ghost use mathlib.Core.List.{[], _∷_, _++_};
+ghost use Prim.Native.Nat.{_+_, _*_, _≤_};
+ghost use mathlib.Core.Bool.{true, _&&_};
+ghost use lib.Dec.{ltb};
+ghost use lib.ListN.{length};
+ghost use Rattle.layout.specs.Varint.{shortest};
+ghost use Rattle.layout.specs.Field.{each};
+ghost use Rattle.layout.specs.Zigzag.{zigzag};
+ghost use Rattle.layout.specs.Limits.{base};
+ghost use Rattle.held.specs.Places.{clean};
+ghost use Rattle.straight.specs.Straight.{roomFor, easyAt, closesAt, reachedIf, putIf};
+
+// Whether a call begins at its start and no id is held, and nothing but the places and the room stands against a field with a payload or
+// array of `len`.
+pub fn at_ease(place: usize, depth: u16, held: u16, id: u32, len: usize) -> bool
+    ensures { λ r. ⌜ r ≡ easyAt place depth held id len ⌝ }
+{
+    if 0 < place {
+        return false;
+    }
+    if ID_MAX < id {
+        return false;
+    }
+    if 0 < held {
+        return false;
+    }
+    if 255 < depth {
+        return false;
+    }
+    len <= ARRAY_MAX as usize
+}
+
+// And against a close.
+pub fn closes_at_ease(place: usize, depth: u16, held: u16) -> bool
+    ensures { λ r. ⌜ r ≡ closesAt place depth held ⌝ }
+{
+    if depth == 0 {
+        return false;
+    }
+    at_ease(place, depth, held, 0, 0)
+}
+
+// Whether there is room from pos on for two varints, however long, and `more` bytes.
+fn has_room(size: usize, pos: usize, more: usize) -> bool
+    ensures { λ r. ⌜ r ≡ roomFor size pos more ⌝ }
+{
+    if size < 20 {
+        return false;
+    }
+    if size - 20 < pos {
+        return false;
+    }
+    more <= size - 20 - pos
+}
+
+// Two varints straight away, where no place is in use and there is room for the longest; where they end. Else nothing, and pos.
+// The writer's calls test little themselves and leave the rest to this and the four after it, so that they are small enough to be inlined:
+// then a writer's state stays in registers from call to call.
+pub fn put_pair(buf: &mut [u8], pos: usize, places: [u32; 8], header: u64, second: u64) -> usize
+    ensures { λ r. ⌜ (r ≡ reachedIf (roomFor (length (now (buf .entry))) pos 0 && clean places) (now (buf .entry)) pos (shortest header ++ shortest second)) × (now (buf .exit) ≡ putIf (roomFor (length (now (buf .entry))) pos 0 && clean places) (now (buf .entry)) pos (shortest header ++ shortest second)) ⌝ }
+{
+    if !has_room(buf.len(), pos, 0) {
+        return pos;
+    }
+    if !unused_zero(places, 0) {
+        return pos;
+    }
+    let mid = put_fitting(buf, pos, header);
+    put_fitting(buf, mid, second)
+}
+
+// The same with bytes after them.
+pub fn put_field(
+    buf: &mut [u8],
+    pos: usize,
+    places: [u32; 8],
+    header: u64,
+    second: u64,
+    bytes: &[u8],
+) -> usize
+    ensures { λ r. ⌜ (r ≡ reachedIf (roomFor (length (now (buf .entry))) pos (length (now (bytes .entry))) && clean places) (now (buf .entry)) pos (shortest header ++ (shortest second ++ now (bytes .entry)))) × (now (buf .exit) ≡ putIf (roomFor (length (now (buf .entry))) pos (length (now (bytes .entry))) && clean places) (now (buf .entry)) pos (shortest header ++ (shortest second ++ now (bytes .entry)))) ⌝ }
+{
+    if !has_room(buf.len(), pos, bytes.len()) {
+        return pos;
+    }
+    if !unused_zero(places, 0) {
+        return pos;
+    }
+    let mid = put_fitting(buf, pos, header);
+    let end = put_fitting(buf, mid, second);
+    put_rest(buf, end, bytes, 0)
+}
+
+// The same of an array of unsigned integers: header, count, elements.
+pub fn put_unsigneds(
+    buf: &mut [u8],
+    pos: usize,
+    places: [u32; 8],
+    header: u64,
+    items: &[u64],
+) -> usize
+    requires { ⌜ length (now items) ≤ base .count ⌝ }
+    ensures { λ r. ⌜ (r ≡ reachedIf (roomFor (length (now (buf .entry))) pos (10 * length (now (items .entry))) && clean places) (now (buf .entry)) pos (shortest header ++ (shortest (length (now (items .entry))) ++ each shortest (now (items .entry))))) × (now (buf .exit) ≡ putIf (roomFor (length (now (buf .entry))) pos (10 * length (now (items .entry))) && clean places) (now (buf .entry)) pos (shortest header ++ (shortest (length (now (items .entry))) ++ each shortest (now (items .entry))))) × ((roomFor (length (now (buf .entry))) pos (10 * length (now (items .entry))) && clean places) ≡ true → pos + length (shortest header ++ (shortest (length (now (items .entry))) ++ each shortest (now (items .entry)))) ≤ length (now (buf .entry))) ⌝ }
+{
+    if !has_room(buf.len(), pos, 10 * items.len()) {
+        return pos;
+    }
+    if !unused_zero(places, 0) {
+        return pos;
+    }
+    let mid = put_fitting(buf, pos, header);
+    let at = put_fitting(buf, mid, items.len() as u64);
+    put_fittings(buf, at, items)
+}
+
+// And of signed ones.
+pub fn put_signeds(
+    buf: &mut [u8],
+    pos: usize,
+    places: [u32; 8],
+    header: u64,
+    items: &[i64],
+) -> usize
+    requires { ⌜ length (now items) ≤ base .count ⌝ }
+    ensures { λ r. ⌜ (r ≡ reachedIf (roomFor (length (now (buf .entry))) pos (10 * length (now (items .entry))) && clean places) (now (buf .entry)) pos (shortest header ++ (shortest (length (now (items .entry))) ++ each (λ z. shortest (zigzag z)) (now (items .entry))))) × (now (buf .exit) ≡ putIf (roomFor (length (now (buf .entry))) pos (10 * length (now (items .entry))) && clean places) (now (buf .entry)) pos (shortest header ++ (shortest (length (now (items .entry))) ++ each (λ z. shortest (zigzag z)) (now (items .entry))))) × ((roomFor (length (now (buf .entry))) pos (10 * length (now (items .entry))) && clean places) ≡ true → pos + length (shortest header ++ (shortest (length (now (items .entry))) ++ each (λ z. shortest (zigzag z)) (now (items .entry)))) ≤ length (now (buf .entry))) ⌝ }
+{
+    if !has_room(buf.len(), pos, 10 * items.len()) {
+        return pos;
+    }
+    if !unused_zero(places, 0) {
+        return pos;
+    }
+    let mid = put_fitting(buf, pos, header);
+    let at = put_fitting(buf, mid, items.len() as u64);
+    put_fitting_zigzags(buf, at, items)
+}
+
+// The one byte of a close.
+pub fn put_end(buf: &mut [u8], pos: usize, places: [u32; 8]) -> usize
+    ensures { λ r. ⌜ (r ≡ reachedIf (ltb pos (length (now (buf .entry))) && clean places) (now (buf .entry)) pos (7 ∷ [])) × (now (buf .exit) ≡ putIf (ltb pos (length (now (buf .entry))) && clean places) (now (buf .entry)) pos (7 ∷ [])) ⌝ }
+{
+    if buf.len() <= pos {
+        return pos;
+    }
+    if !unused_zero(places, 0) {
+        return pos;
+    }
+    buf[pos] = T_SEQUENCE_END;
+    pos + 1
+}

@@ -1,2 +1,3 @@
 -- The laws behind the exports.
 pub mod Numbers
+pub mod Fresh

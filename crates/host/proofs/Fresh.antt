@@ -10,7 +10,7 @@ use lib.ListN.{length, take, drop, getD}
 use lib.Seq.{drop-length}
 use types.Run.{OneOf, miss}
 use denote.Enum.Declared.{tagOf}
-use borrow.Author.Tests.{leb-true, leb-false}
+use borrow.Author.Tests.{leb-true, leb-false, le-leb, lt-leb}
 use Rattle.layout.specs.Limits.{base, pick}
 use Rattle.layout.specs.Message.{Bytes, complete, verdictOf}
 use Rattle.layout.specs.Copy.{plainCopy}
@@ -31,7 +31,7 @@ use Rattle.copier.specs.Copier.{copyOf, soundWriter}
 use Rattle.copier.specs.Calls.{full, verdict, Left, saidOf, saidIn, leftIn, freshOver, started}
 use Rattle.copier.specs.Calls as calls
 use Rattle.copier.proofs.Answer.{the-type}
-use Rattle.host.specs.Host.{leftBy, room, filled}
+use Rattle.host.specs.Host.{leftBy, room, enough, filled}
 
 -- the bytes of a slice, each below 256
 pub all-bytes : (T : List ℕ) → ((i : ℕ) → getD T i 0 < 256) → Bytes T
@@ -63,6 +63,33 @@ fed-whole T b a v =
     subst (Fed (plainCopy base T) b) (sym (goes-on T b))
     (record { fits = λ l. let q = w .fits l in (ap saidIn (q .0), q .1, q .2); short = λ l. let q = w .short l in (ap saidIn (q .0), q .1) })
 
+-- ---- what is promised of an output
+
+all : (b : List ℕ) → length b < 9223372036854775808 → room b ≡ length b
+all b s = omega arith
+
+-- room for just the copy is enough, and less is not
+is-enough : (m b : List ℕ) → length b < 9223372036854775808 → length m ≤ length b → enough m b ≡ true
+is-enough m b s l = le-leb (length m) (room b) (omega (arith, all b s))
+
+not-enough : (m b : List ℕ) → length b < 9223372036854775808 → length b < length m → enough m b ≡ false
+not-enough m b s l = lt-leb (length m) (room b) (omega (arith, all b s))
+
+-- The copy, and the rest of the output as it came.
+fitting : (m b : List ℕ) → length b < 9223372036854775808 → length m ≤ length b → filled m b ≡ leftBy (pos (length m)) (m ++ drop (length m) b)
+unfolding filled
+fitting m b s l = simp (is-enough m b s l)
+
+-- Every byte of the output is the copy's.
+too-short : (m b : List ℕ) → length b < 9223372036854775808 → length b < length m → filled m b ≡ leftBy (negsuc 100) (take (length b) m)
+unfolding filled
+too-short m b s l =
+    let d : take (room b) m ++ drop (room b) b ≡ take (length b) m =
+    ap (λ (n : ℕ). take n m ++ drop n b) (all b s) ∙ ap (λ (y : List ℕ). take (length b) m ++ y) (drop-length b) ∙ append-nil (take (length b) m) in
+    simp (not-enough m b s l) (ap (leftBy (negsuc 100)) d)
+
+-- ---- what the call says
+
 -- any answer but "full"
 not-full : (x : Answer) → OneOf (1 ∷ 2 ∷ []) (tagOf the-type x) → saidOf x ≡ full → ⊥
 not-full Full h e = miss (1 ∷ 2 ∷ []) 0 tt h
@@ -81,25 +108,17 @@ module _ (T b : List ℕ) (a : Bytes T) (v : verdictOf base T ≡ complete) (s :
   fed : Fed m b (calls.leftBy r b′)
   fed = subst (Fed m b) (sym (e ∙ ap (λ (x : Copier). calls.copied x T b) (o ∙ start-copier (length b)))) (fed-whole T b a v)
 
-  all : room b ≡ length b
-  all = omega arith
-
   -- by whether there is room
-  by-room : (x : ℤ) → (length m ≤ length b → (x ≡ pos (length m))) → (length b < length m → x ≡ negsuc 100) → leftBy x b′ ≡ filled m b
-  unfolding filled
-  by-room x one two = go (leb (length m) (room b)) refl
+  by-room : (x : ℤ) → (length m ≤ length b → x ≡ pos (length m)) → (length b < length m → x ≡ negsuc 100) → leftBy x b′ ≡ filled m b
+  by-room x one two = go (leb (length m) (length b)) refl
     where
-      go : (t : Bool) → leb (length m) (room b) ≡ t → leftBy x b′ ≡ pick (leb (length m) (room b)) (leftBy (pos (length m)) (m ++ drop (length m) b)) (leftBy (negsuc 100) (take (room b) m ++ drop (room b) b))
+      go : (t : Bool) → leb (length m) (length b) ≡ t → leftBy x b′ ≡ filled m b
       go true t =
-          let l : length m ≤ length b = omega (arith, leb-true (length m) (room b) t, all) in
-          let q = fed .fits l in
-          simp t (λ i. leftBy (one l i) (q .2 i))
+          let l : length m ≤ length b = leb-true (length m) (length b) t in
+          (λ i. leftBy (one l i) (fed .fits l .2 i)) ∙ sym (fitting m b s l)
       go false t =
-          let l : length b < length m = omega (arith, leb-false (length m) (room b) t, all) in
-          let q = fed .short l in
-          let d : take (room b) m ++ drop (room b) b ≡ take (length b) m =
-          ap (λ (n : ℕ). take n m ++ drop n b) all ∙ ap (λ (y : List ℕ). take (length b) m ++ y) (drop-length b) ∙ append-nil (take (length b) m) in
-          simp t (λ i. leftBy (two l i) ((q .1 ∙ sym d) i))
+          let l : length b < length m = leb-false (length m) (length b) t in
+          (λ i. leftBy (two l i) (fed .short l .1 i)) ∙ sym (too-short m b s l)
 
   pub answers-full : r .answer ≡ Full → leftBy (negsuc 100) b′ ≡ filled m b
   answers-full h = by-room (negsuc 100) (λ l. absurd (full-is (sym (ap saidOf h) ∙ fed .fits l .0))) (λ l. refl)

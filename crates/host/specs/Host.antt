@@ -1,5 +1,6 @@
 -- "The C host calls two exports on byte slices, answering a signed 64-bit number."
-use Prim.Native.Nat.{ℕ, min}
+use Prim.Native.Nat.{ℕ, _-_, _^_, min}
+use mathlib.Core.Bool.{Bool}
 use mathlib.Core.List.{List, _++_}
 use lib.ListN.{length, take, drop}
 use lib.Dec.{leb}
@@ -25,13 +26,16 @@ leftBy r out = record { answer = r; out = out }
 
 -- "An output beyond 9,223,372,036,854,775,807 bytes counts as that long."
 abbrev pub room : List ℕ → ℕ
-room out = min (length out) 9223372036854775807
+room out = min (length out) (2 ^ 63 - 1)
+
+abbrev pub enough : List ℕ → List ℕ → Bool
+enough m out = leb (length m) (room out)
 
 -- of a complete message whose plain copy is m: "-101 output too short, the output filled with the manifest's start; else the length, the
 -- rest of the output unaltered"
 unfoldable pub filled : List ℕ → List ℕ → Copied
 filled m out =
-    pick (leb (length m) (room out)) (leftBy (pos (length m)) (m ++ drop (length m) out)) (leftBy (negsuc 100) (take (room out) m ++ drop (room out) out))
+    pick (enough m out) (leftBy (pos (length m)) (m ++ drop (length m) out)) (leftBy (negsuc 100) (take (room out) m ++ drop (room out) out))
 
 -- "the copy (-2; then -100 incomplete; then -101 ..)". "-2 and -100 write nothing."
 unfoldable pub copied : Verdict → List ℕ → List ℕ → Copied

@@ -7,7 +7,7 @@ ghost use lib.ListN.{length};
 ghost use Rattle.machine.specs.Call.{broke};
 ghost use Rattle.copying.specs.Owed.{dueIn, owesNothing};
 ghost use Rattle.istream.specs.Stream.{stateOf, soundStream};
-ghost use Rattle.istream.proofs.Calls.{Live};
+ghost use Rattle.phase.proofs.Phases.{Live};
 ghost use Rattle.owed.specs.Owed.{owedOf};
 ghost use Rattle.layout.specs.Limits.{base};
 ghost use Rattle.copying.specs.Copy.{copy};
@@ -17,12 +17,12 @@ ghost use Rattle.copier.specs.Turns.{isBroke, refused, finished, eventTu
 use emit::put_rest;
 use istream::Fed;
 use istream::IStream;
-use istream::Phase;
 use istream::Status;
 use ostream::Count;
 use ostream::OStream;
 use owed::Owed;
 use owed::owe;
+use phase::Phase;
 use types::Error;
 
 pub struct Copier {

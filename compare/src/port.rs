@@ -1,4 +1,4 @@
-//! The port's side: the exports of the crates `trace` and `trace_writer`, which parse a case, make its calls and write the answer, and that of `host`.
+//! The port's side: the exports of the crates `trace`, `trace_writer` and `trace_copier`, which parse a case, make its calls and write the answer, and that of `host`.
 
 use crate::case::Kind;
 
@@ -11,6 +11,11 @@ extern "C" {
 #[link(name = "trace_writer", kind = "static")]
 extern "C" {
     fn trace_writes(case: *const u8, case_len: usize, out: *mut u8, out_len: usize) -> i64;
+}
+
+#[link(name = "trace_copier", kind = "static")]
+extern "C" {
+    fn trace_copies(case: *const u8, case_len: usize, out: *mut u8, out_len: usize) -> i64;
 }
 
 #[link(name = "host", kind = "static")]
@@ -30,6 +35,7 @@ pub fn answer(kind: Kind, case: &[u8], out: &mut [u8]) -> usize {
         Kind::Reader => trace_reader,
         Kind::Gatherer => trace_gatherer,
         Kind::Writer => trace_writes,
+        Kind::Copier => trace_copies,
     };
     // SAFETY: the exports are proved on every pair of slices, and are given just these.
     let n = unsafe { export(case.as_ptr(), case.len(), out.as_mut_ptr(), out.len()) };

@@ -51,8 +51,10 @@ is-easy s id n e =
     let a = both _ _ e in
     let b = both _ _ (a .1) in
     let c = both _ _ (b .1) in
-    let h : s .npending ≤ 0 = leb-true _ _ (b .0) in
-    record { legal = leb-true _ _ (a .0); none = omega arith; shallow = leb-true _ _ (c .0); short = leb-true _ _ (c .1) }
+    record { legal = leb-true _ _ (a .0); none = nothing (s .npending) (leb-true _ _ (b .0)); shallow = leb-true _ _ (c .0); short = leb-true _ _ (c .1) }
+  where
+    nothing : (n : ℕ) → n ≤ 0 → n ≡ 0
+    nothing n h = omega arith
 
 pub closes-easy : (s : OStream) → closesAt (s .depth) (s .npending) ≡ true → (0 < s .depth) × Easy s 0 0
 unfolding closesAt

@@ -186,10 +186,10 @@ impl OStream {
         ensures { λ r. ⌜ r ≡ draining self (length (now (buf .entry))) ⌝ }
     {
         if self.sound(buf.len()) {
-            let used = self.offset;
+            let sent = self.offset;
             self.offset = 0;
             Counted {
-                answer: Count::Bytes(used),
+                answer: Count::Bytes(sent),
                 stream: self,
             }
         } else {

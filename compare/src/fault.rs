@@ -5,7 +5,7 @@ use crate::oracle::{Fields, COMPLETE, INCOMPLETE, REFUSED};
 #[derive(Clone, Copy)]
 pub struct Fault(pub usize);
 
-pub const FAULTS: [&str; 32] = [
+pub const FAULTS: [&str; 34] = [
     "none",
     "reader: the lowest signed value loses its sign",
     "reader: a NaN loses its payload",
@@ -38,6 +38,8 @@ pub const FAULTS: [&str; 32] = [
     "copier: an element has a header",
     "copier: a refused call moves the position",
     "copier: a byte after the position is altered",
+    "copy of a whole ticket: a byte after it is altered",
+    "copy of a whole ticket: room for just the copy is too short",
 ];
 
 impl Fault {

@@ -17,7 +17,7 @@ const HELP: &str = "\
 compare/run DIR COMMAND
   differ SEED SIZE      everything below: tickets of up to 3 bytes, every cut of the corpus, SIZE random cases of each kind
   short BYTES           all tickets of up to BYTES bytes, in every cut
-  copies BYTES          all tickets of up to BYTES bytes, in every cut, through copiers over 1, 2, 3 and 7 bytes
+  copies BYTES          all tickets of up to BYTES bytes, in every cut, through copiers over 1, 2, 3 and 7 bytes, and whole
   cuts                  every cut of every ticket in the corpus
   random SEED SIZE [KINDS]
                         SIZE random cases of each kind (KINDS: some of the letters rgwc, for reader, gatherer, writer and copier)

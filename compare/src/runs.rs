@@ -21,6 +21,9 @@ pub struct Runs {
 /// Differences shown before a run goes on without showing more.
 const SHOWN: u64 = 5;
 
+/// Bytes behind an output that no copy may touch.
+const GUARD: usize = 16;
+
 impl Runs {
     pub fn new(fault: usize) -> Runs {
         Runs { oracle: Oracle::new(Fault(fault)), cases: 0, differences: 0, case: Vec::new(), rust: Vec::new(), port: vec![0; 1 << 20], quiet: fault != 0 }
@@ -81,6 +84,37 @@ impl Runs {
         }
     }
 
+    /// The export that copies a whole message, on one ticket: into outputs of no byte, one too short, just long enough and three bytes longer,
+    /// with guard bytes behind each.
+    fn whole(&mut self, ticket: &[u8]) {
+        let verdict = oracle::verdict(ticket);
+        let copy = if verdict == 0 { copier::plain_copy(ticket).expect("a complete ticket has a copy") } else { Vec::new() };
+        let (fault, long) = (self.oracle.fault.0, copy.len());
+        for room in [0, long.saturating_sub(1), long, long + 3] {
+            self.cases += 1;
+            let (mut rust, mut port) = (vec![0xA5; room + GUARD], vec![0xA5; room + GUARD]);
+            let said = match verdict {
+                0 if room < long || fault == 33 && room == long => -101,
+                0 => long as i64,
+                1 => -100,
+                _ => -2,
+            };
+            let n = long.min(room);
+            rust[..n].copy_from_slice(&copy[..n]);
+            if fault == 32 && n < room {
+                rust[n] ^= 1;
+            }
+            let answered = port::copy(ticket, &mut port[..room]);
+            if said == answered && rust == port {
+                continue;
+            }
+            self.differences += 1;
+            if !self.quiet && self.differences <= SHOWN {
+                println!("difference, copy of {} into {room} bytes: rust {said} {}, port {answered} {}", hex(ticket), hex(&rust), hex(&port));
+            }
+        }
+    }
+
     /// Every ticket of up to `most` bytes, in every cut.
     pub fn short(&mut self, most: usize) {
         let before = self.cases;
@@ -107,11 +141,16 @@ impl Runs {
         let before = self.cases;
         for len in 0..=most {
             for n in 0u64..1 << (8 * len) {
-                self.copied(n.to_be_bytes()[8 - len..].to_vec());
+                let ticket = n.to_be_bytes()[8 - len..].to_vec();
+                self.whole(&ticket);
+                self.copied(ticket);
             }
         }
-        gen::corpus().into_iter().for_each(|ticket| self.copied(ticket));
-        println!("copies of tickets of up to {most} bytes and of the corpus, every cut, through 1, 2, 3 and 7 bytes: {} cases", self.cases - before);
+        for ticket in gen::corpus() {
+            self.whole(&ticket);
+            self.copied(ticket);
+        }
+        println!("copies of tickets of up to {most} bytes and of the corpus, every cut, through 1, 2, 3 and 7 bytes, and whole: {} cases", self.cases - before);
     }
 
     fn copied(&mut self, ticket: Vec<u8>) {
@@ -151,7 +190,9 @@ impl Runs {
             self.compare(&gen::writer(&mut case_seed(seed, i, 3)));
         }
         if kinds.contains('c') {
-            self.compare(&copier::case(&mut case_seed(seed, i, 4)));
+            let case = copier::case(&mut case_seed(seed, i, 4));
+            self.whole(&case.ticket);
+            self.compare(&case);
         }
     }
 

@@ -12,7 +12,6 @@ use denote.Enum.Declared.{tagOf}
 use Rattle.layout.specs.Limits.{base, pick}
 use Rattle.machine.specs.Call.{State, reading, owing, broke}
 use Rattle.types.specs.declared.Error.{Error}
-use Rattle.types.specs.declared.RawType.{RawType}
 use Rattle.event.specs.declared.Event.{Event}
 use Rattle.event.specs.Event.{eventOf}
 use Rattle.istream.specs.declared.IStream.{IStream}
@@ -36,7 +35,7 @@ use Rattle.copier.specs.declared.Copier.{Copier}
 use Rattle.copier.specs.declared.Answer.the-variants.{Full, Status, Refused}
 use Rattle.copier.specs.declared.Turn.{Turn}
 use Rattle.copier.specs.declared.Turn.the-variants as turns
-use Rattle.copier.specs.Turns.{isBroke, BulkState, fullStop, eventTurn, eventBuf, turnBy, bufBy, heardTurn, heardBuf, Went, Turned}
+use Rattle.copier.specs.Turns.{isBroke, fullStop, eventTurn, eventBuf, turnBy, bufBy, heardTurn, heardBuf, Went, Turned}
 
 -- ---- the reader's phase
 
@@ -75,9 +74,6 @@ none-due s h = go (s .phase) h
     go (phases.Payload id r total o) h = refl
     go (phases.Empty id r) h = refl
     go phases.Broken h = refl
-
-pub within-payload : (s : IStream) (id : ℕ) (r : RawType) (total o : ℕ) → s .phase ≡ phases.Payload id r total o → BulkState (stateOf s)
-within-payload s id r total o e = subst (λ (p : code.Phase). BulkState (stateAt (s .depth) p)) (sym e) tt
 
 -- ---- what is owed
 

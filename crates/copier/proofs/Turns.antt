@@ -8,14 +8,13 @@ use native.Mathlib.Omega.{arith}
 use lib.Dec.{leb, ltb, eqb}
 use lib.ListN.{length, take, drop, length-take, length-drop}
 use lib.Seq.{take-all, take-take, drop-drop}
-use borrow.Author.Tests.{leb-true, leb-false, ltb-true}
+use borrow.Author.Tests.{leb-true, leb-false, ltb-true, lt-ltb, le-ltb}
 use Rattle.layout.specs.Limits.{base, pick}
-use Rattle.layout.specs.Field.{Raw}
 use Rattle.layout.specs.Event.{Event, Piece}
 use Rattle.layout.specs.Message.{Verdict, complete, incomplete}
 use Rattle.machine.specs.Machine.{Phase, inHeader, inUnsigned, inSigned, inWord, inUnsignedCount, inSignedCount, inFloatCount, inArrayWord, inFloat, inPayload, judge, ending}
 use Rattle.machine.specs.Call as calls
-use Rattle.machine.specs.Call.{State, reading, owing, broke, Called, event, verdict, invalid, verdictAt, Pace, byte, bulk, paceOf, piece, scan, call}
+use Rattle.machine.specs.Call.{State, reading, owing, broke, Called, event, verdict, invalid, verdictAt, Pace, byte, bulk, piece, scan, call}
 use Rattle.machine.specs.Machine.{idle}
 use Rattle.machine.specs.Run.{placeOf}
 use Rattle.machine.proofs.Calls.{FairPlace, weight, Judged, Closes}
@@ -29,11 +28,11 @@ use Rattle.istream.specs.declared.Fed.{Fed}
 use Rattle.phase.specs.declared.Phase as code
 use Rattle.phase.specs.declared.Phase.the-variants as phases
 use Rattle.istream.specs.declared.Status.the-variants.{Incomplete}
-use Rattle.phase.specs.Phases.{stateAt}
+use Rattle.phase.specs.Phases.{phaseIn}
 use Rattle.stepped.specs.Steps.{covered}
 use Rattle.istream.specs.Stream.{stateOf, streamIn, soundStream, statusIn, fedIn, fedOf}
 use Rattle.phase.specs.Sound.{SoundState}
-use Rattle.phase.proofs.Phases.{Live}
+use Rattle.phase.proofs.Phases.{Live, raw-back}
 use Rattle.istream.proofs.Calls.{state-of-stream, stream-back}
 use Rattle.istream.proofs.Laws.{is-sound, sound-is, fed-sound, feed-keeps}
 use Rattle.reading.proofs.Feeds.{Ranged, call-range}
@@ -57,7 +56,7 @@ use Rattle.copier.specs.declared.Answer.the-variants.{Full, Status}
 use Rattle.copier.specs.Copier.{copierIn}
 use Rattle.copier.specs.Calls as says
 use Rattle.copier.specs.Calls.{Said, Left, saidOf}
-use Rattle.copier.specs.Turns.{standing, leftAs, stopLeft, Stops, fullStop, eventTurn, eventBuf, heardTurn, heardBuf, Went, Turned, Ran, InPayload, BulkState, later}
+use Rattle.copier.specs.Turns.{standing, leftAs, stopLeft, Stops, fullStop, eventTurn, eventBuf, heardTurn, heardBuf, Went, Turned, Ran, pastPiece, InPayload, later}
 use Rattle.copier.proofs.Events.{AtEvent, Bytes, Steady, call-level, fair, to-bytes}
 
 -- ---- what the reader is handed
@@ -214,29 +213,8 @@ module _ (s : IStream) (pos : ℕ) (c b : List ℕ) (h : pos ≤ length b) where
 
 -- ---- a payload
 
-record Inside (s : IStream) : Type 0 where
-  id : ℕ
-  r : RawType
-  total : ℕ
-  o : ℕ
-  is : s ≡ record { phase = phases.Payload id r total o; depth = s .depth }
-
-inside : (s : IStream) → BulkState (stateOf s) → Inside s
-inside s u = go (s .phase) refl u
-  where
-    go : (p : code.Phase) → s .phase ≡ p → BulkState (stateAt (s .depth) p) → Inside s
-    go (phases.Header a) e u = absurd u
-    go (phases.Unsigned id left a) e u = absurd u
-    go (phases.Signed id left a) e u = absurd u
-    go (phases.Word id a) e u = absurd u
-    go (phases.UnsignedCount id a) e u = absurd u
-    go (phases.SignedCount id a) e u = absurd u
-    go (phases.FloatCount id a) e u = absurd u
-    go (phases.ArrayWord id count a) e u = absurd u
-    go (phases.Float id w left k v) e u = absurd u
-    go (phases.Payload id r total o) e u = record { id = id; r = r; total = total; o = o; is = ap (λ (p : code.Phase). record { phase = p; depth = s .depth }) e }
-    go (phases.Empty id r) e u = absurd u
-    go phases.Broken e u = absurd u
+is-payload : (s : IStream) (id : ℕ) (r : RawType) (total o : ℕ) → s .phase ≡ phases.Payload id r total o → s ≡ record { phase = phases.Payload id r total o; depth = s .depth }
+is-payload s id r total o e = ap (λ (p : code.Phase). record { phase = p; depth = s .depth }) e
 
 -- a stop within a payload
 abbrev pub pause : IStream → Rattle.copier.specs.declared.Answer.Answer → ℕ → Stop
@@ -296,14 +274,11 @@ module _ (d id : ℕ) (r : RawType) (total o pos : ℕ) (b : List ℕ) (h : pos 
     unfolding part
     least l = omega arith
 
-    called-part : call base stands (take (suc m) (x ∷ xs)) ≡ piece 0 d id (rawSort r) total o part (take (suc m) (x ∷ xs))
-    unfolding call scan part
-    called-part = refl
+    part-is : (k n : ℕ) → k ≡ min (length (x ∷ xs)) (length b - pos) → n ≡ min k (total - o) → part ≡ n
+    unfolding part
+    part-is k n p q = let l = length-take (suc m) (x ∷ xs) in omega arith
 
-    fed-part : soundStream at ≡ true → fedOf at (take (suc m) (x ∷ xs)) ≡ fedIn (piece 0 d id (rawSort r) total o part (take (suc m) (x ∷ xs)))
-    fed-part t = sym (fed-sound at stands (take (suc m) (x ∷ xs)) refl tt t) ∙ ap fedIn called-part
-
-    some-go : Went at pos (x ∷ xs) b (streamIn next) (0 + part) (reached b pos (take (0 + part) (x ∷ xs))) (put b pos (take (0 + part) (x ∷ xs)))
+    some-go : Went at pos (x ∷ xs) b (streamIn next) part (reached b pos (take part (x ∷ xs))) (put b pos (take part (x ∷ xs)))
     unfolding heard depthBy eventBytes
     some-go =
         let c = x ∷ xs in
@@ -316,7 +291,8 @@ module _ (d id : ℕ) (r : RawType) (total o pos : ℕ) (b : List ℕ) (h : pos 
         let p : part ≤ suc m = least l in
         let z : 0 + part ≡ part = omega arith in
         let w : take part (take (suc m) c) ≡ take (0 + part) c = take-take part (suc m) c p ∙ ap (λ (n : ℕ). take n c) (sym z) in
-        goes-out at pos c b h (0 + part) ev next (take (0 + part) c) w (fits c p z) q (hd .few) (hd .closes) refl tt sound-next
+        let v = goes-out at pos c b h (0 + part) ev next (take (0 + part) c) w (fits c p z) q (hd .few) (hd .closes) refl tt sound-next in
+        subst (λ (n : ℕ). Went at pos c b (streamIn next) n (reached b pos (take n c)) (put b pos (take n c))) z v
       where
         short : (c : List ℕ) → length (take (suc m) c) ≤ suc m
         short c = omega (arith, length-take (suc m) c)
@@ -324,49 +300,54 @@ module _ (d id : ℕ) (r : RawType) (total o pos : ℕ) (b : List ℕ) (h : pos 
         fits : (c : List ℕ) → part ≤ suc m → 0 + part ≡ part → length (take (0 + part) c) ≤ length b - pos
         fits c p z = omega (arith, length-take (0 + part) c, e)
 
+-- the phase after a piece: within the payload, or past it
+pub past-on : (id : ℕ) (r : RawType) (total o n : ℕ) → o + n < total → phases.Payload id r total (o + n) ≡ pastPiece id r total o n
+past-on id r total o n h =
+    ap (λ (x : RawType). phases.Payload id x total (o + n)) (sym (raw-back r)) ∙ sym (ap (λ (t : Bool). phaseIn (pick t (inPayload id (rawSort r) total (o + n)) idle)) (lt-ltb (o + n) total h))
+
+pub past-end : (id : ℕ) (r : RawType) (total o n : ℕ) (p : code.Phase) → p ≡ phaseIn idle → total ≤ o + n → p ≡ pastPiece id r total o n
+past-end id r total o n p e h = e ∙ sym (ap (λ (t : Bool). phaseIn (pick t (inPayload id (rawSort r) total (o + n)) idle)) (le-ltb (o + n) total h))
+
 -- the three ways of a reader within a payload
-pub piece-none : (s : IStream) (pos : ℕ) (c b : List ℕ) → pos ≤ length b → InPayload s → length c ≡ 0 → Turned s pos c b (turns.Stop (pause s (Status Incomplete) pos)) b
-piece-none s pos [] b h (t, u) z =
-    let i = inside s u in
-    let st = subst (λ (x : IStream). SoundState (stateOf x)) (i .is) (is-sound s t) in
-    subst (λ (x : IStream). Turned x pos [] b (turns.Stop (pause x (Status Incomplete) pos)) b) (sym (i .is)) (no-bytes (s .depth) (i .id) (i .r) (i .total) (i .o) pos b h (st .1 .1 .1))
-piece-none s pos (x ∷ xs) b h p z = absurd (omega arith)
+pub piece-none : (s : IStream) (id : ℕ) (r : RawType) (total o pos : ℕ) (c b : List ℕ) → pos ≤ length b → InPayload s id r total o → length c ≡ 0 → Turned s pos c b (turns.Stop (pause s (Status Incomplete) pos)) b
+piece-none s id r total o pos [] b h (t, u) z =
+    let i = is-payload s id r total o u in
+    let st = subst (λ (x : IStream). SoundState (stateOf x)) i (is-sound s t) in
+    subst (λ (x : IStream). Turned x pos [] b (turns.Stop (pause x (Status Incomplete) pos)) b) (sym i) (no-bytes (s .depth) id r total o pos b h (st .1 .1 .1))
+piece-none s id r total o pos (x ∷ xs) b h p z = absurd (omega arith)
 
-pub piece-full : (s : IStream) (pos : ℕ) (c b : List ℕ) → pos ≤ length b → InPayload s → (length c ≡ 0 → ⊥) → length b - pos ≡ 0 → Turned s pos c b (turns.Stop (pause s Full pos)) b
-piece-full s pos [] b h p n z = absurd (n refl)
-piece-full s pos (x ∷ xs) b h (t, u) n z =
-    let i = inside s u in
-    subst (λ (y : IStream). Turned y pos (x ∷ xs) b (turns.Stop (pause y Full pos)) b) (sym (i .is)) (no-room (s .depth) (i .id) (i .r) (i .total) (i .o) pos b h x xs z)
+pub piece-full : (s : IStream) (id : ℕ) (r : RawType) (total o pos : ℕ) (c b : List ℕ) → pos ≤ length b → InPayload s id r total o → (length c ≡ 0 → ⊥) → length b - pos ≡ 0 → Turned s pos c b (turns.Stop (pause s Full pos)) b
+piece-full s id r total o pos [] b h p n z = absurd (n refl)
+piece-full s id r total o pos (x ∷ xs) b h (t, u) n z =
+    subst (λ (y : IStream). Turned y pos (x ∷ xs) b (turns.Stop (pause y Full pos)) b) (sym (is-payload s id r total o u)) (no-room (s .depth) id r total o pos b h x xs z)
 
-take-least : (n room : ℕ) (c : List ℕ) → n ≡ min (length c) room → take n c ≡ take room c
-take-least n room c e = go (leb (length c) room) refl
+-- a payload's bytes are below its total, which has room in 32 bits
+pub piece-small : (s : IStream) (id : ℕ) (r : RawType) (total o : ℕ) → InPayload s id r total o → (o < total) × (total ≤ 2147483647)
+piece-small s id r total o (t, u) =
+    let st = subst (λ (x : IStream). SoundState (stateOf x)) (is-payload s id r total o u) (is-sound s t) in
+    (st .1 .1 .1, st .1 .1 .0)
+
+pub piece-goes : (s : IStream) (id : ℕ) (r : RawType) (total o pos : ℕ) (c b : List ℕ) → pos ≤ length b → InPayload s id r total o → (length c ≡ 0 → ⊥) → (length b - pos ≡ 0 → ⊥)
+    → (k n : ℕ) → k ≡ min (length c) (length b - pos) → n ≡ min k (total - o) → (p : code.Phase) → p ≡ pastPiece id r total o n
+    → Went s pos c b (record { phase = p; depth = s .depth }) n (reached b pos (take n c)) (put b pos (take n c))
+piece-goes s id r total o pos [] b h p n z k m e f q g = absurd (n refl)
+piece-goes s id r total o pos (x ∷ xs) b h (t, u) n z k m w f q g = go (length b - pos) refl
   where
-    go : (t : Bool) → leb (length c) room ≡ t → take n c ≡ take room c
-    go true q = let l = leb-true (length c) room q in take-all n c (omega arith) ∙ sym (take-all room c l)
-    go false q = let l = leb-false (length c) room q in let i : n ≡ room = omega arith in ap (λ (m : ℕ). take m c) i
+    i : s ≡ record { phase = phases.Payload id r total o; depth = s .depth }
+    i = is-payload s id r total o u
 
-pub piece-goes : (s : IStream) (pos : ℕ) (c b : List ℕ) → pos ≤ length b → InPayload s → (length c ≡ 0 → ⊥) → (length b - pos ≡ 0 → ⊥) → (n : ℕ) → n ≡ min (length c) (length b - pos) → (f : Fed) → f ≡ fedOf s (take n c)
-    → Went s pos c b (f .stream) (f .read) (reached b pos (take (f .read) c)) (put b pos (take (f .read) c))
-unfolding fedIn
-piece-goes s pos [] b h p n z j w f g = absurd (n refl)
-piece-goes s pos (x ∷ xs) b h (t, u) n z j w f g = go (length b - pos) refl
-  where
-    i : Inside s
-    i = inside s u
+    Goes : IStream → code.Phase → ℕ → Type 0
+    Goes y v j = Went y pos (x ∷ xs) b (record { phase = v; depth = s .depth }) j (reached b pos (take j (x ∷ xs))) (put b pos (take j (x ∷ xs)))
 
-    Goes : IStream → Fed → Type 0
-    Goes y v = Went y pos (x ∷ xs) b (v .stream) (v .read) (reached b pos (take (v .read) (x ∷ xs))) (put b pos (take (v .read) (x ∷ xs)))
-
-    go : (m : ℕ) → length b - pos ≡ m → Goes s f
+    go : (j : ℕ) → length b - pos ≡ j → Goes s q m
     go zero e = absurd (z e)
-    go (suc m) e =
-        let y : IStream = record { phase = phases.Payload (i .id) (i .r) (i .total) (i .o); depth = s .depth } in
-        let st = subst (λ (x : IStream). SoundState (stateOf x)) (i .is) (is-sound s t) in
-        let v = some-go (s .depth) (i .id) (i .r) (i .total) (i .o) pos b h x xs m e st in
-        let a = fed-part (s .depth) (i .id) (i .r) (i .total) (i .o) pos b h x xs m e st (subst (λ (x : IStream). soundStream x ≡ true) (i .is) t) in
-        let k : f ≡ fedOf s (take (suc m) (x ∷ xs)) = g ∙ ap (fedOf s) (take-least j (length b - pos) (x ∷ xs) w ∙ ap (λ (n : ℕ). take n (x ∷ xs)) e) in
-        subst (λ (q : Fed). Goes s q) (sym k)
-        (subst (λ (q : IStream). Goes q (fedOf q (take (suc m) (x ∷ xs)))) (sym (i .is)) (subst (Goes y) (sym a) v))
+    go (suc j) e =
+        let y : IStream = record { phase = phases.Payload id r total o; depth = s .depth } in
+        let st = subst (λ (x : IStream). SoundState (stateOf x)) i (is-sound s t) in
+        let v = some-go (s .depth) id r total o pos b h x xs j e st in
+        let a = part-is (s .depth) id r total o pos b h x xs j e st k m w f in
+        subst (λ (v : code.Phase). Goes s v m) (sym g)
+        (subst (λ (y : IStream). Goes y (pastPiece id r total o m) m) (sym i) (subst (λ (l : ℕ). Goes y (pastPiece id r total o l) l) a v))
 
 -- ---- the loop
 

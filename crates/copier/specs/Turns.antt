@@ -3,13 +3,19 @@ use Prim.Native.Nat.{ℕ, _+_, _-_, _*_, _<_, _≤_}
 use mathlib.Core.Path.{_≡_}
 use mathlib.Core.Bool.{Bool, true, false}
 use mathlib.Core.List.{List, []}
-use lib.Dec.{leb}
+use lib.Dec.{leb, ltb}
 use lib.ListN.{length, drop}
 use Rattle.layout.specs.Limits.{base, pick}
-use Rattle.machine.specs.Call.{State, reading, owing, broke, Pace, byte, bulk, paceOf}
+use Rattle.machine.specs.Machine.{inPayload, idle}
+use Rattle.machine.specs.Call.{State, reading, owing, broke}
 use Rattle.machine.proofs.Calls.{weight}
 use Rattle.types.specs.declared.Error.{Error}
+use Rattle.types.specs.declared.RawType.{RawType}
+use Rattle.types.specs.Types.{rawSort}
 use Rattle.event.specs.Event.{eventOf}
+use Rattle.phase.specs.declared.Phase.{Phase}
+use Rattle.phase.specs.declared.Phase.the-variants as phases
+use Rattle.phase.specs.Phases.{phaseIn}
 use Rattle.istream.specs.declared.IStream.{IStream}
 use Rattle.istream.specs.declared.Fed.{Fed}
 use Rattle.istream.specs.declared.Answer as heard
@@ -98,18 +104,13 @@ heardTurn d left f pos b = turnBy d left (f .answer) (f .read) (f .stream) pos b
 abbrev pub heardBuf : ℕ → Fed → ℕ → List ℕ → List ℕ
 heardBuf left f pos b = bufBy left (f .answer) pos b
 
-abbrev pub Bulk : Pace → Type 0
-Bulk byte = ⊥
-Bulk (bulk id r total o) = Unit {0}
-
-abbrev pub BulkState : State → Type 0
-BulkState (reading d p) = Bulk (paceOf p)
-BulkState (owing d id r) = ⊥
-BulkState broke = ⊥
+-- a payload's phase, n of its bytes later
+abbrev pub pastPiece : ℕ → RawType → ℕ → ℕ → ℕ → Phase
+pastPiece id r total o n = phaseIn (pick (ltb (o + n) total) (inPayload id (rawSort r) total (o + n)) idle)
 
 -- a sound reader within a payload
-abbrev pub InPayload : IStream → Type 0
-InPayload s = (soundStream s ≡ true) × BulkState (stateOf s)
+abbrev pub InPayload : IStream → ℕ → RawType → ℕ → ℕ → Type 0
+InPayload s id r total o = (soundStream s ≡ true) × (s .phase ≡ phases.Payload id r total o)
 
 -- an event is out, with n bytes of the chunk: the call goes on from there, nearer to its end
 pub record Went (s : IStream) (pos : ℕ) (c b : List ℕ) (s′ : IStream) (n pos′ : ℕ) (b′ : List ℕ) : Type 0 where

@@ -13,7 +13,7 @@ ghost use Rattle.layout.specs.Limits.{base};
 ghost use Rattle.copying.specs.Copy.{copy};
 ghost use Rattle.copier.specs.Copier.{soundWriter, copyOf};
 ghost use Rattle.copier.specs.Calls.{leftBy, copied, opensOf, opensIn, startedBy, started, sentBy, drained, changed};
-ghost use Rattle.copier.specs.Turns.{isBroke, refused, finished, eventTurn, eventBuf, heardTurn, heardBuf, InPayload, Turned, Stops, Ran, Ready, later};
+ghost use Rattle.copier.specs.Turns.{isBroke, refused, finished, eventTurn, eventBuf, heardTurn, heardBuf, pastPiece, InPayload, Turned, Stops, Ran, Ready, later};
 use emit::put_rest;
 use istream::Fed;
 use istream::IStream;
@@ -23,7 +23,9 @@ use ostream::OStream;
 use owed::Owed;
 use owed::owe;
 use phase::Phase;
+use phase::idle;
 use types::Error;
+use types::RawType;
 
 pub struct Copier {
     pub reader: IStream,
@@ -191,10 +193,33 @@ fn within(reader: IStream, answer: Answer, pos: usize) -> Turn
     })
 }
 
-// A payload's bytes go out straight away, as many as there is room for.
-fn piece(reader: IStream, pos: usize, rest: &[u8], buf: &mut [u8]) -> Turn
-    requires { ⌜ InPayload reader × (pos ≤ length (now buf)) ⌝ }
-    ensures { λ r. ⌜ Turned reader pos (now (rest .entry)) (now (buf .entry)) r (now (buf .exit)) ⌝ }
+// A payload's phase, so many of its bytes later.
+fn past(id: u32, r: RawType, total: u32, offset: u32, n: u32) -> Phase
+    requires { ⌜ offset + n < 4294967296 ⌝ }
+    ensures { λ p. ⌜ p ≡ pastPiece id r total offset n ⌝ }
+{
+    let at = offset + n;
+    if at < total {
+        Phase::Payload(id, r, total, at)
+    } else {
+        idle()
+    }
+}
+
+// A payload's bytes go out straight away, as many as there is room for. The next phase is made here and not by the reader's `feed`, which
+// then has one place of call, and is inlined there.
+fn piece(
+    reader: IStream,
+    id: u32,
+    r: RawType,
+    total: u32,
+    offset: u32,
+    pos: usize,
+    rest: &[u8],
+    buf: &mut [u8],
+) -> Turn
+    requires { ⌜ InPayload reader id r total offset × (pos ≤ length (now buf)) ⌝ }
+    ensures { λ t. ⌜ Turned reader pos (now (rest .entry)) (now (buf .entry)) t (now (buf .exit)) ⌝ }
 {
     if rest.len() == 0 {
         return within(reader, Answer::Status(Status::Incomplete), pos);
@@ -203,12 +228,11 @@ fn piece(reader: IStream, pos: usize, rest: &[u8], buf: &mut [u8]) -> Turn
     if room == 0 {
         return within(reader, Answer::Full, pos);
     }
-    let n = least(rest.len(), room);
-    let fed = reader.feed(&rest[..n]);
-    let read = fed.read;
-    let end = put_rest(buf, pos, &rest[..read], 0);
-    let next = fed.stream;
-    Turn::On(next, read, end)
+    let n = least(least(rest.len(), room), (total - offset) as usize);
+    let end = put_rest(buf, pos, &rest[..n], 0);
+    let phase = past(id, r, total, offset, n as u32);
+    let depth = reader.depth;
+    Turn::On(IStream { phase, depth }, n, end)
 }
 
 // One event, nothing being owed.
@@ -217,8 +241,8 @@ fn one_event(reader: IStream, pos: usize, rest: &[u8], buf: &mut [u8]) -> Turn
     ensures { λ r. ⌜ Turned reader pos (now (rest .entry)) (now (buf .entry)) r (now (buf .exit)) ⌝ }
 {
     let phase = reader.phase;
-    if let Phase::Payload(_, _, _, _) = phase {
-        return piece(reader, pos, rest, buf);
+    if let Phase::Payload(id, r, total, offset) = phase {
+        return piece(reader, id, r, total, offset, pos, rest, buf);
     }
     heard(reader.depth, due(reader), reader.feed(rest), pos, buf)
 }

@@ -1,7 +1,7 @@
 -- `copier::one_event`: within a payload or not.
 use Rattle.copier.proofs.Events.{steady}
 use Rattle.copier.proofs.Turns.{steady-turn}
-use Rattle.copier.proofs.Tests.{within-payload, turned-by}
+use Rattle.copier.proofs.Tests.{turned-by}
 use borrow.Author.Needs.{needs}
 use Rattle.copier.proofs.one_event.Statement.{statement}
 use Rattle.copier.proofs.one_event.Tie as tie
@@ -12,11 +12,11 @@ use Rattle.copier.proofs.heard.Reads as heard-reads
 use Rattle.copier.proofs.piece.Reads as piece-reads
 use Rattle.istream.proofs.IStream.feed.Reads as feed-reads
 
-enum-told : tie.Need-enum-told
-enum-told c = search needs
+enum-known-phase : tie.Need-enum-known-phase
+enum-known-phase c = search needs
 
 piece-requires : tie.Need-piece-requires
-piece-requires c κs = ((c .before .before .before .before .before .pre .0, within-payload (c .before .before .before .before .before .args .reader) _ _ _ _ (c .before .enum-told .given .1)), c .before .before .before .before .before .pre .1 .1)
+piece-requires c κs = ((c .before .before .before .before .before .before .pre .0, c .before .before .phase .given .1), c .before .before .before .before .before .before .pre .1 .1)
 
 same-length : tie.Need-same-length
 same-length c = search needs
@@ -43,7 +43,7 @@ pub one-event-spec : {M : Type 1} → statement M
 one-event-spec =
     tie.close
     (tie.spec
-    enum-told
+    enum-known-phase
     piece-requires
     same-length
     returns

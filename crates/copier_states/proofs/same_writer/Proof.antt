@@ -1,10 +1,10 @@
--- `copier_vectors::same_writer` is safe and ends.
+-- `copier_states::same_writer` is safe and ends.
 use Prim.Native.Nat.{_≤_, _-_}
 use borrow.Author.Needs.{needs}
-use Rattle.copier_vectors.proofs.same_writer.Statement.{statement}
-use Rattle.copier_vectors.proofs.same_writer.Tie as tie
-use Rattle.copier_vectors.proofs.same_writer.Reads as reads
-use Rattle.copier_vectors.proofs.same_writer.Lts as lts
+use Rattle.copier_states.proofs.same_writer.Statement.{statement}
+use Rattle.copier_states.proofs.same_writer.Tie as tie
+use Rattle.copier_states.proofs.same_writer.Reads as reads
+use Rattle.copier_states.proofs.same_writer.Lts as lts
 
 abbrev Inv-loop : tie.InvT-loop
 Inv-loop a b x y i₀ i = i ≤ 8

@@ -1,13 +1,13 @@
--- `copier_vectors::bytes` is safe and ends.
+-- `copier_states::bytes` is safe and ends.
 use Prim.Native.Nat.{_≤_, _-_}
 use lib.ListN.{length}
 use borrow.Author.Needs.{needs}
-use Rattle.copier_vectors.proofs.bytes.Statement.{statement}
-use Rattle.copier_vectors.proofs.bytes.Tie as tie
-use Rattle.copier_vectors.proofs.bytes.Reads as reads
-use Rattle.copier_vectors.proofs.bytes.Lts as lts
-use Rattle.copier_vectors.proofs.text.Reads as text-reads
-use Rattle.copier_vectors.proofs.wide.Reads as wide-reads
+use Rattle.copier_states.proofs.bytes.Statement.{statement}
+use Rattle.copier_states.proofs.bytes.Tie as tie
+use Rattle.copier_states.proofs.bytes.Reads as reads
+use Rattle.copier_states.proofs.bytes.Lts as lts
+use Rattle.copier_states.proofs.text.Reads as text-reads
+use Rattle.copier_states.proofs.wide.Reads as wide-reads
 use Rattle.io.proofs.print_hex.Reads as print-hex-reads
 
 abbrev Inv-loop : tie.InvT-loop

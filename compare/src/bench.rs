@@ -12,6 +12,11 @@ extern "C" {
     fn bench_write(kind: u32, n: usize, data: *const u8, data_len: usize, buf: *mut u8, buf_len: usize, out: *mut u8, out_len: usize) -> u64;
 }
 
+#[link(name = "trace_copier", kind = "static")]
+extern "C" {
+    fn bench_copy(ticket: *const u8, len: usize, size: usize, buf: *mut u8, buf_len: usize, out: *mut u8, out_len: usize) -> u64;
+}
+
 const ROUNDS: usize = 15;
 const BLOB: usize = 8 << 20;
 const GATHERED: usize = 1 << 16;
@@ -157,7 +162,145 @@ fn rust_write(kind: u32, n: usize, data: &[u8], buf: &mut [u8], out: &mut [u8]) 
     sent as u64
 }
 
+/// Writes each event again: arrays and payloads as soon as they are whole, which the Rust's writer wants them, in buffers that are used
+/// again; every sequence kept.
+struct Again<'a, F: Flush> {
+    os: OStream<'a, F>,
+    bytes: Vec<u8>,
+    unsigneds: Vec<u64>,
+    signeds: Vec<i64>,
+    fp32s: Vec<f32>,
+    fp64s: Vec<f64>,
+    left: usize,
+}
+
+impl<F: Flush> Again<'_, F> {
+    fn payload(&mut self, id: Id, total: usize, offset: usize, part: &[u8], text: bool) {
+        if offset == 0 && part.len() == total {
+            return self.whole(id, part, text);
+        }
+        if offset == 0 {
+            self.bytes.clear();
+        }
+        self.bytes.extend_from_slice(part);
+        if self.bytes.len() == total {
+            let bytes = std::mem::take(&mut self.bytes);
+            self.whole(id, &bytes, text);
+            self.bytes = bytes;
+        }
+    }
+
+    fn whole(&mut self, id: Id, bytes: &[u8], text: bool) {
+        let _ = if text {
+            // SAFETY: the benchmark's strings are ASCII; the test for it isn't part of copying.
+            self.os.write_str(id, unsafe { std::str::from_utf8_unchecked(bytes) })
+        } else {
+            self.os.write_blob(id, bytes)
+        };
+    }
+}
+
+impl<F: Flush> Visitor for Again<'_, F> {
+    fn unsigned(&mut self, id: Id, value: Unsigned) {
+        if self.left == 0 {
+            let _ = self.os.write_unsigned(id, value);
+            return;
+        }
+        self.unsigneds.push(value);
+        self.left -= 1;
+        if self.left == 0 {
+            let _ = self.os.write_array_unsigned(id, &self.unsigneds);
+        }
+    }
+    fn signed(&mut self, id: Id, value: Signed) {
+        if self.left == 0 {
+            let _ = self.os.write_signed(id, value);
+            return;
+        }
+        self.signeds.push(value);
+        self.left -= 1;
+        if self.left == 0 {
+            let _ = self.os.write_array_signed(id, &self.signeds);
+        }
+    }
+    fn fp32(&mut self, id: Id, value: f32) {
+        if self.left == 0 {
+            let _ = self.os.write_fp32(id, value);
+            return;
+        }
+        self.fp32s.push(value);
+        self.left -= 1;
+        if self.left == 0 {
+            let _ = self.os.write_array_fp32(id, &self.fp32s);
+        }
+    }
+    fn fp64(&mut self, id: Id, value: f64) {
+        if self.left == 0 {
+            let _ = self.os.write_fp64(id, value);
+            return;
+        }
+        self.fp64s.push(value);
+        self.left -= 1;
+        if self.left == 0 {
+            let _ = self.os.write_array_fp64(id, &self.fp64s);
+        }
+    }
+    fn string(&mut self, id: Id, total: usize, offset: usize, chunk: &[u8]) {
+        self.payload(id, total, offset, chunk, true);
+    }
+    fn blob(&mut self, id: Id, total: usize, offset: usize, chunk: &[u8]) {
+        self.payload(id, total, offset, chunk, false);
+    }
+    fn array_begin(&mut self, id: Id, kind: ArrayKind, count: usize) {
+        self.left = count;
+        self.unsigneds.clear();
+        self.signeds.clear();
+        self.fp32s.clear();
+        self.fp64s.clear();
+        if count == 0 {
+            let _ = match kind as u8 {
+                0 => self.os.write_array_unsigned::<u64>(id, &[]),
+                1 => self.os.write_array_signed::<i64>(id, &[]),
+                2 => self.os.write_array_fp32(id, &[]),
+                _ => self.os.write_array_fp64(id, &[]),
+            };
+        }
+    }
+    fn sequence_begin(&mut self, id: Id) {
+        let _ = self.os.write_sequence_begin_lazy(id);
+    }
+    fn sequence_end(&mut self) {
+        let _ = self.os.write_sequence_end_keep();
+    }
+}
+
+#[inline(never)]
+fn rust_copy(ticket: &[u8], size: usize, buf: &mut [u8], out: &mut [u8]) -> u64 {
+    let mut sent = 0;
+    {
+        let sink = |bytes: &[u8]| {
+            if let Some(to) = out.get_mut(sent..sent + bytes.len()) {
+                to.copy_from_slice(bytes);
+                sent += bytes.len();
+            }
+        };
+        let os = OStream::with_flush(buf, 0, sink).expect("a buffer with room");
+        let mut again = Again { os, bytes: Vec::new(), unsigneds: Vec::new(), signeds: Vec::new(), fp32s: Vec::new(), fp64s: Vec::new(), left: 0 };
+        let mut reader = IStream::new();
+        for chunk in ticket.chunks(if size == 0 { ticket.len() } else { size }) {
+            let _ = black_box(reader.feed(chunk, &mut again));
+        }
+        again.os.flush();
+    }
+    sent as u64
+}
+
 // ---- the port's
+
+fn port_copy(ticket: &[u8], size: usize, buf: &mut [u8], out: &mut [u8]) -> u64 {
+    // SAFETY: proved on every three slices.
+    unsafe { bench_copy(ticket.as_ptr(), ticket.len(), size, buf.as_mut_ptr(), buf.len(), out.as_mut_ptr(), out.len()) }
+}
 
 fn port_read(bytes: &[u8], size: usize) -> u64 {
     // SAFETY: proved on every slice.
@@ -266,6 +409,17 @@ pub fn all() {
             }
             let bytes = out[..len].to_vec();
             row(&format!("write into {length} bytes: {name}"), &bytes, || rust_write(kind, n, data, &mut a, &mut out), || port_write(kind, n, data, &mut b, &mut other));
+        }
+    }
+    for (size, length, how) in [(4096, 4096, "4096/4096"), (64, 64, "64/64"), (0, 4096, "whole/4096"), (4096, 1, "4096/1")] {
+        for (name, ticket) in &tickets {
+            let (mut a, mut b) = (vec![1u8; length], vec![1u8; length]);
+            let len = rust_copy(ticket, size, &mut a, &mut out) as usize;
+            port_copy(ticket, size, &mut b, &mut other);
+            if out[..len] != other[..len] {
+                println!("| copy {name}: the bytes differ |");
+            }
+            row(&format!("copy {how}: {name}"), ticket, || rust_copy(ticket, size, &mut a, &mut out), || port_copy(ticket, size, &mut b, &mut other));
         }
     }
     println!("\nThe Rust's states in bytes: reader {}, writer without its buffer and sink {}, gatherer without its buffer {}.", size_of::<IStream>(), size_of::<OStream>() - size_of::<&mut [u8]>(), size_of::<PayloadAcc<64>>() - 64);

@@ -1,4 +1,4 @@
-//! Cases of the three kinds, and their encoding (../PROTOCOL.md). The generators and the search for a smaller case work on these;
+//! Cases of reader, gatherer and writer, and their encoding (../PROTOCOL.md). The generators and the search for a smaller case work on these;
 //! both sides are given the bytes.
 
 use crate::bytes::*;
@@ -8,6 +8,7 @@ pub enum Kind {
     Reader = 1,
     Gatherer = 2,
     Writer = 3,
+    Copier = 4,
 }
 
 /// A case that can be written as bytes, and made smaller in several ways.

@@ -5,7 +5,7 @@ use crate::oracle::{Fields, COMPLETE, INCOMPLETE, REFUSED};
 #[derive(Clone, Copy)]
 pub struct Fault(pub usize);
 
-pub const FAULTS: [&str; 24] = [
+pub const FAULTS: [&str; 34] = [
     "none",
     "reader: the lowest signed value loses its sign",
     "reader: a NaN loses its payload",
@@ -30,6 +30,16 @@ pub const FAULTS: [&str; 24] = [
     "writer: a buffer change answers the new offset",
     "writer: closing at depth 0 is number 9",
     "writer: the reserved bytes are cleared",
+    "copier: a sequence's close keeps an id",
+    "copier: full as soon as no byte is free",
+    "copier: a piece counts as read beyond what is out",
+    "copier: an event that is owed isn't counted as read",
+    "copier: a NaN loses its payload",
+    "copier: an element has a header",
+    "copier: a refused call moves the position",
+    "copier: a byte after the position is altered",
+    "copy of a whole ticket: a byte after it is altered",
+    "copy of a whole ticket: room for just the copy is too short",
 ];
 
 impl Fault {

@@ -3,6 +3,7 @@
 mod bench;
 mod bytes;
 mod case;
+mod copier;
 mod fault;
 mod gen;
 mod oracle;
@@ -16,15 +17,16 @@ const HELP: &str = "\
 compare/run DIR COMMAND
   differ SEED SIZE      everything below: tickets of up to 3 bytes, every cut of the corpus, SIZE random cases of each kind
   short BYTES           all tickets of up to BYTES bytes, in every cut
+  copies BYTES          all tickets of up to BYTES bytes, in every cut, through copiers over 1, 2, 3 and 7 bytes, and whole
   cuts                  every cut of every ticket in the corpus
   random SEED SIZE [KINDS]
-                        SIZE random cases of each kind (KINDS: some of the letters rgw, for reader, gatherer and writer)
+                        SIZE random cases of each kind (KINDS: some of the letters rgwc, for reader, gatherer, writer and copier)
   faults SEED SIZE [KINDS]
                         each planted fault in turn, until it is found
   sample SEED FILE      writes a list of cases with the Rust's answers
   replay FILE           gives a list's cases to the port
   listing ..            the program that lists events (`listing help`)
-  answer KIND HEX       both answers to one case (KIND: reader, gatherer, writer)
+  answer KIND HEX       both answers to one case (KIND: reader, gatherer, writer, copier)
   bench                 times of both sides";
 
 fn number(args: &[String], i: usize, or: u64) -> u64 {
@@ -35,15 +37,17 @@ fn main() {
     let args: Vec<String> = std::env::args().skip(1).collect();
     let seed = number(&args, 1, 1);
     let size = number(&args, 2, 100_000);
-    let kinds = args.get(3).map_or("rgw", |k| k);
+    let kinds = args.get(3).map_or("rgwc", |k| k);
     let mut runs = Runs::new(0);
     match args.first().map(String::as_str) {
         Some("differ") => {
             runs.short(3);
             runs.cuts();
+            runs.copies(2);
             runs.random(seed, size, kinds);
         }
         Some("short") => runs.short(number(&args, 1, 3) as usize),
+        Some("copies") => runs.copies(number(&args, 1, 2) as usize),
         Some("cuts") => runs.cuts(),
         Some("random") => runs.random(seed, size, kinds),
         Some("faults") => std::process::exit(runs::faults(seed, size, kinds)),
@@ -54,6 +58,7 @@ fn main() {
             let kind = match args.get(1).map(String::as_str) {
                 Some("reader") => Kind::Reader,
                 Some("gatherer") => Kind::Gatherer,
+                Some("copier") => Kind::Copier,
                 _ => Kind::Writer,
             };
             let case = bytes::unhex(args.get(2).map_or("", |h| h)).expect("hexadecimal");

@@ -2,6 +2,7 @@
 
 use crate::bytes::hex;
 use crate::case::{Case, Kind, Reader};
+use crate::copier::{self, Act, Copier};
 use crate::fault::{Fault, FAULTS};
 use crate::gen::{self, Random};
 use crate::oracle::{self, Oracle};
@@ -19,6 +20,9 @@ pub struct Runs {
 
 /// Differences shown before a run goes on without showing more.
 const SHOWN: u64 = 5;
+
+/// Bytes behind an output that no copy may touch.
+const GUARD: usize = 16;
 
 impl Runs {
     pub fn new(fault: usize) -> Runs {
@@ -80,6 +84,37 @@ impl Runs {
         }
     }
 
+    /// The export that copies a whole message, on one ticket: into outputs of no byte, one too short, just long enough and three bytes longer,
+    /// with guard bytes behind each.
+    fn whole(&mut self, ticket: &[u8]) {
+        let verdict = oracle::verdict(ticket);
+        let copy = if verdict == 0 { copier::plain_copy(ticket).expect("a complete ticket has a copy") } else { Vec::new() };
+        let (fault, long) = (self.oracle.fault.0, copy.len());
+        for room in [0, long.saturating_sub(1), long, long + 3] {
+            self.cases += 1;
+            let (mut rust, mut port) = (vec![0xA5; room + GUARD], vec![0xA5; room + GUARD]);
+            let said = match verdict {
+                0 if room < long || fault == 33 && room == long => -101,
+                0 => long as i64,
+                1 => -100,
+                _ => -2,
+            };
+            let n = long.min(room);
+            rust[..n].copy_from_slice(&copy[..n]);
+            if fault == 32 && n < room {
+                rust[n] ^= 1;
+            }
+            let answered = port::copy(ticket, &mut port[..room]);
+            if said == answered && rust == port {
+                continue;
+            }
+            self.differences += 1;
+            if !self.quiet && self.differences <= SHOWN {
+                println!("difference, copy of {} into {room} bytes: rust {said} {}, port {answered} {}", hex(ticket), hex(&rust), hex(&port));
+            }
+        }
+    }
+
     /// Every ticket of up to `most` bytes, in every cut.
     pub fn short(&mut self, most: usize) {
         let before = self.cases;
@@ -94,18 +129,37 @@ impl Runs {
     }
 
     fn every_cut(&mut self, case: &mut Reader) {
-        let gaps = case.ticket.len().saturating_sub(1);
-        for cut in 0u32..1 << gaps {
-            case.chunks.clear();
-            let mut from = 0;
-            for i in 0..gaps {
-                if cut >> i & 1 == 1 {
-                    case.chunks.push(i + 1 - from);
-                    from = i + 1;
-                }
-            }
-            case.chunks.push(case.ticket.len() - from);
+        for chunks in every_cut(case.ticket.len()) {
+            case.chunks = chunks;
             self.compare(case);
+        }
+    }
+
+    /// Every ticket of up to `most` bytes, and those of the corpus, in every cut, copied through buffers of 1, 2, 3 and 7 bytes, with a drain
+    /// after each feed.
+    pub fn copies(&mut self, most: usize) {
+        let before = self.cases;
+        for len in 0..=most {
+            for n in 0u64..1 << (8 * len) {
+                let ticket = n.to_be_bytes()[8 - len..].to_vec();
+                self.whole(&ticket);
+                self.copied(ticket);
+            }
+        }
+        for ticket in gen::corpus() {
+            self.whole(&ticket);
+            self.copied(ticket);
+        }
+        println!("copies of tickets of up to {most} bytes and of the corpus, every cut, through 1, 2, 3 and 7 bytes, and whole: {} cases", self.cases - before);
+    }
+
+    fn copied(&mut self, ticket: Vec<u8>) {
+        for chunks in every_cut(ticket.len()) {
+            for size in [1, 2, 3, 7] {
+                // As many feeds as the chunk can need: it has no more bytes than came in.
+                let acts = chunks.iter().flat_map(|&n| std::iter::repeat([Act::Feed(n), Act::Drain]).take(1 + n / size + (size < 3) as usize).flatten()).collect();
+                self.compare(&Copier { size, acts, ticket: ticket.clone() });
+            }
         }
     }
 
@@ -135,6 +189,11 @@ impl Runs {
         if kinds.contains('w') {
             self.compare(&gen::writer(&mut case_seed(seed, i, 3)));
         }
+        if kinds.contains('c') {
+            let case = copier::case(&mut case_seed(seed, i, 4));
+            self.whole(&case.ticket);
+            self.compare(&case);
+        }
     }
 
     pub fn random(&mut self, seed: u64, size: u64, kinds: &str) {
@@ -143,11 +202,27 @@ impl Runs {
     }
 }
 
+/// Every way to cut so many bytes into chunks that aren't empty.
+fn every_cut(len: usize) -> impl Iterator<Item = Vec<usize>> {
+    let gaps = len.saturating_sub(1);
+    (0u32..1 << gaps).map(move |cut| {
+        let mut chunks = Vec::new();
+        let mut from = 0;
+        for i in (0..gaps).filter(|i| cut >> i & 1 == 1) {
+            chunks.push(i + 1 - from);
+            from = i + 1;
+        }
+        chunks.push(len - from);
+        chunks
+    })
+}
+
 fn answer(oracle: &mut Oracle, kind: Kind, case: &[u8], out: &mut Vec<u8>) {
     match kind {
         Kind::Reader => oracle.reader(case, out),
         Kind::Gatherer => oracle.gatherer(case, out),
         Kind::Writer => oracle.writer(case, out),
+        Kind::Copier => copier::answer(case, oracle.fault, out),
     }
 }
 
@@ -178,7 +253,7 @@ pub fn faults(seed: u64, size: u64, kinds: &str) -> i32 {
 // ---- the list to replay: for each case its kind, two lengths, the case and the Rust's answer
 
 /// Most bytes of a list, and of a case with its answer in it; how often a feature is wanted.
-const LIST: usize = 290_000;
+const LIST: usize = 340_000;
 const LONGEST: usize = 240;
 const WANTED: u32 = 4;
 
@@ -268,6 +343,23 @@ fn features(kind: Kind, case: &[u8], answer: &[u8]) -> Vec<u64> {
                 }
             }
         }
+        Kind::Copier => {
+            let size = case[0] as u64 + case[1] as u64 * 256;
+            while at < answer.len() {
+                let tag = answer[at] as u64;
+                let (detail, len) = match tag {
+                    0 => (0, 1),
+                    3 => (number(at + 1, 1), 2),
+                    4 => (bits(number(at + 1, 2)), 3 + number(at + 1, 2) as usize),
+                    0x12 => (bits(number(at + 2, 2)), 6 + size as usize),
+                    _ => (bits(number(at + 1, 2)), 5 + size as usize),
+                };
+                add(&[tag, detail, last[1], bits(size)]);
+                add(&[tag, last[0], last[1], 1]);
+                last = [last[1], tag];
+                at += len;
+            }
+        }
     }
     found
 }
@@ -303,16 +395,18 @@ pub fn sample(seed: u64, file: &str) -> i32 {
         let n = ticket.len();
         for chunks in [vec![n], vec![1; n], vec![n / 2, 0, n - n / 2]] {
             let case = Reader { chunks, ticket: ticket.clone() };
-            add(Kind::Reader, encode(&|v| case.encode(v)), &mut list, n < 8, LIST / 3);
+            add(Kind::Reader, encode(&|v| case.encode(v)), &mut list, n < 8, LIST * 3 / 10);
         }
     }
     for i in 0..40_000 {
         let c = gen::reader(&mut case_seed(seed, i, 1));
-        add(Kind::Reader, encode(&|v| c.encode(v)), &mut list, false, LIST * 2 / 5);
+        add(Kind::Reader, encode(&|v| c.encode(v)), &mut list, false, LIST * 7 / 20);
         let c = gen::gatherer(&mut case_seed(seed, i, 2));
-        add(Kind::Gatherer, encode(&|v| c.encode(v)), &mut list, false, LIST * 13 / 20);
+        add(Kind::Gatherer, encode(&|v| c.encode(v)), &mut list, false, LIST * 11 / 20);
         let c = gen::writer(&mut case_seed(seed, i, 3));
-        add(Kind::Writer, encode(&|v| c.encode(v)), &mut list, false, LIST);
+        add(Kind::Writer, encode(&|v| c.encode(v)), &mut list, false, LIST * 9 / 10);
+        let c = copier::case(&mut case_seed(seed, i, 4));
+        add(Kind::Copier, encode(&|v| c.encode(v)), &mut list, false, LIST);
     }
     println!("{count} cases, {} bytes", list.len());
     match std::fs::write(file, list) {
@@ -329,7 +423,7 @@ pub fn replay(file: &str) -> i32 {
     let mut runs = Runs::new(0);
     let (mut at, mut cases, mut differences) = (0, 0, 0);
     while at < list.len() {
-        let kind = [Kind::Reader, Kind::Gatherer, Kind::Writer][list[at] as usize - 1];
+        let kind = [Kind::Reader, Kind::Gatherer, Kind::Writer, Kind::Copier][list[at] as usize - 1];
         let c = u16::from_le_bytes([list[at + 1], list[at + 2]]) as usize;
         let a = u16::from_le_bytes([list[at + 3], list[at + 4]]) as usize;
         let case = &list[at + 5..at + 5 + c];

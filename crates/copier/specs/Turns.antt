@@ -15,7 +15,7 @@ use Rattle.istream.specs.declared.Fed.{Fed}
 use Rattle.istream.specs.declared.Answer as heard
 use Rattle.istream.specs.declared.Answer.the-variants as answers
 use Rattle.istream.specs.Stream.{stateOf, soundStream}
-use Rattle.istream.proofs.Calls.{Live}
+use Rattle.phase.proofs.Phases.{Live}
 use Rattle.ostream.specs.declared.OStream.{OStream}
 use Rattle.emit.specs.Put.{put, reached}
 use Rattle.copying.specs.Owed.{nothing}

@@ -7,7 +7,7 @@ ghost use lib.ListN.{length};
 ghost use Rattle.machine.specs.Call.{broke};
 ghost use Rattle.copying.specs.Owed.{dueIn, owesNothing};
 ghost use Rattle.istream.specs.Stream.{stateOf, soundStream};
-ghost use Rattle.istream.proofs.Calls.{Live};
+ghost use Rattle.phase.proofs.Phases.{Live};
 ghost use Rattle.owed.specs.Owed.{owedOf};
 ghost use Rattle.layout.specs.Limits.{base};
 ghost use Rattle.copying.specs.Copy.{copy};
@@ -17,12 +17,12 @@ ghost use Rattle.copier.specs.Turns.{isBroke, refused, finished, eventTu
 use emit::put_rest;
 use istream::Fed;
 use istream::IStream;
-use istream::Phase;
 use istream::Status;
 use ostream::Count;
 use ostream::OStream;
 use owed::Owed;
 use owed::owe;
+use phase::Phase;
 use types::Error;
 
 pub struct Copier {
@@ -118,14 +118,18 @@ fn due(reader: IStream) -> u32
     }
 }
 
-// An event that was read with so many bytes goes out, or as much of it as there is room for.
+// An event that was read with so many bytes goes out, or as much of it as there is room for. No event has more than 30 bytes.
 fn written(depth: u8, owed: Owed, read: usize, reader: IStream, pos: usize, buf: &mut [u8]) -> Turn
     requires { ⌜ pos ≤ length (now buf) ⌝ }
     ensures { λ r. ⌜ (r ≡ eventTurn depth owed read reader pos (now (buf .entry))) × (now (buf .exit) ≡ eventBuf owed pos (now (buf .entry))) ⌝ }
 {
     let output = owed.output();
-    let len = output.len();
     let room = buf.len() - pos;
+    if 30 <= room {
+        let at = output.put_fitting(buf, pos);
+        return Turn::On(reader, read, at);
+    }
+    let len = output.len();
     let end = output.put(buf, pos, 0);
     if room < len {
         return Turn::Stop(Stop {

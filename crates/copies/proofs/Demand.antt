@@ -1,5 +1,6 @@
 -- Demand 3, proved: the one value of `Demand`. Its statement stands in specs/Demand.
 use Prim.Native.Nat.{ℕ, _≤_}
+use native.Mathlib.Omega.{arith}
 use mathlib.Core.Path.{_≡_, sym, ap, _∙_, subst}
 use mathlib.Core.Logic.{_⊎_, inl, inr, _↔_}
 use mathlib.Core.List.{List, [], _∷_, _++_}
@@ -8,12 +9,15 @@ use Rattle.layout.specs.Limits.{base}
 use Rattle.layout.specs.Event.{joined}
 use Rattle.layout.specs.Message.{All, Bytes, complete, verdictOf, eventsOf}
 use Rattle.layout.specs.Copy.{plainCopy}
+use Rattle.laws.specs.Events.{encodeEvents}
 use Rattle.laws.proofs.Laws.{fit-base, complete-iff, copy-bytes, copy-complete, copy-events, copy-again, copy-of-events, exactly-when, shortest-copy}
 use Rattle.machine.specs.Call.{standingOf}
 use Rattle.machine.specs.Run.{join, heardOf}
 use Rattle.machine.proofs.Runs.{joined-injective}
 use Rattle.reading.proofs.Feeds.{feeds-read, feeds-joined, feeds-last}
 use Rattle.copier.specs.Calls.{Started}
+use Rattle.copies.specs.Desk.{drain}
+use Rattle.copies.specs.Stands.{enough, turns}
 use Rattle.copies.specs.Demand.{Whole, events, Run, output, ReadAs, Demand}
 use Rattle.copies.proofs.Sound.{start-is}
 use Rattle.copies.proofs.Sent.{all-sent, all-heard}
@@ -47,8 +51,8 @@ copies T w r =
     all-sent 0 (r .buf) (r .chunks) (r .schedule) (r .room) (chunk-bytes T (r .chunks) (w .0) (r .joins)) (r .allowed) (r .finished)
     ∙ copied-of (r .chunks) (r .joins)
   where
-    copied-of : (cs : List (List ℕ)) → join cs ≡ T → Rattle.laws.specs.Events.encodeEvents 0 (eventsOf base (join cs)) ≡ plainCopy base T
-    copied-of cs e = ap (λ (l : List ℕ). Rattle.laws.specs.Events.encodeEvents 0 (eventsOf base l)) e ∙ copy-of-events base T (w .0) (verdict T w)
+    copied-of : (cs : List (List ℕ)) → join cs ≡ T → encodeEvents 0 (eventsOf base (join cs)) ≡ plainCopy base T
+    copied-of cs e = ap (λ (l : List ℕ). encodeEvents 0 (eventsOf base l)) e ∙ copy-of-events base T (w .0) (verdict T w)
 
 -- the reader's own calls, over chunks of a whole message
 read-as : (T : List ℕ) → Whole T → (cs : List (List ℕ)) → join cs ≡ T → ReadAs cs (events T)
@@ -60,6 +64,12 @@ read-as T w cs e =
       said = feeds-last cs b ∙ ap heardOf v;
       stands = feeds-read cs b .2 ∙ ap standingOf v;
     }
+
+-- Runs there are: for every list of chunks and every buffer of one byte or more.
+pub run : (T : List ℕ) → Bytes T → (cs : List (List ℕ)) → join cs ≡ T → (b : List ℕ) → 1 ≤ length b → Run T
+run T h cs e b l =
+    let g = can-end 0 b cs [] l (chunk-bytes T cs h e) tt (enough cs) (omega arith) in
+    record { chunks = cs; joins = e; buf = b; room = l; schedule = drain ∷ turns (enough cs); allowed = g .0; finished = g .1 }
 
 -- DEMAND 3.
 pub demand : Demand

@@ -5,3 +5,4 @@ pub mod Runs
 pub mod Sent
 pub mod Ends
 pub mod Demand
+pub mod Worked

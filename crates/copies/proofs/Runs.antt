@@ -322,15 +322,19 @@ moves reserved cs d c later f e = subst (λ (l : List (List ℕ)). Moves reserve
 
 -- ---- a drain, and another buffer
 
+-- what a drain counts for
+either : (x y z : Bool) → (x || (y && z)) ≡ true → (x ≡ true) ⊎ (z ≡ true)
+either true y z h = inl refl
+either false true z h = inr h
+either false false z h = let w : _≡_ {A = ℕ} 0 1 = cc in absurd (omega arith)
+
 -- a counted drain sends a byte at least
 sends-one : (reserved : List ℕ) (cs : List (List ℕ)) (d : Desk) → Fine reserved cs d → counts d ≡ true → 1 ≤ d .copier .writer .offset
-sends-one reserved cs d f c = go (d .full) refl (none (d .chunks)) (ltb 0 (d .copier .writer .offset)) refl c
+sends-one reserved cs d f c = go (either (d .full) (none (d .chunks)) _ c)
   where
-    go : (x : Bool) → d .full ≡ x → (y z : Bool) → ltb 0 (d .copier .writer .offset) ≡ z → (x || (y && z)) ≡ true → 1 ≤ d .copier .writer .offset
-    go true e y z g h = omega (arith, f .filled e, f .room)
-    go false e true true g h = ltb-true 0 (d .copier .writer .offset) g
-    go false e true false g h = let w : _≡_ {A = ℕ} 0 1 = cc in absurd (omega arith)
-    go false e false z g h = let w : _≡_ {A = ℕ} 0 1 = cc in absurd (omega arith)
+    go : (d .full ≡ true) ⊎ (ltb 0 (d .copier .writer .offset) ≡ true) → 1 ≤ d .copier .writer .offset
+    go (inl e) = omega (arith, f .filled e, f .room)
+    go (inr e) = ltb-true 0 (d .copier .writer .offset) e
 
 fine-sending : (reserved : List ℕ) (cs : List (List ℕ)) (d : Desk) (b : List ℕ) → Fine reserved cs d → 1 ≤ length b
     → Fine reserved cs (sending d (bytes (d .copier .writer .offset)) (over (d .copier) (at (d .copier .writer) 0)) b)

@@ -4,22 +4,22 @@ use native.Mathlib.Omega.{arith}
 use mathlib.Core.Path.{_≡_, refl, sym, ap, _∙_, subst}
 use mathlib.Core.Bool.{true}
 use mathlib.Core.List.{List, [], _∷_, _++_, append-assoc, append-nil}
-use lib.ListN.{length, take, length-append, length-take}
+use lib.ListN.{length, take, length-take}
 use lib.Seq.{take-append-seam, take-append-le}
 use Rattle.layout.specs.Limits.{Limits, base}
 use Rattle.layout.specs.Event.{Event, bytewise}
 use Rattle.layout.specs.Message.{All, Bytes, verdictOf, brokenAt, eventsOf}
 use Rattle.laws.specs.Events.{eventBytes, dueAfterAll, encodeEvents}
 use Rattle.laws.proofs.Copying.{encode-append, bytewise-bytes}
-use Rattle.machine.specs.Machine.{idle, walk, walkOn}
 use Rattle.machine.specs.Call.{State, reading, owing, broke}
 use Rattle.machine.specs.Run.{due, Follows, join, verdictsOf, heardAll}
 use Rattle.machine.proofs.Bridge.{events-walk}
-use Rattle.machine.proofs.Prefix.{events-append, broken-stays}
+use Rattle.machine.proofs.Prefix.{broken-stays}
 use Rattle.machine.proofs.Runs.{verdict-broken}
 use Rattle.istream.specs.Stream.{stateOf}
 use Rattle.ostream.specs.Stream.{at}
 use Rattle.copying.specs.Owed.{rest, soundOwed}
+use Rattle.copying.proofs.Bound.{out-bound}
 use Rattle.copier.specs.Copier.{copyOf}
 use Rattle.copier.specs.Calls.{bytes, Started, started, Sent, over}
 use Rattle.copies.specs.Desk.{Desk, openedAt, Act, feed, drain, change, stray, sending, act, acts, MayStand, Allowed}
@@ -118,20 +118,13 @@ drain-sends : (reserved : List ℕ) (cs : List (List ℕ)) (d : Desk) → Fine r
 unfolding act
 drain-sends reserved cs d f = ap (λ (r : Sent). sending d (r .sends) (r .copier) (d .buf) .sent) (drain-is (d .copier) (length (d .buf)) (f .sound .writer))
 
--- no more is out and owed than the message's events come to
+-- no more is out than the message's events come to
 pub up-to : (reserved : List ℕ) (cs : List (List ℕ)) (d : Desk) → Stands reserved cs d → length (out d) ≤ length reserved + length (encodeEvents 0 (eventsOf base (join cs)))
 up-to reserved cs d s =
     let t : List ℕ = s .unread ++ join (d .chunks) in
-    let zs = walkOn base (walk base 0 idle (s .read) .place) t .events in
-    let e : eventsOf base (join cs) ≡ eventsOf base (s .read) ++ zs =
-    ap (eventsOf base) (all-bytes reserved cs d s ∙ append-assoc (s .read) (s .unread) (join (d .chunks))) ∙ events-append base (s .read) t in
-    let a = ap length (s .keeps .bytes) in
-    let b = length-append (out d) (rest (copyOf (d .copier) .owed)) in
-    let c = length-append reserved (encodeEvents 0 (s .keeps .events)) in
-    let g = ap length (events-bytes base (s .read) (s .keeps .events) (stateOf (d .copier .reader)) (s .keeps .follows)) in
-    let h = ap (λ (l : List Event). length (encodeEvents 0 l)) e ∙ ap length (encode-append 0 (eventsOf base (s .read)) zs)
-    ∙ length-append (encodeEvents 0 (eventsOf base (s .read))) (encodeEvents (dueAfterAll 0 (eventsOf base (s .read))) zs) in
-    omega arith
+    let e : join cs ≡ s .read ++ t = all-bytes reserved cs d s ∙ append-assoc (s .read) (s .unread) (join (d .chunks)) in
+    let n = ap (λ (l : List ℕ). length (encodeEvents 0 (eventsOf base l))) e in
+    omega (arith, out-bound base reserved (s .read) t (out d) (copyOf (d .copier)) (s .keeps))
 
 -- ---- the buffer's length
 

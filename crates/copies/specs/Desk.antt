@@ -108,9 +108,9 @@ holding d k = record { copier = k; buf = d .buf; sent = d .sent; chunks = d .chu
 
 -- n bytes of the buffer are sent, and a buffer is lent anew
 abbrev pub sending : Desk → Sends → Copier → List ℕ → Desk
-sending d (bytes n) k b =
+sending d (bytes n) next b =
     record {
-      copier = k;
+      copier = next;
       buf = b;
       sent = d .sent ++ take n (d .buf);
       chunks = d .chunks;
@@ -119,7 +119,7 @@ sending d (bytes n) k b =
       full = false;
       drains = pick (counts d) 1 0 + d .drains;
     }
-sending d (calls.Sends.number n) k b = holding d k
+sending d (calls.Sends.number n) next b = holding d next
 
 -- What a stray call hands back is kept: "unaltered" is used, not assumed. An opening takes no copier, and hands back another's.
 abbrev pub handedBack : Stray → Copier → Copier

@@ -3,4 +3,3 @@
 pub mod Desk
 pub mod Stands
 pub mod Demand
-pub mod Worked

@@ -1,11 +1,14 @@
--- The number of a verdict as the reader answers it.
+-- The numbers of a verdict as the reader answers it.
+use Prim.Native.Nat.{ℕ}
+use native.Mathlib.Omega.{arith}
 use mathlib.Core.Path.{_≡_, refl, sym, ap, _∙_}
+use mathlib.Core.List.{List}
 use lib.IntN.{ℤ, pos, negsuc}
 use Rattle.layout.specs.Message as layout
 use Rattle.whole.specs.declared.Verdict.{Verdict}
 use Rattle.whole.specs.declared.Verdict.the-variants.{Complete, Incomplete, Broken}
 use Rattle.whole.specs.Whole.{verdictIn}
-use Rattle.host.specs.Host.{number}
+use Rattle.host.specs.Host.{number, Copied, leftBy, filled, copied}
 
 abbrev code : Verdict → ℤ
 code Complete = pos 0
@@ -20,3 +23,24 @@ alike (layout.brokenAt n) = refl
 
 pub numbered : (v : layout.Verdict) (r w : Verdict) → r ≡ verdictIn v → r ≡ w → code w ≡ number v
 numbered v r w e g = ap code (sym g ∙ e) ∙ alike v
+
+-- ---- the copy
+
+abbrev left : Verdict → List ℕ → List ℕ → Copied
+left Complete m out = filled m out
+left Incomplete m out = leftBy (negsuc 99) out
+left (Broken n) m out = leftBy (negsuc 1) out
+
+left-alike : (v : layout.Verdict) (m out : List ℕ) → left (verdictIn v) m out ≡ copied v m out
+unfolding copied
+left-alike layout.complete m out = refl
+left-alike layout.incomplete m out = refl
+left-alike (layout.brokenAt n) m out = refl
+
+pub copies : (v : layout.Verdict) (r w : Verdict) (m out : List ℕ) → r ≡ verdictIn v → r ≡ w → left w m out ≡ copied v m out
+copies v r w m out e g = ap (λ (x : Verdict). left x m out) (sym g ∙ e) ∙ left-alike v m out
+
+pub is-complete : (v : layout.Verdict) (r : Verdict) → r ≡ verdictIn v → r ≡ Complete → v ≡ layout.complete
+is-complete layout.complete r e g = refl
+is-complete layout.incomplete r e g = let z : _≡_ {A = ℕ} 0 1 = cc in absurd (omega arith)
+is-complete (layout.brokenAt n) r e g = let z : _≡_ {A = ℕ} 0 1 = cc in absurd (omega arith)

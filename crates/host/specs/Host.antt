@@ -1,5 +1,11 @@
 -- "The C host calls two exports on byte slices, answering a signed 64-bit number."
+use Prim.Native.Nat.{ℕ, _-_, _^_, min}
+use mathlib.Core.Bool.{Bool}
+use mathlib.Core.List.{List, _++_}
+use lib.ListN.{length, take, drop}
+use lib.Dec.{leb}
 use lib.IntN.{ℤ, pos, negsuc}
+use Rattle.layout.specs.Limits.{pick}
 use Rattle.layout.specs.Message.{Verdict, complete, incomplete, brokenAt}
 
 -- "the verdict (0 complete, 1 incomplete, -2 broken)"
@@ -7,3 +13,32 @@ unfoldable pub number : Verdict → ℤ
 number complete = pos 0
 number incomplete = pos 1
 number (brokenAt n) = negsuc 1
+
+-- ---- the copy
+
+-- what the call answers, and the output as it leaves it
+pub record Copied : Type 0 where
+  pub answer : ℤ
+  pub out : List ℕ
+
+abbrev pub leftBy : ℤ → List ℕ → Copied
+leftBy r out = record { answer = r; out = out }
+
+-- "An output beyond 9,223,372,036,854,775,807 bytes counts as that long."
+abbrev pub room : List ℕ → ℕ
+room out = min (length out) (2 ^ 63 - 1)
+
+abbrev pub enough : List ℕ → List ℕ → Bool
+enough m out = leb (length m) (room out)
+
+-- of a complete message whose plain copy is m: "-101 output too short, the output filled with the manifest's start; else the length, the
+-- rest of the output unaltered"
+unfoldable pub filled : List ℕ → List ℕ → Copied
+filled m out =
+    pick (enough m out) (leftBy (pos (length m)) (m ++ drop (length m) out)) (leftBy (negsuc 100) (take (room out) m ++ drop (room out) out))
+
+-- "the copy (-2; then -100 incomplete; then -101 ..)". "-2 and -100 write nothing."
+unfoldable pub copied : Verdict → List ℕ → List ℕ → Copied
+copied complete m out = filled m out
+copied incomplete m out = leftBy (negsuc 99) out
+copied (brokenAt n) m out = leftBy (negsuc 1) out

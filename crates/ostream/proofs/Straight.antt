@@ -39,30 +39,29 @@ quiet s size h e d z =
     ∙ simp (le-leb (s .offset) size h, le-leb 0 (s .depth) (omega arith), le-leb (s .depth) (base .depth) d, z)
 
 -- the tests that come before the places and the room
-pub record Easy (s : OStream) (place id n : ℕ) : Type 0 where
-  pub start : place ≡ 0
+pub record Easy (s : OStream) (id n : ℕ) : Type 0 where
   pub legal : id ≤ base .id
   pub none : s .npending ≡ 0
   pub shallow : s .depth ≤ base .depth
   pub short : n ≤ base .size
 
-pub is-easy : (s : OStream) (place id n : ℕ) → easyAt place (s .depth) (s .npending) id n ≡ true → Easy s place id n
+pub is-easy : (s : OStream) (id n : ℕ) → easyAt (s .depth) (s .npending) id n ≡ true → Easy s id n
 unfolding easyAt
-is-easy s place id n e =
+is-easy s id n e =
     let a = both _ _ e in
     let b = both _ _ (a .1) in
     let c = both _ _ (b .1) in
-    let d = both _ _ (c .1) in
-    let p : place ≤ 0 = leb-true _ _ (a .0) in
-    let h : s .npending ≤ 0 = leb-true _ _ (c .0) in
-    record { start = omega arith; legal = leb-true _ _ (b .0); none = omega arith; shallow = leb-true _ _ (d .0); short = leb-true _ _ (d .1) }
+    record { legal = leb-true _ _ (a .0); none = nothing (s .npending) (leb-true _ _ (b .0)); shallow = leb-true _ _ (c .0); short = leb-true _ _ (c .1) }
+  where
+    nothing : (n : ℕ) → n ≤ 0 → n ≡ 0
+    nothing n h = omega arith
 
-pub closes-easy : (s : OStream) (place : ℕ) → closesAt place (s .depth) (s .npending) ≡ true → (0 < s .depth) × Easy s place 0 0
+pub closes-easy : (s : OStream) → closesAt (s .depth) (s .npending) ≡ true → (0 < s .depth) × Easy s 0 0
 unfolding closesAt
-closes-easy s place e = let a = both _ _ e in (ltb-true _ _ (a .0), is-easy s place 0 0 (a .1))
+closes-easy s e = let a = both _ _ e in (ltb-true _ _ (a .0), is-easy s 0 0 (a .1))
 
-pub is-ready : (s : OStream) (size place id k n : ℕ) → Easy s place id k → (roomFor size (s .offset) n && clean (s .pending)) ≡ true → Ready s size id n
-is-ready s size place id k n y e =
+pub is-ready : (s : OStream) (size id k n : ℕ) → Easy s id k → (roomFor size (s .offset) n && clean (s .pending)) ≡ true → Ready s size id n
+is-ready s size id k n y e =
     let a = both _ _ e in
     let r : s .offset + 20 + n ≤ size = has-room size (s .offset) n (a .0) in
     record { room = r; legal = y .legal; none = y .none; sound = quiet s size (omega arith) (y .none) (y .shallow) (a .1) }

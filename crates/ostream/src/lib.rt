@@ -186,10 +186,10 @@ impl OStream {
         ensures { λ r. ⌜ r ≡ draining self (length (now (buf .entry))) ⌝ }
     {
         if self.sound(buf.len()) {
-            let used = self.offset;
+            let sent = self.offset;
             self.offset = 0;
             Counted {
-                answer: Count::Bytes(used),
+                answer: Count::Bytes(sent),
                 stream: self,
             }
         } else {
@@ -306,7 +306,12 @@ impl OStream {
     ) -> Written
         ensures { λ r. ⌜ (r ≡ called (varintCall self (length (now (buf .entry))) id wire value) self (now (buf .entry)) place) × (now (buf .exit) ≡ leaves (varintCall self (length (now (buf .entry))) id wire value) self (now (buf .entry)) place) ⌝ }
     {
-        if at_ease(place, self.depth, self.npending, id, 0) {
+        if 0 < place {
+            return self.anew()
+                .write_varint_slowly(buf, id, wire, value, place)
+                .anew();
+        }
+        if at_ease(self.depth, self.npending, id, 0) {
             let places = self.pending;
             let end = put_pair(buf, self.offset, places, tagged(id, wire), value);
             if self.offset < end {
@@ -378,7 +383,12 @@ impl OStream {
     ) -> Written
         ensures { λ r. ⌜ (r ≡ called (rawCall self (length (now (buf .entry))) id (now (bytes .entry)) subtype) self (now (buf .entry)) place) × (now (buf .exit) ≡ leaves (rawCall self (length (now (buf .entry))) id (now (bytes .entry)) subtype) self (now (buf .entry)) place) ⌝ }
     {
-        if at_ease(place, self.depth, self.npending, id, bytes.len()) {
+        if 0 < place {
+            return self.anew()
+                .write_fixlen_slowly(buf, id, bytes, subtype, place)
+                .anew();
+        }
+        if at_ease(self.depth, self.npending, id, bytes.len()) {
             let places = self.pending;
             let word = tagged(bytes.len() as u32, subtype.raw());
             let end = put_field(buf, self.offset, places, tagged(id, T_FIXLEN), word, bytes);
@@ -502,7 +512,12 @@ impl OStream {
     ) -> Written
         ensures { λ r. ⌜ (r ≡ called (unsignedArrayCall self (length (now (buf .entry))) id (now (items .entry))) self (now (buf .entry)) place) × (now (buf .exit) ≡ leaves (unsignedArrayCall self (length (now (buf .entry))) id (now (items .entry))) self (now (buf .entry)) place) ⌝ }
     {
-        if at_ease(place, self.depth, self.npending, id, items.len()) {
+        if 0 < place {
+            return self.anew()
+                .write_array_unsigned_slowly(buf, id, items, place)
+                .anew();
+        }
+        if at_ease(self.depth, self.npending, id, items.len()) {
             let places = self.pending;
             let end = put_unsigneds(
                 buf,
@@ -555,7 +570,12 @@ impl OStream {
     ) -> Written
         ensures { λ r. ⌜ (r ≡ called (signedArrayCall self (length (now (buf .entry))) id (now (items .entry))) self (now (buf .entry)) place) × (now (buf .exit) ≡ leaves (signedArrayCall self (length (now (buf .entry))) id (now (items .entry))) self (now (buf .entry)) place) ⌝ }
     {
-        if at_ease(place, self.depth, self.npending, id, items.len()) {
+        if 0 < place {
+            return self.anew()
+                .write_array_signed_slowly(buf, id, items, place)
+                .anew();
+        }
+        if at_ease(self.depth, self.npending, id, items.len()) {
             let places = self.pending;
             let end = put_signeds(
                 buf,
@@ -776,7 +796,10 @@ impl OStream {
     pub fn write_sequence_end(mut self, buf: &mut [u8], place: usize) -> Written
         ensures { λ r. ⌜ (r ≡ called (endCall self (length (now (buf .entry)))) self (now (buf .entry)) place) × (now (buf .exit) ≡ leaves (endCall self (length (now (buf .entry)))) self (now (buf .entry)) place) ⌝ }
     {
-        if closes_at_ease(place, self.depth, self.npending) {
+        if 0 < place {
+            return self.anew().end_slowly(buf, place).anew();
+        }
+        if closes_at_ease(self.depth, self.npending) {
             let places = self.pending;
             let end = put_end(buf, self.offset, places);
             if self.offset < end {

@@ -13,6 +13,7 @@ ghost use Rattle.emit.specs.Put.{put, reached};
 ghost use Rattle.emit.specs.Cursor.{placed, moved};
 ghost use Rattle.owed.specs.Owed.{owedOf, owe, arrayOutput, outputOf, outputBytes, levelOf, legalOf, placeIsIn};
 use emit::Cursor;
+use emit::put_fitting;
 use event::Event;
 use event::fp32_bits;
 use event::fp64_bits;
@@ -234,6 +235,34 @@ impl Output {
             Output::Four(_) => 4,
             Output::Eight(_) => 8,
         }
+    }
+
+    // Its bytes from pos on, where there is room for the longest, with no test for the buffer's end; where they end.
+    pub fn put_fitting(self, buf: &mut [u8], pos: usize) -> usize
+        requires { ⌜ pos + 30 ≤ length (now buf) ⌝ }
+        ensures { λ r. ⌜ (r ≡ reached (now (buf .entry)) pos (outputBytes self)) × (now (buf .exit) ≡ put (now (buf .entry)) pos (outputBytes self)) × (length (outputBytes self) ≤ 30) ⌝ }
+    {
+        match self {
+            Output::Empty => pos,
+            Output::One(a) => put_fitting(buf, pos, a),
+            Output::Two(a, b) => {
+                let mid = put_fitting(buf, pos, a);
+                put_fitting(buf, mid, b)
+            }
+            _ => self.put_bounded(buf, pos),
+        }
+    }
+
+    // The same of the rarer outputs; that none is longer than 30 bytes is known by its length.
+    fn put_bounded(self, buf: &mut [u8], pos: usize) -> usize
+        requires { ⌜ pos + 30 ≤ length (now buf) ⌝ }
+        ensures { λ r. ⌜ (r ≡ reached (now (buf .entry)) pos (outputBytes self)) × (now (buf .exit) ≡ put (now (buf .entry)) pos (outputBytes self)) × (length (outputBytes self) ≤ 30) ⌝ }
+    {
+        let len = self.len();
+        if 30 < len {
+            return pos;
+        }
+        self.put(buf, pos, 0)
     }
 
     // Its bytes from the place on, as far as there is room from pos on; where they end.

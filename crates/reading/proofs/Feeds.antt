@@ -195,14 +195,14 @@ each-byte [] h (suc i) = omega arith
 each-byte (b ∷ bs) h zero = h .0
 each-byte (b ∷ bs) h (suc i) = each-byte bs (h .1) i
 
-call-sound : (st : State) (c : List ℕ) → SoundState st → Bytes c → SoundState (call base st c .state)
+pub call-sound : (st : State) (c : List ℕ) → SoundState st → Bytes c → SoundState (call base st c .state)
 unfolding fedIn
 call-sound st c h b =
     let k : soundStream (fedOf (streamIn st) c .stream) ≡ true = feed-keeps (streamIn st) c (each-byte c b) (sound-is st h) in
     let e : soundStream (streamIn (call base st c .state)) ≡ true = sym (ap (λ (r : Given.Fed). soundStream (r .stream)) (fed-is st c h)) ∙ k in
     subst SoundState (state-of-stream (call base st c .state)) (is-sound (streamIn (call base st c .state)) e)
 
-bytes-drop : (k : ℕ) (c : List ℕ) → Bytes c → Bytes (drop k c)
+pub bytes-drop : (k : ℕ) (c : List ℕ) → Bytes c → Bytes (drop k c)
 bytes-drop zero c h = h
 bytes-drop (suc k) [] h = tt
 bytes-drop (suc k) (b ∷ bs) h = bytes-drop k bs (h .1)

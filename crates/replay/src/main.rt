@@ -1,7 +1,7 @@
 // Replays the list of the Rust's answers that stands in the file `stdin` of this crate: gives each case to the port, compares the answer
 // byte by byte, and writes how many cases there were and how many answers differ. README.md says how the list was made.
 //
-// A record of the list: the kind (1 reader, 2 gatherer, 3 writer), the case's length and the answer's, 16 bits each with the low byte
+// A record of the list: the kind (1 reader, 2 gatherer, 3 writer, 4 copier), the case's length and the answer's, 16 bits each with the low byte
 // first, the case, the answer.
 
 struct Tally {
@@ -48,6 +48,7 @@ fn answer(kind: u8, case: &[u8], out: &mut [u8]) -> usize {
     match kind {
         1 => trace::reader::trace(case, out),
         2 => trace::gatherer::trace(case, out),
+        4 => trace_copier::copies::trace(case, out),
         _ => trace_writer::writer::trace(case, out),
     }
 }

@@ -11,15 +11,14 @@ use Rattle.emit.specs.Put.{put, reached}
 unfoldable pub roomFor : ℕ → ℕ → ℕ → Bool
 roomFor size pos n = leb 20 size && (leb pos (size - 20) && leb n (size - 20 - pos))
 
--- whether a call begins at its start and no id is held, and nothing but the places and the room stands against a field with a payload or
--- array of n
-unfoldable pub easyAt : ℕ → ℕ → ℕ → ℕ → ℕ → Bool
-easyAt place depth held id n = leb place 0 && (leb id (base .id) && (leb held 0 && (leb depth (base .depth) && leb n (base .size))))
+-- whether no id is held, and nothing but the places and the room stands against a field with a payload or array of n
+unfoldable pub easyAt : ℕ → ℕ → ℕ → ℕ → Bool
+easyAt depth held id n = leb id (base .id) && (leb held 0 && (leb depth (base .depth) && leb n (base .size)))
 
 -- and against a close
-unfoldable pub closesAt : ℕ → ℕ → ℕ → Bool
+unfoldable pub closesAt : ℕ → ℕ → Bool
 unfolding easyAt
-closesAt place depth held = ltb 0 depth && easyAt place depth held 0 0
+closesAt depth held = ltb 0 depth && easyAt depth held 0 0
 
 -- a write that is made where a test passes, and otherwise not: where it ends, and what it leaves
 abbrev pub reachedIf : Bool → List ℕ → ℕ → List ℕ → ℕ

@@ -20,14 +20,10 @@ ghost use Rattle.layout.specs.Limits.{base};
 ghost use Rattle.held.specs.Places.{clean};
 ghost use Rattle.straight.specs.Straight.{roomFor, easyAt, closesAt, reachedIf, putIf};
 
-// Whether a call begins at its start and no id is held, and nothing but the places and the room stands against a field with a payload or
-// array of `len`.
-pub fn at_ease(place: usize, depth: u16, held: u16, id: u32, len: usize) -> bool
-    ensures { λ r. ⌜ r ≡ easyAt place depth held id len ⌝ }
+// Whether no id is held, and nothing but the places and the room stands against a field with a payload or array of `len`.
+pub fn at_ease(depth: u16, held: u16, id: u32, len: usize) -> bool
+    ensures { λ r. ⌜ r ≡ easyAt depth held id len ⌝ }
 {
-    if 0 < place {
-        return false;
-    }
     if ID_MAX < id {
         return false;
     }
@@ -41,13 +37,13 @@ pub fn at_ease(place: usize, depth: u16, held: u16, id: u32, len: usize) -> bool
 }
 
 // And against a close.
-pub fn closes_at_ease(place: usize, depth: u16, held: u16) -> bool
-    ensures { λ r. ⌜ r ≡ closesAt place depth held ⌝ }
+pub fn closes_at_ease(depth: u16, held: u16) -> bool
+    ensures { λ r. ⌜ r ≡ closesAt depth held ⌝ }
 {
     if depth == 0 {
         return false;
     }
-    at_ease(place, depth, held, 0, 0)
+    at_ease(depth, held, 0, 0)
 }
 
 // Whether there is room from pos on for two varints, however long, and `more` bytes.

@@ -19,7 +19,8 @@ use Rattle.ostream.specs.declared.OStream.{OStream}
 use Rattle.ostream.specs.Stream.{at, every, soundStream, lazyDepth, heldBytes, committed, holding, dropped}
 use Rattle.ostream.specs.Emission.{Test, Verdict, accepted, refusedWith, judged}
 use Rattle.ostream.specs.Calls.{unsound, idTooLarge, tooDeep, noneOpen}
-use Rattle.ostream.proofs.Called.{Sound, is-sound, both, passed}
+use Rattle.answers.proofs.Checks.{passed}
+use Rattle.ostream.proofs.Called.{Sound, is-sound, both}
 use Rattle.ostream.proofs.Places.{length-zeroed}
 use Rattle.writes.specs.Series.{Able, verdict, outputBy, doneBy, numbersBy, Steady, outputs, refusals}
 use Rattle.writes.specs.Written.{Item, field, itemBytes, Write, puts, opens, closes, keeps, begins, front, heldBack, written, op, opsOf, Accepted, takenBy, taken}

@@ -1,6 +1,6 @@
 -- `copier::written`: the event fits or fills the buffer.
 use Prim.Native.Nat.{ℕ, _+_, _-_, _≤_, _<_}
-use mathlib.Core.Path.{_≡_}
+use mathlib.Core.Path.{_≡_, refl}
 use native.Mathlib.Omega.{arith}
 use lib.ListN.{length, drop}
 use Rattle.owed.specs.Owed.{outputBytes}
@@ -13,49 +13,47 @@ use Rattle.copier.proofs.written.Reads as reads
 use Rattle.copier.proofs.written.Lts as lts
 use Rattle.owed.proofs.Output.len.Reads as len-reads
 use Rattle.owed.proofs.Output.put.Reads as put-reads
+use Rattle.owed.proofs.Output.put_fitting.Reads as put-fitting-reads
 use Rattle.owed.proofs.Owed.output.Reads as output-reads
 
 output-requires : tie.Need-output-requires
 output-requires c κs = search needs
 
-len-requires : tie.Need-len-requires
-len-requires c κs = search needs
-
 sub-room : tie.Need-sub-room
 sub-room c = search needs
 
-put-requires : tie.Need-put-requires
-put-requires c κs = search needs
-
-sub-t17 : tie.Need-sub-t17
-sub-t17 c = let e = c .before .before .before .put .ensures .0 in let r = reached-is (c .before .before .before .before .before .before .before .before .args .buf .now) (c .before .before .before .before .before .before .before .before .args .pos) (drop 0 (outputBytes (c .before .before .before .before .before .before .output .result))) in omega arith
-
-cast-t18 : tie.Need-cast-t18
-cast-t18 c = let e = c .before .before .before .put .ensures .0 in let r = reached-is (c .before .before .before .before .before .before .before .before .args .buf .now) (c .before .before .before .before .before .before .before .before .args .pos) (drop 0 (outputBytes (c .before .before .before .before .before .before .output .result))) in let l = c .before .before .before .before .before .len .ensures in record { fits = omega (arith, l .0, l .1) }
+put-fitting-requires : tie.Need-put-fitting-requires
+put-fitting-requires c κs = search needs
 
 same-length : tie.Need-same-length
 same-length c = search needs
 
 returns : tie.Need-returns
-returns c = event-full (c .before .before .before .before .before .before .before .before .args .depth) (c .before .before .before .before .before .before .before .before .args .owed) (c .before .before .before .before .before .before .before .before .args .read) (c .before .before .before .before .before .before .before .before .args .reader) (c .before .before .before .before .before .before .before .before .args .pos) (c .before .before .before .before .before .before .before .before .args .buf .now) (c .before .before .before .put .result) (c .before .before .before .before .before .len .result) _ (c .before .before .before .before .before .before .output .result) (c .before .before .before .before .before .before .output .ensures) (c .before .before .before .before .before .len .ensures .0) (c .before .before .before .put .ensures) (c .if1 .taken)
+returns c = let e = c .before .before .put-fitting .ensures in let l = e .2 in let t = c .before .before .before .before .if1 .taken in event-fits (c .before .before .before .before .before .before .before .args .depth) (c .before .before .before .before .before .before .before .args .owed) (c .before .before .before .before .before .before .before .args .read) (c .before .before .before .before .before .before .before .args .reader) (c .before .before .before .before .before .before .before .args .pos) (c .before .before .before .before .before .before .before .args .buf .now) (c .before .before .put-fitting .result) (length (outputBytes (c .before .before .before .before .before .output .result))) _ (c .before .before .before .before .before .output .result) (c .before .before .before .before .before .output .ensures) refl (e .0, e .1) (omega arith)
+
+len-requires : tie.Need-len-requires
+len-requires c κs = search needs
+
+put-requires : tie.Need-put-requires
+put-requires c κs = search needs
+
+sub-t20 : tie.Need-sub-t20
+sub-t20 c = let e = c .before .before .before .put .ensures .0 in let r = reached-is (c .before .before .before .before .before .before .before .before .before .args .buf .now) (c .before .before .before .before .before .before .before .before .before .args .pos) (drop 0 (outputBytes (c .before .before .before .before .before .before .before .output .result))) in omega arith
+
+cast-t21 : tie.Need-cast-t21
+cast-t21 c = let e = c .before .before .before .put .ensures .0 in let r = reached-is (c .before .before .before .before .before .before .before .before .before .args .buf .now) (c .before .before .before .before .before .before .before .before .before .args .pos) (drop 0 (outputBytes (c .before .before .before .before .before .before .before .output .result))) in let l = c .before .before .before .before .before .len .ensures in record { fits = omega (arith, l .0, l .1) }
 
 same-length-2 : tie.Need-same-length-2
 same-length-2 c = search needs
 
 returns-2 : tie.Need-returns-2
-returns-2 c = event-fits (c .before .before .before .before .before .before .before .before .args .depth) (c .before .before .before .before .before .before .before .before .args .owed) (c .before .before .before .before .before .before .before .before .args .read) (c .before .before .before .before .before .before .before .before .args .reader) (c .before .before .before .before .before .before .before .before .args .pos) (c .before .before .before .before .before .before .before .before .args .buf .now) (c .before .before .before .put .result) (c .before .before .before .before .before .len .result) _ (c .before .before .before .before .before .before .output .result) (c .before .before .before .before .before .before .output .ensures) (c .before .before .before .before .before .len .ensures .0) (c .before .before .before .put .ensures) (c .if1 .left)
+returns-2 c = event-full (c .before .before .before .before .before .before .before .before .before .args .depth) (c .before .before .before .before .before .before .before .before .before .args .owed) (c .before .before .before .before .before .before .before .before .before .args .read) (c .before .before .before .before .before .before .before .before .before .args .reader) (c .before .before .before .before .before .before .before .before .before .args .pos) (c .before .before .before .before .before .before .before .before .before .args .buf .now) (c .before .before .before .put .result) (c .before .before .before .before .before .len .result) _ (c .before .before .before .before .before .before .before .output .result) (c .before .before .before .before .before .before .before .output .ensures) (c .before .before .before .before .before .len .ensures .0) (c .before .before .before .put .ensures) (c .if2 .taken)
+
+same-length-3 : tie.Need-same-length-3
+same-length-3 c = search needs
+
+returns-3 : tie.Need-returns-3
+returns-3 c = event-fits (c .before .before .before .before .before .before .before .before .before .args .depth) (c .before .before .before .before .before .before .before .before .before .args .owed) (c .before .before .before .before .before .before .before .before .before .args .read) (c .before .before .before .before .before .before .before .before .before .args .reader) (c .before .before .before .before .before .before .before .before .before .args .pos) (c .before .before .before .before .before .before .before .before .before .args .buf .now) (c .before .before .before .put .result) (c .before .before .before .before .before .len .result) _ (c .before .before .before .before .before .before .before .output .result) (c .before .before .before .before .before .before .before .output .ensures) (c .before .before .before .before .before .len .ensures .0) (c .before .before .before .put .ensures) (c .if2 .left)
 
 pub written-spec : {M : Type 1} → statement M
-written-spec =
-    tie.close
-    (tie.spec
-    output-requires
-    len-requires
-    sub-room
-    put-requires
-    sub-t17
-    cast-t18
-    same-length
-    returns
-    same-length-2
-    returns-2)
+written-spec = tie.close (tie.spec output-requires sub-room put-fitting-requires same-length returns len-requires put-requires sub-t20 cast-t21 same-length-2 returns-2 same-length-3 returns-3)

@@ -19,16 +19,12 @@ returns-3 : tie.Need-returns-3
 unfolding easyAt
 returns-3 c = simp (le-leb _ _ (c .before .before .if1 .left), le-leb _ _ (c .before .if2 .left), lt-leb _ _ (c .if3 .taken))
 
-returns-4 : tie.Need-returns-4
-unfolding easyAt
-returns-4 c = simp (le-leb _ _ (c .before .before .before .if1 .left), le-leb _ _ (c .before .before .if2 .left), le-leb _ _ (c .before .if3 .left), lt-leb _ _ (c .if4 .taken))
-
 cast-result : tie.Need-cast-result
 cast-result c = search needs
 
-returns-5 : tie.Need-returns-5
+returns-4 : tie.Need-returns-4
 unfolding easyAt
-returns-5 c = simp (le-leb _ _ (c .before .before .before .if1 .left), le-leb _ _ (c .before .before .if2 .left), le-leb _ _ (c .before .if3 .left), le-leb _ _ (c .if4 .left))
+returns-4 c = simp (le-leb _ _ (c .before .before .if1 .left), le-leb _ _ (c .before .if2 .left), le-leb _ _ (c .if3 .left))
 
 pub at-ease-spec : {M : Type 1} → statement M
-at-ease-spec = tie.close (tie.spec returns returns-2 returns-3 returns-4 cast-result returns-5)
+at-ease-spec = tie.close (tie.spec returns returns-2 returns-3 cast-result returns-4)

@@ -27,9 +27,9 @@ use Rattle.straight.proofs.at_ease.Reads as at-ease-reads
 use Rattle.straight.proofs.put_signeds.Reads as put-signeds-reads
 
 -- where the straight form has written nothing, the buffer is as it was
-unaltered : (c : tie.Joined1) → c .if1 .buf ≡ c .before .before .before .args .buf .now
+unaltered : (c : tie.Joined2) → c .if2 .buf ≡ c .before .before .before .before .args .buf .now
 unaltered c =
-    let a = c .before .before .before .args in
+    let a = c .before .before .before .before .args in
     ⊎-elim
     (λ x.
     let h = x .3 .result in
@@ -39,39 +39,7 @@ unaltered c =
     let e = x .4 .ensures in
     x .9 ∙ unmoved _ _ _ _ (10 * length (a .items .now)) (shortest h ++ r) _ _ refl (e .0, e .1) (omega arith) (x .8 .left))
     (λ x. x .1)
-    (c .if1 .came)
-
-at-ease-requires : tie.Need-at-ease-requires
-at-ease-requires c κs = search needs
-
-tagged-requires : tie.Need-tagged-requires
-tagged-requires c κs = search needs
-
-put-signeds-requires : tie.Need-put-signeds-requires
-put-signeds-requires c κs =
-    let a = c .before .before .before .before .before .before .args in
-    is-easy (a .self) (a .place) (a .id) (length (a .items .now)) (sym (c .before .before .before .before .at-ease .ensures) ∙ c .before .before .before .if1 .taken) .short
-
-same-length : tie.Need-same-length
-same-length c = search needs
-
-returns : tie.Need-returns
-unfolding fieldBytes
-returns c =
-    let a = c .before .before .before .before .before .before .before .before .before .before .before .args in
-    let q = c .before .before .before .before .put-signeds .ensures in
-    let w = went _ _ _ _ _ _ (q .0, q .1) (c .if2 .taken) in
-    let e = is-easy (a .self) (a .place) (a .id) (length (a .items .now)) (sym (c .before .before .before .before .before .before .before .before .before .at-ease .ensures) ∙ c .before .before .before .before .before .before .before .before .if1 .taken) in
-    let y = is-ready (a .self) (length (a .buf .now)) (a .place) (a .id) (length (a .items .now)) (10 * length (a .items .now)) e (w .0) in
-    let h = c .before .before .before .before .before .tagged .result in
-    let l = shortest (length (a .items .now)) ++ each (λ z. shortest (zigzag z)) (a .items .now) in
-    straight (signedArrayCall (a .self) (length (a .buf .now)) (a .id) (a .items .now)) (a .self) (a .buf .now) (shortest h ++ l) (a .place) _ _ (a .self)
-    (ready-array (a .self) (length (a .buf .now)) (a .id) (length (a .items .now)) (10 * length (a .items .now)) y (e .short))
-    (spelled (a .self) (y .none) h (a .id * 8 + 4) l (c .before .before .before .before .before .tagged .ensures))
-    (committed-none (a .self) (a .self .depth) (y .none))
-    (e .start)
-    (q .2 (w .0))
-    (w .1)
+    (c .if2 .came)
 
 anew-requires : tie.Need-anew-requires
 anew-requires c κs = search needs
@@ -82,25 +50,79 @@ write-array-signed-slowly-requires c κs = search needs
 anew-requires-2 : tie.Need-anew-requires-2
 anew-requires-2 c κs = search needs
 
+same-length : tie.Need-same-length
+same-length c = search needs
+
+returns : tie.Need-returns
+returns c =
+    let a = c .before .before .before .before .before .before .before .before .args in
+    left-to (λ s n. signedArrayCall s n (a .id) (a .items .now)) (a .self) _ (a .buf .now) (a .buf .now) (a .place) _ _ _ (c .before .before .before .before .before .anew .ensures) refl (c .anew2 .ensures) (c .before .before .before .write-array-signed-slowly .ensures)
+
+at-ease-requires : tie.Need-at-ease-requires
+at-ease-requires c κs = search needs
+
+tagged-requires : tie.Need-tagged-requires
+tagged-requires c κs = search needs
+
+put-signeds-requires : tie.Need-put-signeds-requires
+put-signeds-requires c κs =
+    let a = c .before .before .before .before .before .before .before .args in
+    is-easy (a .self) (a .id) (length (a .items .now)) (sym (c .before .before .before .before .at-ease .ensures) ∙ c .before .before .before .if2 .taken) .short
+
 same-length-2 : tie.Need-same-length-2
-same-length-2 c = search (needs, ap length (unaltered (c .before .before .before .before .before .before)))
+same-length-2 c = search needs
 
 returns-2 : tie.Need-returns-2
+unfolding fieldBytes
 returns-2 c =
-    let a = c .before .before .before .before .before .before .before .before .before .args in
-    left-to (λ s n. signedArrayCall s n (a .id) (a .items .now)) (a .self) _ (a .buf .now) (c .before .before .before .before .before .before .if1 .buf) (a .place) _ _ _ (c .before .before .before .before .before .anew .ensures) (unaltered (c .before .before .before .before .before .before)) (c .anew2 .ensures) (c .before .before .before .write-array-signed-slowly .ensures)
+    let a = c .before .before .before .before .before .before .before .before .before .before .before .before .args in
+    let q = c .before .before .before .before .put-signeds .ensures in
+    let w = went _ _ _ _ _ _ (q .0, q .1) (c .if3 .taken) in
+    let e = is-easy (a .self) (a .id) (length (a .items .now)) (sym (c .before .before .before .before .before .before .before .before .before .at-ease .ensures) ∙ c .before .before .before .before .before .before .before .before .if2 .taken) in
+    let y = is-ready (a .self) (length (a .buf .now)) (a .id) (length (a .items .now)) (10 * length (a .items .now)) e (w .0) in
+    let h = c .before .before .before .before .before .tagged .result in
+    let l = shortest (length (a .items .now)) ++ each (λ z. shortest (zigzag z)) (a .items .now) in
+    straight (signedArrayCall (a .self) (length (a .buf .now)) (a .id) (a .items .now)) (a .self) (a .buf .now) (shortest h ++ l) (a .place) _ _ (a .self)
+    (ready-array (a .self) (length (a .buf .now)) (a .id) (length (a .items .now)) (10 * length (a .items .now)) y (e .short))
+    (spelled (a .self) (y .none) h (a .id * 8 + 4) l (c .before .before .before .before .before .tagged .ensures))
+    (committed-none (a .self) (a .self .depth) (y .none))
+    (omega arith)
+    (q .2 (w .0))
+    (w .1)
+
+anew-requires-3 : tie.Need-anew-requires-3
+anew-requires-3 c κs = search needs
+
+write-array-signed-slowly-requires-2 : tie.Need-write-array-signed-slowly-requires-2
+write-array-signed-slowly-requires-2 c κs = search needs
+
+anew-requires-4 : tie.Need-anew-requires-4
+anew-requires-4 c κs = search needs
+
+same-length-3 : tie.Need-same-length-3
+same-length-3 c = search (needs, ap length (unaltered (c .before .before .before .before .before .before)))
+
+returns-3 : tie.Need-returns-3
+returns-3 c =
+    let a = c .before .before .before .before .before .before .before .before .before .before .args in
+    left-to (λ s n. signedArrayCall s n (a .id) (a .items .now)) (a .self) _ (a .buf .now) (c .before .before .before .before .before .before .if2 .buf) (a .place) _ _ _ (c .before .before .before .before .before .anew3 .ensures) (unaltered (c .before .before .before .before .before .before)) (c .anew4 .ensures) (c .before .before .before .write-array-signed-slowly2 .ensures)
 
 pub write-array-signed-spec : {M : Type 1} → statement M
 write-array-signed-spec =
     tie.close
     (tie.spec
-    at-ease-requires
-    tagged-requires
-    put-signeds-requires
-    same-length
-    returns
     anew-requires
     write-array-signed-slowly-requires
     anew-requires-2
+    same-length
+    returns
+    at-ease-requires
+    tagged-requires
+    put-signeds-requires
     same-length-2
-    returns-2)
+    returns-2
+    anew-requires-3
+    write-array-signed-slowly-requires-2
+    anew-requires-4
+    same-length-3
+    returns-3)

@@ -26,9 +26,9 @@ use Rattle.straight.proofs.put_field.Reads as put-field-reads
 use Rattle.types.proofs.FixlenType.raw.Reads as raw-reads
 
 -- where the straight form has written nothing, the buffer is as it was
-unaltered : (c : tie.Joined1) → c .if1 .buf ≡ c .before .before .before .before .args .buf .now
+unaltered : (c : tie.Joined2) → c .if2 .buf ≡ c .before .before .before .before .before .args .buf .now
 unaltered c =
-    let a = c .before .before .before .before .args in
+    let a = c .before .before .before .before .before .args in
     ⊎-elim
     (λ x.
     let h = x .5 .result in
@@ -37,15 +37,32 @@ unaltered c =
     let l = length-some h in
     x .11 ∙ unmoved _ _ _ _ (length (a .bytes .now)) (shortest h ++ (shortest w ++ a .bytes .now)) _ _ refl (x .6 .ensures) (omega arith) (x .10 .left))
     (λ x. x .1)
-    (c .if1 .came)
+    (c .if2 .came)
+
+anew-requires : tie.Need-anew-requires
+anew-requires c κs = search needs
+
+write-fixlen-slowly-requires : tie.Need-write-fixlen-slowly-requires
+write-fixlen-slowly-requires c κs = search needs
+
+anew-requires-2 : tie.Need-anew-requires-2
+anew-requires-2 c κs = search needs
+
+same-length : tie.Need-same-length
+same-length c = search needs
+
+returns : tie.Need-returns
+returns c =
+    let a = c .before .before .before .before .before .before .before .before .before .args in
+    left-to (λ s n. rawCall s n (a .id) (a .bytes .now) (a .subtype)) (a .self) _ (a .buf .now) (a .buf .now) (a .place) _ _ _ (c .before .before .before .before .before .anew .ensures) refl (c .anew2 .ensures) (c .before .before .before .write-fixlen-slowly .ensures)
 
 at-ease-requires : tie.Need-at-ease-requires
 at-ease-requires c κs = search needs
 
 cast-tagged : tie.Need-cast-tagged
 cast-tagged c =
-    let a = c .before .before .before .before .before .args in
-    let n = is-easy (a .self) (a .place) (a .id) (length (a .bytes .now)) (sym (c .before .before .at-ease .ensures) ∙ c .before .if1 .taken) .short in
+    let a = c .before .before .before .before .before .before .args in
+    let n = is-easy (a .self) (a .id) (length (a .bytes .now)) (sym (c .before .before .at-ease .ensures) ∙ c .before .if2 .taken) .short in
     record { fits = omega arith }
 
 raw-requires : tie.Need-raw-requires
@@ -60,16 +77,16 @@ tagged-requires-2 c κs = search needs
 put-field-requires : tie.Need-put-field-requires
 put-field-requires c κs = search needs
 
-same-length : tie.Need-same-length
-same-length c = search needs
+same-length-2 : tie.Need-same-length-2
+same-length-2 c = search needs
 
-returns : tie.Need-returns
+returns-2 : tie.Need-returns-2
 unfolding fixlenBytes
-returns c =
-    let a = c .before .before .before .before .before .before .before .before .before .before .before .before .before .before .args in
-    let q = went _ _ _ _ _ _ (c .before .before .before .before .put-field .ensures) (c .if2 .taken) in
-    let e = is-easy (a .self) (a .place) (a .id) (length (a .bytes .now)) (sym (c .before .before .before .before .before .before .before .before .before .before .before .at-ease .ensures) ∙ c .before .before .before .before .before .before .before .before .before .before .if1 .taken) in
-    let y = is-ready (a .self) (length (a .buf .now)) (a .place) (a .id) (length (a .bytes .now)) (length (a .bytes .now)) e (q .0) in
+returns-2 c =
+    let a = c .before .before .before .before .before .before .before .before .before .before .before .before .before .before .before .args in
+    let q = went _ _ _ _ _ _ (c .before .before .before .before .put-field .ensures) (c .if3 .taken) in
+    let e = is-easy (a .self) (a .id) (length (a .bytes .now)) (sym (c .before .before .before .before .before .before .before .before .before .before .before .at-ease .ensures) ∙ c .before .before .before .before .before .before .before .before .before .before .if2 .taken) in
+    let y = is-ready (a .self) (length (a .buf .now)) (a .id) (length (a .bytes .now)) (length (a .bytes .now)) e (q .0) in
     let h = c .before .before .before .before .before .tagged2 .result in
     let w = c .before .before .before .before .before .before .before .tagged .result in
     let lh = length-64 h (c .before .before .before .before .before .tagged2 .ok) in
@@ -81,41 +98,46 @@ returns c =
     (ready-field (a .self) (length (a .buf .now)) (a .id) (length (a .bytes .now)) y (e .short))
     (ap (λ (x : ℕ). shortest h ++ (shortest x ++ a .bytes .now)) (c .before .before .before .before .before .before .before .tagged .ensures ∙ ap (λ (n : ℕ). length (a .bytes .now) * 8 + n) (c .before .before .before .before .before .before .before .before .raw .ensures)) ∙ spelled (a .self) (y .none) h (a .id * 8 + 2) (shortest (length (a .bytes .now) * 8 + fixlenRaw (a .subtype)) ++ a .bytes .now) (c .before .before .before .before .before .tagged2 .ensures))
     (committed-none (a .self) (a .self .depth) (y .none))
-    (e .start)
+    (omega arith)
     (omega arith)
     (q .1)
 
-anew-requires : tie.Need-anew-requires
-anew-requires c κs = search needs
+anew-requires-3 : tie.Need-anew-requires-3
+anew-requires-3 c κs = search needs
 
-write-fixlen-slowly-requires : tie.Need-write-fixlen-slowly-requires
-write-fixlen-slowly-requires c κs = search needs
+write-fixlen-slowly-requires-2 : tie.Need-write-fixlen-slowly-requires-2
+write-fixlen-slowly-requires-2 c κs = search needs
 
-anew-requires-2 : tie.Need-anew-requires-2
-anew-requires-2 c κs = search needs
+anew-requires-4 : tie.Need-anew-requires-4
+anew-requires-4 c κs = search needs
 
-same-length-2 : tie.Need-same-length-2
-same-length-2 c = search (needs, ap length (unaltered (c .before .before .before .before .before .before)))
+same-length-3 : tie.Need-same-length-3
+same-length-3 c = search (needs, ap length (unaltered (c .before .before .before .before .before .before)))
 
-returns-2 : tie.Need-returns-2
-returns-2 c =
-    let a = c .before .before .before .before .before .before .before .before .before .before .args in
-    left-to (λ s n. rawCall s n (a .id) (a .bytes .now) (a .subtype)) (a .self) _ (a .buf .now) (c .before .before .before .before .before .before .if1 .buf) (a .place) _ _ _ (c .before .before .before .before .before .anew .ensures) (unaltered (c .before .before .before .before .before .before)) (c .anew2 .ensures) (c .before .before .before .write-fixlen-slowly .ensures)
+returns-3 : tie.Need-returns-3
+returns-3 c =
+    let a = c .before .before .before .before .before .before .before .before .before .before .before .args in
+    left-to (λ s n. rawCall s n (a .id) (a .bytes .now) (a .subtype)) (a .self) _ (a .buf .now) (c .before .before .before .before .before .before .if2 .buf) (a .place) _ _ _ (c .before .before .before .before .before .anew3 .ensures) (unaltered (c .before .before .before .before .before .before)) (c .anew4 .ensures) (c .before .before .before .write-fixlen-slowly2 .ensures)
 
 pub write-fixlen-raw-spec : {M : Type 1} → statement M
 write-fixlen-raw-spec =
     tie.close
     (tie.spec
+    anew-requires
+    write-fixlen-slowly-requires
+    anew-requires-2
+    same-length
+    returns
     at-ease-requires
     cast-tagged
     raw-requires
     tagged-requires
     tagged-requires-2
     put-field-requires
-    same-length
-    returns
-    anew-requires
-    write-fixlen-slowly-requires
-    anew-requires-2
     same-length-2
-    returns-2)
+    returns-2
+    anew-requires-3
+    write-fixlen-slowly-requires-2
+    anew-requires-4
+    same-length-3
+    returns-3)

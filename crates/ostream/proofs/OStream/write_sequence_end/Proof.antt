@@ -31,49 +31,14 @@ use Rattle.straight.proofs.put_end.Reads as put-end-reads
 some : 0 < length {A = ℕ} (7 ∷ [])
 some = omega arith
 
-unaltered : (c : tie.Joined1) → c .if1 .buf ≡ c .before .before .before .args .buf .now
+unaltered : (c : tie.Joined2) → c .if2 .buf ≡ c .before .before .before .before .args .buf .now
 unaltered c =
-    let a = c .before .before .before .args in
+    let a = c .before .before .before .before .args in
     ⊎-elim
     (λ x.
     x .8 ∙ stayed (ltb (a .self .offset) (length (a .buf .now)) && clean (a .self .pending)) (a .buf .now) (a .self .offset) (7 ∷ []) _ _ (x .3 .ensures) (λ t. (some, ltb-true _ _ (both _ _ t .0))) (x .7 .left))
     (λ x. x .1)
-    (c .if1 .came)
-
-closes-at-ease-requires : tie.Need-closes-at-ease-requires
-closes-at-ease-requires c κs = search needs
-
-put-end-requires : tie.Need-put-end-requires
-put-end-requires c κs = search needs
-
-sub-self : tie.Need-sub-self
-sub-self c =
-    let a = c .before .before .before .before .before .before .before .before .before .before .before .args in
-    let d = closes-easy (a .self) (a .place) (sym (c .before .before .before .before .before .before .before .before .before .closes-at-ease .ensures) ∙ c .before .before .before .before .before .before .before .before .if1 .taken) .0 in
-    omega arith
-
-same-length : tie.Need-same-length
-same-length c = search needs
-
-returns : tie.Need-returns
-unfolding fieldBytes
-returns c =
-    let a = c .before .before .before .before .before .before .before .before .before .before .before .args in
-    let w = went _ _ _ _ _ _ (c .before .before .before .before .before .put-end .ensures) (c .before .if2 .taken) in
-    let t = both _ _ (w .0) in
-    let i : a .self .offset < length (a .buf .now) = ltb-true _ _ (t .0) in
-    let q = closes-easy (a .self) (a .place) (sym (c .before .before .before .before .before .before .before .before .before .closes-at-ease .ensures) ∙ c .before .before .before .before .before .before .before .before .if1 .taken) in
-    let n = q .0 in
-    let y = q .1 in
-    let u : soundStream (a .self) (length (a .buf .now)) ≡ true = quiet (a .self) (length (a .buf .now)) (omega arith) (y .none) (y .shallow) (t .1) in
-    straight (endCall (a .self) (length (a .buf .now))) (a .self) (a .buf .now) (7 ∷ []) (a .place) _ _
-    (record { offset = a .self .offset; depth = a .self .depth - 1; pending = a .self .pending; npending = a .self .npending })
-    (simp (u, ne-eqb (a .self .depth) 0 (λ e. omega arith)))
-    (simp (eq-eqb _ _ (y .none)) (sym (shortest-one 7 (omega arith))))
-    (simp (eq-eqb _ _ (y .none)) (committed-none (a .self) (a .self .depth - 1) (y .none)))
-    (y .start)
-    (omega arith)
-    (w .1)
+    (c .if2 .came)
 
 anew-requires : tie.Need-anew-requires
 anew-requires c κs = search needs
@@ -84,25 +49,82 @@ end-slowly-requires c κs = search needs
 anew-requires-2 : tie.Need-anew-requires-2
 anew-requires-2 c κs = search needs
 
+same-length : tie.Need-same-length
+same-length c = search needs
+
+returns : tie.Need-returns
+returns c =
+    let a = c .before .before .before .before .before .before .before .before .args in
+    left-to (λ s n. endCall s n) (a .self) _ (a .buf .now) (a .buf .now) (a .place) _ _ _ (c .before .before .before .before .before .anew .ensures) refl (c .anew2 .ensures) (c .before .before .before .end-slowly .ensures)
+
+closes-at-ease-requires : tie.Need-closes-at-ease-requires
+closes-at-ease-requires c κs = search needs
+
+put-end-requires : tie.Need-put-end-requires
+put-end-requires c κs = search needs
+
+sub-self : tie.Need-sub-self
+sub-self c =
+    let a = c .before .before .before .before .before .before .before .before .before .before .before .before .args in
+    let d = closes-easy (a .self) (sym (c .before .before .before .before .before .before .before .before .before .closes-at-ease .ensures) ∙ c .before .before .before .before .before .before .before .before .if2 .taken) .0 in
+    omega arith
+
 same-length-2 : tie.Need-same-length-2
-same-length-2 c = search (needs, ap length (unaltered (c .before .before .before .before .before .before)))
+same-length-2 c = search needs
 
 returns-2 : tie.Need-returns-2
+unfolding fieldBytes
 returns-2 c =
-    let a = c .before .before .before .before .before .before .before .before .before .args in
-    left-to (λ s n. endCall s n) (a .self) _ (a .buf .now) (c .before .before .before .before .before .before .if1 .buf) (a .place) _ _ _ (c .before .before .before .before .before .anew .ensures) (unaltered (c .before .before .before .before .before .before)) (c .anew2 .ensures) (c .before .before .before .end-slowly .ensures)
+    let a = c .before .before .before .before .before .before .before .before .before .before .before .before .args in
+    let w = went _ _ _ _ _ _ (c .before .before .before .before .before .put-end .ensures) (c .before .if3 .taken) in
+    let t = both _ _ (w .0) in
+    let i : a .self .offset < length (a .buf .now) = ltb-true _ _ (t .0) in
+    let q = closes-easy (a .self) (sym (c .before .before .before .before .before .before .before .before .before .closes-at-ease .ensures) ∙ c .before .before .before .before .before .before .before .before .if2 .taken) in
+    let n = q .0 in
+    let y = q .1 in
+    let u : soundStream (a .self) (length (a .buf .now)) ≡ true = quiet (a .self) (length (a .buf .now)) (omega arith) (y .none) (y .shallow) (t .1) in
+    straight (endCall (a .self) (length (a .buf .now))) (a .self) (a .buf .now) (7 ∷ []) (a .place) _ _
+    (record { offset = a .self .offset; depth = a .self .depth - 1; pending = a .self .pending; npending = a .self .npending })
+    (simp (u, ne-eqb (a .self .depth) 0 (λ e. omega arith)))
+    (simp (eq-eqb _ _ (y .none)) (sym (shortest-one 7 (omega arith))))
+    (simp (eq-eqb _ _ (y .none)) (committed-none (a .self) (a .self .depth - 1) (y .none)))
+    (omega arith)
+    (omega arith)
+    (w .1)
+
+anew-requires-3 : tie.Need-anew-requires-3
+anew-requires-3 c κs = search needs
+
+end-slowly-requires-2 : tie.Need-end-slowly-requires-2
+end-slowly-requires-2 c κs = search needs
+
+anew-requires-4 : tie.Need-anew-requires-4
+anew-requires-4 c κs = search needs
+
+same-length-3 : tie.Need-same-length-3
+same-length-3 c = search (needs, ap length (unaltered (c .before .before .before .before .before .before)))
+
+returns-3 : tie.Need-returns-3
+returns-3 c =
+    let a = c .before .before .before .before .before .before .before .before .before .before .args in
+    left-to (λ s n. endCall s n) (a .self) _ (a .buf .now) (c .before .before .before .before .before .before .if2 .buf) (a .place) _ _ _ (c .before .before .before .before .before .anew3 .ensures) (unaltered (c .before .before .before .before .before .before)) (c .anew4 .ensures) (c .before .before .before .end-slowly2 .ensures)
 
 pub write-sequence-end-spec : {M : Type 1} → statement M
 write-sequence-end-spec =
     tie.close
     (tie.spec
-    closes-at-ease-requires
-    put-end-requires
-    sub-self
-    same-length
-    returns
     anew-requires
     end-slowly-requires
     anew-requires-2
+    same-length
+    returns
+    closes-at-ease-requires
+    put-end-requires
+    sub-self
     same-length-2
-    returns-2)
+    returns-2
+    anew-requires-3
+    end-slowly-requires-2
+    anew-requires-4
+    same-length-3
+    returns-3)

@@ -24,9 +24,9 @@ use Rattle.straight.proofs.at_ease.Reads as at-ease-reads
 use Rattle.straight.proofs.put_pair.Reads as put-pair-reads
 
 -- where the straight form has written nothing, the buffer is as it was
-unaltered : (c : tie.Joined1) → c .if1 .buf ≡ c .before .before .before .args .buf .now
+unaltered : (c : tie.Joined2) → c .if2 .buf ≡ c .before .before .before .before .args .buf .now
 unaltered c =
-    let a = c .before .before .before .args in
+    let a = c .before .before .before .before .args in
     ⊎-elim
     (λ x.
     let h = x .3 .result in
@@ -34,39 +34,7 @@ unaltered c =
     let l = length-some h in
     x .9 ∙ unmoved _ _ _ _ 0 (shortest h ++ shortest (a .value)) _ _ refl (x .4 .ensures) (omega arith) (x .8 .left))
     (λ x. x .1)
-    (c .if1 .came)
-
-at-ease-requires : tie.Need-at-ease-requires
-at-ease-requires c κs = search needs
-
-tagged-requires : tie.Need-tagged-requires
-tagged-requires c κs = search needs
-
-put-pair-requires : tie.Need-put-pair-requires
-put-pair-requires c κs = search needs
-
-same-length : tie.Need-same-length
-same-length c = search needs
-
-returns : tie.Need-returns
-returns c =
-    let a = c .before .before .before .before .before .before .before .before .before .before .before .args in
-    let f = c .before .before .before .before .before .before .before .before .before .before .before .fits in
-    let h = c .before .before .before .before .before .tagged .result in
-    let w = went _ _ _ _ _ _ (c .before .before .before .before .put-pair .ensures) (c .if2 .taken) in
-    let e = is-easy (a .self) (a .place) (a .id) 0 (sym (c .before .before .before .before .before .before .before .before .before .at-ease .ensures) ∙ c .before .before .before .before .before .before .before .before .if1 .taken) in
-    let y = is-ready (a .self) (length (a .buf .now)) (a .place) (a .id) 0 0 e (w .0) in
-    let lh = length-64 h (omega arith) in
-    let lv = length-64 (a .value) (f .value .fits) in
-    let o = length-append (shortest h) (shortest (a .value)) in
-    let r = y .room in
-    straight (varintCall (a .self) (length (a .buf .now)) (a .id) (a .wire) (a .value)) (a .self) (a .buf .now) (shortest h ++ shortest (a .value)) (a .place) _ _ (a .self)
-    (ready-scalar (a .self) (length (a .buf .now)) (a .id) 0 y)
-    (spelled (a .self) (y .none) h (a .id * 8 + a .wire) (shortest (a .value)) (c .before .before .before .before .before .tagged .ensures))
-    (committed-none (a .self) (a .self .depth) (y .none))
-    (e .start)
-    (omega arith)
-    (w .1)
+    (c .if2 .came)
 
 anew-requires : tie.Need-anew-requires
 anew-requires c κs = search needs
@@ -77,25 +45,79 @@ write-varint-slowly-requires c κs = search needs
 anew-requires-2 : tie.Need-anew-requires-2
 anew-requires-2 c κs = search needs
 
+same-length : tie.Need-same-length
+same-length c = search needs
+
+returns : tie.Need-returns
+returns c =
+    let a = c .before .before .before .before .before .before .before .before .args in
+    left-to (λ s n. varintCall s n (a .id) (a .wire) (a .value)) (a .self) _ (a .buf .now) (a .buf .now) (a .place) _ _ _ (c .before .before .before .before .before .anew .ensures) refl (c .anew2 .ensures) (c .before .before .before .write-varint-slowly .ensures)
+
+at-ease-requires : tie.Need-at-ease-requires
+at-ease-requires c κs = search needs
+
+tagged-requires : tie.Need-tagged-requires
+tagged-requires c κs = search needs
+
+put-pair-requires : tie.Need-put-pair-requires
+put-pair-requires c κs = search needs
+
 same-length-2 : tie.Need-same-length-2
-same-length-2 c = search (needs, ap length (unaltered (c .before .before .before .before .before .before)))
+same-length-2 c = search needs
 
 returns-2 : tie.Need-returns-2
 returns-2 c =
-    let a = c .before .before .before .before .before .before .before .before .before .args in
-    left-to (λ s n. varintCall s n (a .id) (a .wire) (a .value)) (a .self) _ (a .buf .now) (c .before .before .before .before .before .before .if1 .buf) (a .place) _ _ _ (c .before .before .before .before .before .anew .ensures) (unaltered (c .before .before .before .before .before .before)) (c .anew2 .ensures) (c .before .before .before .write-varint-slowly .ensures)
+    let a = c .before .before .before .before .before .before .before .before .before .before .before .before .args in
+    let f = c .before .before .before .before .before .before .before .before .before .before .before .before .fits in
+    let h = c .before .before .before .before .before .tagged .result in
+    let w = went _ _ _ _ _ _ (c .before .before .before .before .put-pair .ensures) (c .if3 .taken) in
+    let e = is-easy (a .self) (a .id) 0 (sym (c .before .before .before .before .before .before .before .before .before .at-ease .ensures) ∙ c .before .before .before .before .before .before .before .before .if2 .taken) in
+    let y = is-ready (a .self) (length (a .buf .now)) (a .id) 0 0 e (w .0) in
+    let lh = length-64 h (omega arith) in
+    let lv = length-64 (a .value) (f .value .fits) in
+    let o = length-append (shortest h) (shortest (a .value)) in
+    let r = y .room in
+    straight (varintCall (a .self) (length (a .buf .now)) (a .id) (a .wire) (a .value)) (a .self) (a .buf .now) (shortest h ++ shortest (a .value)) (a .place) _ _ (a .self)
+    (ready-scalar (a .self) (length (a .buf .now)) (a .id) 0 y)
+    (spelled (a .self) (y .none) h (a .id * 8 + a .wire) (shortest (a .value)) (c .before .before .before .before .before .tagged .ensures))
+    (committed-none (a .self) (a .self .depth) (y .none))
+    (omega arith)
+    (omega arith)
+    (w .1)
+
+anew-requires-3 : tie.Need-anew-requires-3
+anew-requires-3 c κs = search needs
+
+write-varint-slowly-requires-2 : tie.Need-write-varint-slowly-requires-2
+write-varint-slowly-requires-2 c κs = search needs
+
+anew-requires-4 : tie.Need-anew-requires-4
+anew-requires-4 c κs = search needs
+
+same-length-3 : tie.Need-same-length-3
+same-length-3 c = search (needs, ap length (unaltered (c .before .before .before .before .before .before)))
+
+returns-3 : tie.Need-returns-3
+returns-3 c =
+    let a = c .before .before .before .before .before .before .before .before .before .before .args in
+    left-to (λ s n. varintCall s n (a .id) (a .wire) (a .value)) (a .self) _ (a .buf .now) (c .before .before .before .before .before .before .if2 .buf) (a .place) _ _ _ (c .before .before .before .before .before .anew3 .ensures) (unaltered (c .before .before .before .before .before .before)) (c .anew4 .ensures) (c .before .before .before .write-varint-slowly2 .ensures)
 
 pub write-varint-spec : {M : Type 1} → statement M
 write-varint-spec =
     tie.close
     (tie.spec
-    at-ease-requires
-    tagged-requires
-    put-pair-requires
-    same-length
-    returns
     anew-requires
     write-varint-slowly-requires
     anew-requires-2
+    same-length
+    returns
+    at-ease-requires
+    tagged-requires
+    put-pair-requires
     same-length-2
-    returns-2)
+    returns-2
+    anew-requires-3
+    write-varint-slowly-requires-2
+    anew-requires-4
+    same-length-3
+    returns-3)

@@ -1,0 +1,52 @@
+-- `host::sofab_copy` meets its contract: a number for a verdict that is not complete, and nothing written; else the copy.
+use mathlib.Core.Path.{_≡_, ap, _∙_}
+use lib.IntN.{ℤ}
+use mir.Syntax.{w64}
+use mir.Val.{toZ, ofZ}
+use Rattle.whole.specs.declared.Verdict.the-variants.{Complete, Incomplete, Broken}
+use Rattle.host.specs.Host.{leftBy}
+use Rattle.host.proofs.Numbers.{copies, is-complete}
+use borrow.Author.Needs.{needs}
+use Rattle.host.proofs.sofab_copy.Statement.{statement}
+use Rattle.host.proofs.sofab_copy.Tie as tie
+
+verdict-of-requires : tie.Need-verdict-of-requires
+verdict-of-requires c κs = search needs
+
+enum-told : tie.Need-enum-told
+enum-told c = search needs
+
+copy-requires : tie.Need-copy-requires
+copy-requires c κs = is-complete _ _ (c .before .before .before .verdict-of .ensures) (c .before .enum-told .given .1)
+
+enum-told-2 : tie.Need-enum-told-2
+enum-told-2 c = search needs
+
+enum-told-3 : tie.Need-enum-told-3
+enum-told-3 c = search needs
+
+same-length : tie.Need-same-length
+same-length c = search needs
+
+returns : tie.Need-returns
+returns c = let f : toZ w64 (ofZ w64 (c .before .before .copy .result)) ≡ c .before .before .copy .result = search needs in ap (λ (x : ℤ). leftBy x (c .before .before .copy .last .1 .0)) f ∙ c .before .before .copy .ensures ∙ copies _ _ Complete _ _ (c .before .before .before .before .before .before .verdict-of .ensures) (c .before .before .before .before .enum-told .given .1)
+
+returns-2 : tie.Need-returns-2
+returns-2 c = copies _ _ Incomplete _ _ (c .before .before .verdict-of .ensures) (c .enum-told2 .given .1)
+
+returns-3 : tie.Need-returns-3
+returns-3 c = copies _ _ (Broken _) _ _ (c .before .before .verdict-of .ensures) (c .enum-told3 .given .1)
+
+pub sofab-copy-spec : {M : Type 1} → statement M
+sofab-copy-spec =
+    tie.close
+    (tie.spec
+    verdict-of-requires
+    enum-told
+    copy-requires
+    enum-told-2
+    enum-told-3
+    same-length
+    returns
+    returns-2
+    returns-3)

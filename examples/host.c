@@ -1,14 +1,19 @@
-/* A host in C: says of each file named on the command line whether it is a complete message.
- * It ends with 0 where all are readable and none is broken, 1 where one is broken, 2 where a file cannot be read or the answers not written.
+/* A host in C: the verdict on messages, and the manifest of one, through include/sofab.h.
  *
- *   rt staticlib host
- *   cc -Iinclude examples/host.c target/staticlib/libhost.a -o target/host
- *   target/host FILE...
+ *   host verdict FILE...     a line for each: complete, incomplete or broken
+ *   host manifest FILE       the message on standard output, every field in its shortest form
+ *
+ * It ends with 0 where all are complete, 1 where one isn't, 2 where a file cannot be read or the output not written. README says how to
+ * build it.
  */
 #include <stdio.h>
 #include <stdlib.h>
+#include <string.h>
 
 #include "sofab.h"
+
+/* sofab_copy's answer where the output is too short, and this host's own where there is no memory for it. */
+enum { TOO_SHORT = -101, NO_MEMORY = -1000 };
 
 /* What is left of a file, with its length; NULL where it cannot be read or held. */
 static uint8_t *rest_of(FILE *f, size_t *len)
@@ -44,22 +49,80 @@ static uint8_t *slurp(const char *path, size_t *len)
     return bytes;
 }
 
+/* The manifest, with its length in `n`; NULL, with sofab_copy's answer in `n`, where there is none. Where the output was too short, it is
+ * asked again with twice the room. */
+uint8_t *host_manifest(const uint8_t *ticket, size_t len, int64_t *n)
+{
+    uint8_t *out = NULL;
+    for (size_t room = 64;; room *= 2) {
+        uint8_t *more = realloc(out, room);
+        *n = more ? sofab_copy(ticket, len, more, room) : NO_MEMORY;
+        if (more)
+            out = more;
+        if (*n != TOO_SHORT)
+            break;
+    }
+    if (*n < 0) {
+        free(out);
+        out = NULL;
+    }
+    return out;
+}
+
+static const char *word(int64_t verdict)
+{
+    return verdict == 0 ? "complete" : verdict == 1 ? "incomplete" : "broken";
+}
+
+static int verdicts(char **paths, int count)
+{
+    int status = 0;
+    for (int i = 0; i < count; i++) {
+        size_t len = 0;
+        uint8_t *ticket = slurp(paths[i], &len);
+        if (!ticket)
+            return 2;
+        int64_t verdict = sofab_verdict(ticket, len);
+        printf("%s: %s\n", paths[i], word(verdict));
+        status |= verdict != 0;
+        free(ticket);
+    }
+    return status;
+}
+
+static int manifest(const char *path)
+{
+    size_t len = 0;
+    uint8_t *ticket = slurp(path, &len);
+    if (!ticket)
+        return 2;
+    int64_t n = 0;
+    uint8_t *out = host_manifest(ticket, len, &n);
+    free(ticket);
+    if (!out) {
+        fprintf(stderr, "%s: %s\n", path, n == -2 ? "broken" : n == -100 ? "incomplete" : "no memory for the manifest");
+        return n == NO_MEMORY ? 2 : 1;
+    }
+    fwrite(out, 1, (size_t)n, stdout);
+    free(out);
+    return 0;
+}
+
+#ifndef HOST_WITHOUT_MAIN
 int main(int argc, char **argv)
 {
-    int broken = 0;
-    for (int i = 1; i < argc; i++) {
-        size_t len = 0;
-        uint8_t *bytes = slurp(argv[i], &len);
-        if (!bytes)
-            return 2;
-        int64_t verdict = sofab_verdict(bytes, len);
-        printf("%s: %s\n", argv[i], verdict == 0 ? "complete" : verdict == 1 ? "incomplete" : "broken");
-        broken |= verdict < 0;
-        free(bytes);
-    }
-    if (fclose(stdout)) {
+    int status = 2;
+    if (argc > 2 && !strcmp(argv[1], "verdict"))
+        status = verdicts(argv + 2, argc - 2);
+    else if (argc == 3 && !strcmp(argv[1], "manifest"))
+        status = manifest(argv[2]);
+    else
+        fprintf(stderr, "usage: %s verdict FILE..., or %s manifest FILE\n", argv[0], argv[0]);
+    int unwritten = ferror(stdout);
+    if (fclose(stdout) || unwritten) {
         perror("standard output");
         return 2;
     }
-    return broken;
+    return status;
 }
+#endif

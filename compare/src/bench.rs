@@ -9,6 +9,10 @@ use std::time::Duration;
 extern "C" {
     fn bench_read(bytes: *const u8, len: usize, size: usize) -> u64;
     fn bench_gather(payload: *const u8, len: usize, size: usize, buf: *mut u8, buf_len: usize) -> u64;
+}
+
+#[link(name = "bench_writer", kind = "static")]
+extern "C" {
     fn bench_write(kind: u32, n: usize, data: *const u8, data_len: usize, buf: *mut u8, buf_len: usize, out: *mut u8, out_len: usize) -> u64;
 }
 

@@ -1,6 +1,6 @@
-// Loops over the port's calls, for the benchmark in compare/: the same work as the loops over the Rust there, and the same digests.
+// Loops over the reader's and the gatherer's calls, for the benchmark in compare/: the same work as the loops over the Rust there, and the
+// same digests.
 mod reading;
-mod writing;
 
 // Reads the bytes in chunks of `size` bytes (0: whole), and answers a digest of the events.
 #[no_mangle]
@@ -16,16 +16,4 @@ pub extern "C" fn bench_read(bytes: &[u8], size: usize) -> u64 {
 #[no_mangle]
 pub extern "C" fn bench_gather(payload: &[u8], size: usize, buf: &mut [u8]) -> u64 {
     reading::gather(payload, size, buf)
-}
-
-// Writes n fields of a kind through the buffer, drains it into `out`, and answers how many bytes went there.
-#[no_mangle]
-pub extern "C" fn bench_write(
-    kind: u32,
-    n: usize,
-    data: &[u8],
-    buf: &mut [u8],
-    out: &mut [u8],
-) -> u64 {
-    writing::fields(kind, n, data, buf, out)
 }

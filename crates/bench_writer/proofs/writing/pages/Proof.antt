@@ -1,14 +1,14 @@
--- `bench::writing::nests` is safe and ends.
+-- `bench_writer::writing::pages` is safe and ends.
 use mathlib.Core.Path.{_≡_}
 use lib.ListN.{length}
 use Prim.Native.Nat.{_-_, _≤_}
 use borrow.Author.Needs.{needs}
-use Rattle.bench.proofs.writing.nests.Statement.{statement}
-use Rattle.bench.proofs.writing.nests.Tie as tie
-use Rattle.bench.proofs.writing.nests.Reads as reads
-use Rattle.bench.proofs.writing.nests.Lts as lts
-use Rattle.bench.proofs.writing.one_nest.Reads as one-nest-reads
-use Rattle.bench.proofs.writing.start.Reads as start-reads
+use Rattle.bench_writer.proofs.writing.pages.Statement.{statement}
+use Rattle.bench_writer.proofs.writing.pages.Tie as tie
+use Rattle.bench_writer.proofs.writing.pages.Reads as reads
+use Rattle.bench_writer.proofs.writing.pages.Lts as lts
+use Rattle.bench_writer.proofs.writing.one_page.Reads as one-page-reads
+use Rattle.bench_writer.proofs.writing.start.Reads as start-reads
 
 abbrev Inv-loop : tie.InvT-loop
 Inv-loop n «data» buf₀ out₀ r₀ i₀ buf out r i = (length buf ≡ length buf₀) × (length out ≡ length out₀) × (i ≤ n)
@@ -25,8 +25,8 @@ loop-holds c = search needs
 sub-loop : tie.Need-sub-loop Inv-loop μ-loop
 sub-loop c = search needs
 
-one-nest-requires : tie.Need-one-nest-requires Inv-loop μ-loop
-one-nest-requires c κs = search needs
+one-page-requires : tie.Need-one-page-requires Inv-loop μ-loop
+one-page-requires c κs = search needs
 
 add-i : tie.Need-add-i Inv-loop μ-loop
 add-i c = search needs
@@ -46,8 +46,8 @@ same-length-2 c = search needs
 returns : tie.Need-returns Inv-loop μ-loop
 returns c = search needs
 
-pub nests-spec : {M : Type 1} → statement M
-nests-spec =
+pub pages-spec : {M : Type 1} → statement M
+pages-spec =
     tie.close
     (tie.spec
     Inv-loop
@@ -55,7 +55,7 @@ nests-spec =
     start-requires
     loop-holds
     sub-loop
-    one-nest-requires
+    one-page-requires
     add-i
     loop-less
     loop-again

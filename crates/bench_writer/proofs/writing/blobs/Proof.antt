@@ -1,14 +1,15 @@
--- `bench::writing::pages` is safe and ends.
+-- `bench_writer::writing::blobs` is safe and ends.
 use mathlib.Core.Path.{_≡_}
 use lib.ListN.{length}
 use Prim.Native.Nat.{_-_, _≤_}
 use borrow.Author.Needs.{needs}
-use Rattle.bench.proofs.writing.pages.Statement.{statement}
-use Rattle.bench.proofs.writing.pages.Tie as tie
-use Rattle.bench.proofs.writing.pages.Reads as reads
-use Rattle.bench.proofs.writing.pages.Lts as lts
-use Rattle.bench.proofs.writing.one_page.Reads as one-page-reads
-use Rattle.bench.proofs.writing.start.Reads as start-reads
+use Rattle.bench_writer.proofs.writing.blobs.Statement.{statement}
+use Rattle.bench_writer.proofs.writing.blobs.Tie as tie
+use Rattle.bench_writer.proofs.writing.blobs.Reads as reads
+use Rattle.bench_writer.proofs.writing.blobs.Lts as lts
+use Rattle.bench_writer.proofs.writing.rest.Reads as rest-reads
+use Rattle.bench_writer.proofs.writing.start.Reads as start-reads
+use Rattle.bench_writer.proofs.writing.which.Reads as which-reads
 
 abbrev Inv-loop : tie.InvT-loop
 Inv-loop n «data» buf₀ out₀ r₀ i₀ buf out r i = (length buf ≡ length buf₀) × (length out ≡ length out₀) × (i ≤ n)
@@ -22,11 +23,11 @@ start-requires c κs = search needs
 loop-holds : tie.Need-loop-holds Inv-loop μ-loop
 loop-holds c = search needs
 
-sub-loop : tie.Need-sub-loop Inv-loop μ-loop
-sub-loop c = search needs
+which-requires : tie.Need-which-requires Inv-loop μ-loop
+which-requires c κs = search needs
 
-one-page-requires : tie.Need-one-page-requires Inv-loop μ-loop
-one-page-requires c κs = search needs
+rest-requires : tie.Need-rest-requires Inv-loop μ-loop
+rest-requires c κs = search needs
 
 add-i : tie.Need-add-i Inv-loop μ-loop
 add-i c = search needs
@@ -46,16 +47,16 @@ same-length-2 c = search needs
 returns : tie.Need-returns Inv-loop μ-loop
 returns c = search needs
 
-pub pages-spec : {M : Type 1} → statement M
-pages-spec =
+pub blobs-spec : {M : Type 1} → statement M
+blobs-spec =
     tie.close
     (tie.spec
     Inv-loop
     μ-loop
     start-requires
     loop-holds
-    sub-loop
-    one-page-requires
+    which-requires
+    rest-requires
     add-i
     loop-less
     loop-again

@@ -1,17 +1,17 @@
--- `bench::writing::settings` is safe and ends.
+-- `bench_writer::writing::settings` is safe and ends.
 use mathlib.Core.Path.{_≡_, ap, _∙_}
 use mathlib.Core.Logic.{⊎-elim}
 use lib.ListN.{length}
 use Prim.Native.Nat.{_-_, _≤_}
 use borrow.Author.Needs.{needs}
-use Rattle.bench.proofs.writing.settings.Statement.{statement}
-use Rattle.bench.proofs.writing.settings.Tie as tie
-use Rattle.bench.proofs.writing.settings.Reads as reads
-use Rattle.bench.proofs.writing.settings.Lts as lts
-use Rattle.bench.proofs.writing.anew.Reads as anew-reads
-use Rattle.bench.proofs.writing.rest.Reads as rest-reads
-use Rattle.bench.proofs.writing.setting.Reads as setting-reads
-use Rattle.bench.proofs.writing.which.Reads as which-reads
+use Rattle.bench_writer.proofs.writing.settings.Statement.{statement}
+use Rattle.bench_writer.proofs.writing.settings.Tie as tie
+use Rattle.bench_writer.proofs.writing.settings.Reads as reads
+use Rattle.bench_writer.proofs.writing.settings.Lts as lts
+use Rattle.bench_writer.proofs.writing.anew.Reads as anew-reads
+use Rattle.bench_writer.proofs.writing.rest.Reads as rest-reads
+use Rattle.bench_writer.proofs.writing.setting.Reads as setting-reads
+use Rattle.bench_writer.proofs.writing.which.Reads as which-reads
 use Rattle.ostream.proofs.OStream.write_unsigned.Reads as write-unsigned-reads
 
 abbrev Inv-loop : tie.InvT-loop

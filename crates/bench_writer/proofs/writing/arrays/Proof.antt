@@ -1,17 +1,17 @@
--- `bench::writing::arrays` is safe and ends.
+-- `bench_writer::writing::arrays` is safe and ends.
 use mathlib.Core.Path.{_≡_, ap, _∙_}
 use mathlib.Core.Logic.{⊎-elim}
 use lib.ListN.{length}
 use Prim.Native.Nat.{_-_, _≤_}
 use borrow.Author.Needs.{needs}
-use Rattle.bench.proofs.writing.arrays.Statement.{statement}
-use Rattle.bench.proofs.writing.arrays.Tie as tie
-use Rattle.bench.proofs.writing.arrays.Reads as reads
-use Rattle.bench.proofs.writing.arrays.Lts as lts
-use Rattle.bench.proofs.writing.anew.Reads as anew-reads
-use Rattle.bench.proofs.writing.array.Reads as array-reads
-use Rattle.bench.proofs.writing.rest.Reads as rest-reads
-use Rattle.bench.proofs.writing.which.Reads as which-reads
+use Rattle.bench_writer.proofs.writing.arrays.Statement.{statement}
+use Rattle.bench_writer.proofs.writing.arrays.Tie as tie
+use Rattle.bench_writer.proofs.writing.arrays.Reads as reads
+use Rattle.bench_writer.proofs.writing.arrays.Lts as lts
+use Rattle.bench_writer.proofs.writing.anew.Reads as anew-reads
+use Rattle.bench_writer.proofs.writing.array.Reads as array-reads
+use Rattle.bench_writer.proofs.writing.rest.Reads as rest-reads
+use Rattle.bench_writer.proofs.writing.which.Reads as which-reads
 use Rattle.ostream.proofs.OStream.new.Reads as new-reads
 
 abbrev Inv-loop : tie.InvT-loop

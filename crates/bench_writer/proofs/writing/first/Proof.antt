@@ -1,10 +1,10 @@
--- `bench::writing::first` is safe: the part has the length that is asked for.
+-- `bench_writer::writing::first` is safe: the part has the length that is asked for.
 use lib.ListN.{length}
 use lib.Seq.{length-take-le}
 use mathlib.Core.Path.{sym}
 use borrow.Author.Needs.{needs}
-use Rattle.bench.proofs.writing.first.Statement.{statement}
-use Rattle.bench.proofs.writing.first.Tie as tie
+use Rattle.bench_writer.proofs.writing.first.Statement.{statement}
+use Rattle.bench_writer.proofs.writing.first.Tie as tie
 
 slice-aggregate-result : tie.Need-slice-aggregate-result
 slice-aggregate-result c = sym (length-take-le _ _ (c .before .if1 .taken))

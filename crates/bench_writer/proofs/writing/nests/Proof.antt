@@ -1,15 +1,14 @@
--- `bench::writing::blobs` is safe and ends.
+-- `bench_writer::writing::nests` is safe and ends.
 use mathlib.Core.Path.{_≡_}
 use lib.ListN.{length}
 use Prim.Native.Nat.{_-_, _≤_}
 use borrow.Author.Needs.{needs}
-use Rattle.bench.proofs.writing.blobs.Statement.{statement}
-use Rattle.bench.proofs.writing.blobs.Tie as tie
-use Rattle.bench.proofs.writing.blobs.Reads as reads
-use Rattle.bench.proofs.writing.blobs.Lts as lts
-use Rattle.bench.proofs.writing.rest.Reads as rest-reads
-use Rattle.bench.proofs.writing.start.Reads as start-reads
-use Rattle.bench.proofs.writing.which.Reads as which-reads
+use Rattle.bench_writer.proofs.writing.nests.Statement.{statement}
+use Rattle.bench_writer.proofs.writing.nests.Tie as tie
+use Rattle.bench_writer.proofs.writing.nests.Reads as reads
+use Rattle.bench_writer.proofs.writing.nests.Lts as lts
+use Rattle.bench_writer.proofs.writing.one_nest.Reads as one-nest-reads
+use Rattle.bench_writer.proofs.writing.start.Reads as start-reads
 
 abbrev Inv-loop : tie.InvT-loop
 Inv-loop n «data» buf₀ out₀ r₀ i₀ buf out r i = (length buf ≡ length buf₀) × (length out ≡ length out₀) × (i ≤ n)
@@ -23,11 +22,11 @@ start-requires c κs = search needs
 loop-holds : tie.Need-loop-holds Inv-loop μ-loop
 loop-holds c = search needs
 
-which-requires : tie.Need-which-requires Inv-loop μ-loop
-which-requires c κs = search needs
+sub-loop : tie.Need-sub-loop Inv-loop μ-loop
+sub-loop c = search needs
 
-rest-requires : tie.Need-rest-requires Inv-loop μ-loop
-rest-requires c κs = search needs
+one-nest-requires : tie.Need-one-nest-requires Inv-loop μ-loop
+one-nest-requires c κs = search needs
 
 add-i : tie.Need-add-i Inv-loop μ-loop
 add-i c = search needs
@@ -47,16 +46,16 @@ same-length-2 c = search needs
 returns : tie.Need-returns Inv-loop μ-loop
 returns c = search needs
 
-pub blobs-spec : {M : Type 1} → statement M
-blobs-spec =
+pub nests-spec : {M : Type 1} → statement M
+nests-spec =
     tie.close
     (tie.spec
     Inv-loop
     μ-loop
     start-requires
     loop-holds
-    which-requires
-    rest-requires
+    sub-loop
+    one-nest-requires
     add-i
     loop-less
     loop-again

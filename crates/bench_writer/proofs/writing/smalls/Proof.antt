@@ -1,17 +1,17 @@
--- `bench::writing::longs` is safe and ends.
+-- `bench_writer::writing::smalls` is safe and ends.
 use mathlib.Core.Path.{_≡_, ap, _∙_}
 use mathlib.Core.Logic.{⊎-elim}
 use lib.ListN.{length}
 use Prim.Native.Nat.{_-_, _≤_}
 use borrow.Author.Needs.{needs}
-use Rattle.bench.proofs.writing.longs.Statement.{statement}
-use Rattle.bench.proofs.writing.longs.Tie as tie
-use Rattle.bench.proofs.writing.longs.Reads as reads
-use Rattle.bench.proofs.writing.longs.Lts as lts
-use Rattle.bench.proofs.writing.anew.Reads as anew-reads
-use Rattle.bench.proofs.writing.long.Reads as long-reads
-use Rattle.bench.proofs.writing.rest.Reads as rest-reads
-use Rattle.bench.proofs.writing.which.Reads as which-reads
+use Rattle.bench_writer.proofs.writing.smalls.Statement.{statement}
+use Rattle.bench_writer.proofs.writing.smalls.Tie as tie
+use Rattle.bench_writer.proofs.writing.smalls.Reads as reads
+use Rattle.bench_writer.proofs.writing.smalls.Lts as lts
+use Rattle.bench_writer.proofs.writing.anew.Reads as anew-reads
+use Rattle.bench_writer.proofs.writing.rest.Reads as rest-reads
+use Rattle.bench_writer.proofs.writing.small.Reads as small-reads
+use Rattle.bench_writer.proofs.writing.which.Reads as which-reads
 use Rattle.ostream.proofs.OStream.new.Reads as new-reads
 
 abbrev Inv-loop : tie.InvT-loop
@@ -26,8 +26,8 @@ new-requires c κs = search needs
 loop-holds : tie.Need-loop-holds Inv-loop μ-loop
 loop-holds c = search needs
 
-long-requires : tie.Need-long-requires Inv-loop μ-loop
-long-requires c κs = search needs
+small-requires : tie.Need-small-requires Inv-loop μ-loop
+small-requires c κs = search needs
 
 enum-known-answer : tie.Need-enum-known-answer Inv-loop μ-loop
 enum-known-answer c = search needs
@@ -52,7 +52,7 @@ loop-less c = search needs
 
 loop-again : tie.Need-loop-again Inv-loop μ-loop
 loop-again c = (
-  ⊎-elim (λ x. ap length (x .13) ∙ x .7 .kept .1 .1 .1 .1 .1 .0 ∙ c .before .before .before .before .long .kept .1 .1 .0 ∙ c .before .before .before .before .before .before .before .loop .inv .0) (λ x. ap length (x .1) ∙ search needs) (c .match .came),
+  ⊎-elim (λ x. ap length (x .13) ∙ x .7 .kept .1 .1 .1 .1 .1 .0 ∙ c .before .before .before .before .small .kept .1 .1 .0 ∙ c .before .before .before .before .before .before .before .loop .inv .0) (λ x. ap length (x .1) ∙ search needs) (c .match .came),
   ⊎-elim (λ x. ap length (x .14) ∙ x .7 .kept .1 .1 .1 .1 .1 .1 .0 ∙ c .before .before .before .before .before .before .before .loop .inv .1) (λ x. ap length (x .2) ∙ search needs) (c .match .came),
   search needs,
 )
@@ -66,15 +66,15 @@ same-length-2 c = search needs
 returns : tie.Need-returns Inv-loop μ-loop
 returns c = search needs
 
-pub longs-spec : {M : Type 1} → statement M
-longs-spec =
+pub smalls-spec : {M : Type 1} → statement M
+smalls-spec =
     tie.close
     (tie.spec
     Inv-loop
     μ-loop
     new-requires
     loop-holds
-    long-requires
+    small-requires
     enum-known-answer
     anew-requires
     which-requires

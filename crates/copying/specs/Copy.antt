@@ -1,5 +1,5 @@
 -- One call of the copier: a chunk is read event by event, and each event is written out again before the next is read.
--- "It stops at "full", at the verdict or at a refusal."
+-- It stops at "full", at the verdict or at a refusal.
 use Prim.Native.Nat.{ℕ, zero, suc, _+_, _-_, _*_}
 use mathlib.Core.Bool.{Bool, true, false}
 use mathlib.Core.List.{List, [], _∷_}

@@ -1,5 +1,5 @@
 -- What a list of writes comes to, by 01's rule for held sequences: "An opened sequence is held back until content or a keeping close
--- comes. Up to eight are held, outermost first; a ninth open writes all eight and itself. A plain close of a held one drops it."
+-- comes. Up to eight are held, outermost first, unused places zero; a ninth open writes all eight and itself. A plain close of a held one drops it."
 use Prim.Native.Nat.{ℕ}
 use mathlib.Core.Bool.{Bool, true, false}
 use mathlib.Core.Path.{_≡_}

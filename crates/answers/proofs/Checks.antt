@@ -6,7 +6,6 @@ use Prim.Native.Nat.{ℕ, _≤_}
 use native.Mathlib.Omega.{arith}
 use borrow.Author.Tests.{ltb-false, not-false}
 use Rattle.layout.specs.Limits.{base, pick}
-use Rattle.types.specs.declared.Error.{Error}
 use Rattle.answers.specs.declared.Check.{Check}
 use Rattle.answers.specs.Judged.{Test, Verdict, accepted, refusedWith, judged, checkOf}
 use Rattle.answers.specs.Tests.{unsoundWriter, idTooLarge, payloadTooLong}

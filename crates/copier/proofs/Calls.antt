@@ -1,34 +1,32 @@
 -- A whole call of the copier: the refusals in order, what is owed goes out first, and the loop goes on from there.
 use mathlib.Core.Path.{_≡_, refl, sym, ap, _∙_, subst}
 use mathlib.Core.Bool.{Bool, true, false, _&&_}
-use mathlib.Core.List.{List, [], _∷_}
-use Prim.Native.Nat.{ℕ, suc, _+_, _-_, _<_, _≤_}
+use mathlib.Core.List.{List}
+use Prim.Native.Nat.{ℕ, _+_, _-_, _<_, _≤_}
 use native.Mathlib.Omega.{arith}
-use lib.Dec.{leb, eqb}
-use lib.ListN.{length, take, drop, length-drop}
-use lib.Seq.{take-all}
+use lib.Dec.{eqb}
+use lib.ListN.{length, drop, length-drop}
 use borrow.Author.Tests.{leb-true, le-leb, eqb-true}
-use Rattle.layout.specs.Limits.{base, pick}
+use Rattle.layout.specs.Limits.{base}
 use Rattle.machine.specs.Call.{State, reading, owing, broke, fresh}
 use Rattle.types.specs.declared.Error.the-variants.{UnsoundReader, UnsoundWriter, InvalidMsg}
 use Rattle.istream.specs.declared.IStream.{IStream}
 use Rattle.phase.specs.declared.Phase as code
 use Rattle.phase.specs.declared.Phase.the-variants as phases
-use Rattle.phase.specs.Phases.{stateAt, soundPhase}
+use Rattle.phase.specs.Phases.{stateAt}
 use Rattle.istream.specs.Stream.{stateOf, streamIn, soundStream}
 use Rattle.phase.proofs.Phases.{Live}
 use Rattle.istream.proofs.Calls.{stream-back}
 use Rattle.phase.proofs.Phases.{both}
 use Rattle.emit.specs.Put.{put, reached}
 use Rattle.emit.proofs.Writes.{length-put, reached-le}
-use Rattle.ostream.specs.declared.OStream.{OStream}
 use Rattle.ostream.specs.declared.Counted.{Counted}
 use Rattle.ostream.specs.declared.Written.{Written}
 use Rattle.ostream.specs.Stream as writer
 use Rattle.ostream.specs.Buffer.{opening, draining, changing}
 use Rattle.copying.specs.Owed as copying
 use Rattle.copying.specs.Owed.{nothing, owes, rest, further, depthBy, depthOnce, agrees, soundOwed}
-use Rattle.copying.specs.Copy.{Copy, full, Copied, settled, filled, copy}
+use Rattle.copying.specs.Copy.{full, Copied, settled, filled, copy}
 use Rattle.copying.proofs.Turns.{copy-full, copy-settles}
 use Rattle.owed.specs.declared.Owed.{Owed}
 use Rattle.owed.specs.declared.Owed.the-variants as owed
@@ -40,9 +38,9 @@ use Rattle.copier.specs.declared.Answer.the-variants.{Full}
 use Rattle.copier.specs.declared.Opening.{Opening}
 use Rattle.copier.specs.declared.Stop.{Stop}
 use Rattle.copier.specs.declared.Copied as results
-use Rattle.copier.specs.Copier.{copyOf, copierIn, soundReader, soundWriter}
-use Rattle.copier.specs.Calls.{Left, Said, leftBy, leftIn, untouched, carried, copied, Opens, opensOf, opensIn, startedBy, started, Started, sendsOf, Sent, drained, changed}
-use Rattle.copier.specs.Turns.{isBroke, refused, standing, leftAs, stopLeft, Stops, Ran, Ready, finished}
+use Rattle.copier.specs.Copier.{copyOf, soundReader, soundWriter}
+use Rattle.copier.specs.Calls.{Said, leftBy, leftIn, untouched, carried, copied, Opens, opensOf, opensIn, startedBy, started, sendsOf, Sent, drained, changed}
+use Rattle.copier.specs.Turns.{isBroke, refused, leftAs, Stops, Ran, Ready, finished}
 use Rattle.copier.proofs.Tests.{sound-whole}
 
 -- ---- a sound copier

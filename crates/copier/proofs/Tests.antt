@@ -4,8 +4,7 @@ use mathlib.Core.Bool.{Bool, true, false}
 use mathlib.Core.List.{List, [], _∷_}
 use Prim.Native.Nat.{ℕ, _-_, _<_, _≤_}
 use native.Mathlib.Omega.{arith}
-use lib.Dec.{leb}
-use lib.ListN.{length, take, drop}
+use lib.ListN.{length, drop}
 use borrow.Author.Tests.{lt-leb, le-leb}
 use types.Run.{OneOf, miss}
 use denote.Enum.Declared.{tagOf}

@@ -21,8 +21,8 @@ use Rattle.machine.proofs.Calls.{FairPlace, weight, Judged, Closes}
 use Rattle.types.specs.Types.{rawSort}
 use Rattle.types.specs.declared.RawType.{RawType}
 use Rattle.varint.proofs.Laws.{sound-start}
-use Rattle.event.specs.Event.{eventOf, declared}
-use Rattle.event.proofs.Laws.{InRange, declared-back}
+use Rattle.event.specs.Event.{declared}
+use Rattle.event.proofs.Laws.{declared-back}
 use Rattle.istream.specs.declared.IStream.{IStream}
 use Rattle.istream.specs.declared.Fed.{Fed}
 use Rattle.phase.specs.declared.Phase as code
@@ -46,17 +46,16 @@ use Rattle.copying.specs.Copy.{Copy, after, settled, filled, gone, handed, stuc
 use Rattle.copying.proofs.Turns.{copy-full, copy-settles, copy-stuck, copy-turn, Heard, turn-heard, paced, handed-is}
 use Rattle.owed.specs.declared.Owed.{Owed}
 use Rattle.owed.specs.Owed.{owe, outputOf, outputBytes}
-use Rattle.owed.proofs.Laws.{owe-any, spelled-event, Spelt}
+use Rattle.owed.proofs.Laws.{owe-any, spelled-event}
 use Rattle.owed.specs.declared.Owed.the-variants.{Nothing}
 use Rattle.copier.specs.declared.Stop.{Stop}
 use Rattle.copier.specs.declared.Copier.{Copier}
-use Rattle.copier.specs.declared.Turn.{Turn}
 use Rattle.copier.specs.declared.Turn.the-variants as turns
 use Rattle.copier.specs.declared.Answer.the-variants.{Full, Status}
 use Rattle.copier.specs.Copier.{copierIn}
 use Rattle.copier.specs.Calls as says
 use Rattle.copier.specs.Calls.{Said, Left, saidOf}
-use Rattle.copier.specs.Turns.{standing, leftAs, stopLeft, Stops, fullStop, eventTurn, eventBuf, heardTurn, heardBuf, Went, Turned, Ran, pastPiece, InPayload, later}
+use Rattle.copier.specs.Turns.{standing, leftAs, fullStop, eventTurn, eventBuf, heardTurn, heardBuf, Went, Turned, Ran, pastPiece, InPayload, later}
 use Rattle.copier.proofs.Events.{AtEvent, Bytes, Steady, call-level, fair, to-bytes}
 
 -- ---- what the reader is handed

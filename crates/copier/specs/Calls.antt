@@ -1,6 +1,6 @@
 -- The copier's calls: what each says, in 01's words and numbers, and the state and the buffer that it leaves.
 use Prim.Native.Nat.{ℕ}
-use mathlib.Core.Bool.{Bool, true, false}
+use mathlib.Core.Bool.{true}
 use mathlib.Core.List.{List}
 use lib.ListN.{length}
 use Rattle.layout.specs.Limits.{base, pick}

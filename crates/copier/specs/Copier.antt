@@ -3,7 +3,7 @@ use Prim.Native.Nat.{ℕ}
 use mathlib.Core.Bool.{Bool, true, _&&_}
 use lib.Dec.{eqb}
 use Rattle.layout.specs.Limits.{base}
-use Rattle.machine.specs.Call.{State, reading, owing, broke}
+use Rattle.machine.specs.Call.{reading, owing, broke}
 use Rattle.istream.specs.declared.IStream.{IStream}
 use Rattle.istream.specs.Stream as reader
 use Rattle.istream.specs.Stream.{stateOf, streamIn}

@@ -4,7 +4,6 @@ ghost use mathlib.Core.Path.{_≡_};
 ghost use mathlib.Core.Bool.{true};
 ghost use Prim.Native.Nat.{_+_, _<_, _≤_, min};
 ghost use lib.ListN.{length};
-ghost use Rattle.machine.specs.Call.{broke};
 ghost use Rattle.copying.specs.Owed.{dueIn, owesNothing};
 ghost use Rattle.istream.specs.Stream.{stateOf, soundStream};
 ghost use Rattle.phase.proofs.Phases.{Live};

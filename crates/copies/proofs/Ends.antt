@@ -14,7 +14,7 @@ use Rattle.laws.specs.Events.{encodeEvents}
 use Rattle.machine.specs.Run.{join}
 use Rattle.ostream.specs.Stream.{at, opened}
 use Rattle.copier.specs.Calls.{bytes, Started, Sent, over, changed}
-use Rattle.copies.specs.Desk.{Desk, openedAt, start, Act, feed, drain, change, stray, feeding, sending, act, acts, MayStand, Allowed}
+use Rattle.copies.specs.Desk.{Desk, openedAt, Act, feed, drain, change, stray, feeding, sending, act, acts, MayStand, Allowed}
 use Rattle.copies.specs.Stands.{out, goesOn, goings, enough, turns}
 use Rattle.copies.proofs.Sound.{drain-is, change-is, change-unfit, start-is}
 use Rattle.copies.proofs.Runs.{Fine, out-length, inside, moves, fine-act, fine-acts, stray-is}

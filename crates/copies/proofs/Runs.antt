@@ -1,6 +1,6 @@
 -- The copier's run theorem: whatever feeds, drains, buffer changes and refused calls come, what is out and what is owed are the bytes of the
 -- layout's events so far, each chunk ends as the layout says, and counted drains are no more than the bytes.
-use Prim.Native.Nat.{ℕ, suc, _+_, _-_, _≤_, _<_, min}
+use Prim.Native.Nat.{ℕ, suc, _+_, _≤_, _<_, min}
 use native.Mathlib.Omega.{arith}
 use mathlib.Core.Path.{_≡_, refl, sym, ap, _∙_, subst}
 use mathlib.Core.Logic.{_⊎_, inl, inr}

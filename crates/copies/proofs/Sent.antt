@@ -17,11 +17,10 @@ use Rattle.machine.proofs.Bridge.{events-walk}
 use Rattle.machine.proofs.Prefix.{broken-stays}
 use Rattle.machine.proofs.Runs.{verdict-broken}
 use Rattle.istream.specs.Stream.{stateOf}
-use Rattle.ostream.specs.Stream.{at}
 use Rattle.copying.specs.Owed.{rest, soundOwed}
 use Rattle.copying.proofs.Bound.{out-bound}
 use Rattle.copier.specs.Copier.{copyOf}
-use Rattle.copier.specs.Calls.{bytes, Started, started, Sent, over}
+use Rattle.copier.specs.Calls.{bytes, Started, started, Sent}
 use Rattle.copies.specs.Desk.{Desk, openedAt, Act, feed, drain, change, stray, sending, act, acts, MayStand, Allowed}
 use Rattle.copies.specs.Stands.{out, whole, Stands}
 use Rattle.copies.proofs.Sound.{is-sound, drain-is, start-is, started-sound}

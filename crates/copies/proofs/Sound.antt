@@ -1,6 +1,6 @@
 -- A fresh copier is sound for its buffer, and every call hands back a sound one from any sound state; refusals are 1, 6 and 2 alone, and
 -- where a call is refused nothing alters.
-use Prim.Native.Nat.{ℕ, zero, suc, _-_, _≤_, _<_}
+use Prim.Native.Nat.{ℕ, zero, suc, _≤_, _<_}
 use native.Mathlib.Omega.{arith}
 use mathlib.Core.Path.{_≡_, refl, sym, ap, _∙_, subst}
 use mathlib.Core.Logic.{_⊎_, inl, inr}
@@ -26,11 +26,10 @@ use Rattle.ostream.specs.declared.Counted.{Counted}
 use Rattle.ostream.specs.declared.Written.{Written}
 use Rattle.ostream.specs.Stream as writer
 use Rattle.ostream.specs.Stream.{at, opened}
-use Rattle.ostream.specs.Buffer.{opening, draining, changing}
 use Rattle.ostream.proofs.Called as writers
 use Rattle.ostream.proofs.Straight.{quiet}
 use Rattle.ostream.proofs.Buffers.{sound-at, opened-sound, unheld-clean, drained-is, drain-refused, fits, open-taken, open-refused, change-refused, change-unsound, change-taken}
-use Rattle.copying.specs.Owed.{nothing, agrees, soundOwed}
+use Rattle.copying.specs.Owed.{agrees, soundOwed}
 use Rattle.copying.specs.Copy as copying
 use Rattle.copying.specs.Copy.{Copied, copy}
 use Rattle.copying.proofs.Sound as counted

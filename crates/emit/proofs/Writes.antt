@@ -1,5 +1,5 @@
 -- Writes that stop at the buffer's end: one element at a time, and two in a row as one.
-use mathlib.Core.Path.{_≡_, refl, sym, ap, _∙_, subst}
+use mathlib.Core.Path.{_≡_, refl, sym, ap, _∙_}
 use mathlib.Core.List.{List, [], _∷_, _++_, append-assoc, append-nil}
 use mathlib.Core.Bool.{Bool, true, false}
 use lib.Dec.{leb}
@@ -7,8 +7,8 @@ use borrow.Author.Tests.{leb-true, leb-false}
 use Prim.Native.Nat.{ℕ, zero, suc, _+_, _-_, _≤_, _<_, min}
 use native.Mathlib.Nat.{add-assoc}
 use native.Mathlib.Omega.{arith}
-use lib.ListN.{length, take, drop, set, take-append-drop, length-append, length-take, length-drop, length-set, drop-of-length-le}
-use lib.Seq.{length-take-le, take-at, drop-at, drop-drop, set-split, take-all, take-append-le, take-append-add, drop-append-le, drop-append-add}
+use lib.ListN.{length, take, drop, set, take-append-drop, length-append, length-take, length-drop}
+use lib.Seq.{length-take-le, take-at, drop-at, drop-drop, set-split, take-all, take-append-le, take-append-add}
 use Rattle.emit.specs.Put.{over, put, reached}
 
 -- ---- a whole list over a buffer

@@ -11,10 +11,9 @@ use lib.Seq.{drop-length}
 use types.Run.{OneOf, miss}
 use denote.Enum.Declared.{tagOf}
 use borrow.Author.Tests.{leb-true, leb-false, le-leb, lt-leb}
-use Rattle.layout.specs.Limits.{base, pick}
+use Rattle.layout.specs.Limits.{base}
 use Rattle.layout.specs.Message.{Bytes, complete, verdictOf}
 use Rattle.layout.specs.Copy.{plainCopy}
-use Rattle.machine.specs.Call.{fresh}
 use Rattle.istream.specs.declared.Status.the-variants.{Complete, Incomplete}
 use Rattle.ostream.specs.declared.Written.{Written}
 use Rattle.ostream.specs.Stream.{opened}

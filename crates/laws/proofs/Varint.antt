@@ -12,7 +12,7 @@ use lib.Pow.{pow-pos}
 use borrow.Author.Tests.{ltb-true, ltb-false, leb-true, leb-false, lt-ltb, le-ltb, lt-leb}
 use Rattle.layout.specs.Limits.{Limits, lastPlace, lastBound}
 use Rattle.layout.specs.Varint.{whole, broken, push, varintFrom, varint, shortestIn, shortest, digit, more, value, overrun}
-use Rattle.varint.proofs.Shortest.{one-in, more-in, shortest-one, shortest-more, length-some}
+use Rattle.varint.proofs.Shortest.{one-in, more-in, shortest-one, shortest-more}
 use Rattle.layout.specs.Message.{Bytes}
 use Rattle.laws.proofs.Numbers.{last-small, last-whole}
 use Rattle.laws.proofs.Parser.{Got, Parses}

@@ -2,9 +2,9 @@
 use Prim.Native.Nat.{ℕ}
 use mathlib.Core.Path.{_≡_, refl}
 use mathlib.Core.List.{List, [], _∷_, _++_}
-use lib.ListN.{length, replicate}
-use lib.IntN.{ℤ, pos, negsuc}
-use Rattle.layout.specs.Limits.{base, pick, lastPlace, lastBound}
+use lib.ListN.{replicate}
+use lib.IntN.{pos, negsuc}
+use Rattle.layout.specs.Limits.{base}
 use Rattle.layout.specs.Varint.{push, varintFrom, shortestIn, shortest}
 use Rattle.layout.specs.Field.{Field, fp32, fp64, string, blob, float, raw, unsigneds, signeds, floats, lowBytes, each}
 use Rattle.layout.specs.Field.{unsigned, signed, payload, unsignedArray, signedArray, floatArray, begin, end}

@@ -2,7 +2,7 @@
 use mathlib.Core.Path.{_≡_, refl, ap, _∙_}
 use mathlib.Core.Bool.{Bool, true, false}
 use mathlib.Core.List.{List, [], _∷_, _++_}
-use Prim.Native.Nat.{ℕ, zero, suc, _+_, _-_, _*_, _/_, _%_, _^_, _≤_, _<_, min}
+use Prim.Native.Nat.{ℕ, zero, suc, _+_, _-_, _*_, _/_, _^_, _≤_, _<_, min}
 use native.Mathlib.Omega.{arith}
 use lib.Dec.{leb, lit≤}
 use lib.IntN.{ℤ, pos, negsuc}
@@ -16,7 +16,7 @@ use Rattle.layout.specs.Message.{All, Bytes}
 use Rattle.emit.specs.Put.{over}
 use Rattle.emit.proofs.Writes.{put-is, reached-is}
 use Rattle.emit.proofs.Elements.{each-append}
-use Rattle.lines.specs.Lines.{decimalIn, decimal, signed, hexadecimal, parts, line, byteLine, linesOf}
+use Rattle.lines.specs.Lines.{decimalIn, decimal, signed, hexadecimal, parts, byteLine, linesOf}
 use Rattle.lines.specs.Spelled.{Puts}
 use Rattle.lines.proofs.Numbers.{one-digit, more-digits}
 

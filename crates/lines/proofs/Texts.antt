@@ -10,7 +10,6 @@ use lib.Dec.{leb}
 use lib.ListN.{length, take, drop, getD, length-take, drop-of-length-le}
 use borrow.Author.Tests.{leb-true, leb-false}
 use Rattle.layout.specs.Field.{each}
-use Rattle.emit.specs.Put.{put, reached}
 use Rattle.emit.proofs.Writes.{put-none, put-full, reached-is, length-put}
 use Rattle.emit.proofs.Elements.{each-append}
 use Rattle.emit.proofs.Turns.{start, followed, followed-by}

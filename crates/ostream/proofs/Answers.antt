@@ -1,7 +1,7 @@
 -- For those who run a writer: what a writing call answers, and what it leaves, by whether it is refused, whether its place lies within its
 -- output, and whether there is room for the rest.
-use mathlib.Core.Path.{_≡_, refl, sym, ap, _∙_}
-use mathlib.Core.Bool.{Bool, true, false}
+use mathlib.Core.Path.{_≡_, ap, _∙_}
+use mathlib.Core.Bool.{true, false}
 use mathlib.Core.List.{List}
 use Prim.Native.Nat.{ℕ, _+_, _-_, _≤_, _<_}
 use lib.Dec.{leb, ltb}
@@ -12,7 +12,6 @@ use Rattle.types.specs.Types.{refusal}
 use Rattle.emit.specs.Put.{put}
 use Rattle.ostream.specs.declared.OStream.{OStream}
 use Rattle.ostream.specs.declared.Answer.the-variants.{Done, Full}
-use Rattle.ostream.specs.declared.Written.{Written}
 use Rattle.ostream.specs.Stream.{at}
 use Rattle.ostream.specs.Emission.{Verdict, accepted, refusedWith, judged, refused, Call, answered, left, called, leaves, calledBy, leavesBy}
 

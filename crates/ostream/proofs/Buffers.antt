@@ -1,21 +1,19 @@
 -- For those who run a writer through drains and buffer changes: what the calls about buffers come to, taken and refused, and which states
 -- stay sound.
 use mathlib.Core.Path.{_≡_, refl, sym, ap, _∙_}
-use mathlib.Core.Bool.{Bool, true, false, _&&_}
+use mathlib.Core.Bool.{Bool, true, false}
 use mathlib.Core.List.{List, [], _∷_}
-use Prim.Native.Nat.{ℕ, _+_, _≤_, _<_}
+use Prim.Native.Nat.{ℕ, _≤_, _<_}
 use native.Mathlib.Omega.{arith}
-use lib.Dec.{leb, ltb, eqb}
-use lib.ListN.{length, take, drop, replicate}
+use lib.Dec.{leb, eqb}
+use lib.ListN.{length, drop, replicate}
 use borrow.Author.Tests.{leb-false, ltb-false, eqb-true, le-leb, lt-leb, le-ltb}
 use Rattle.types.specs.Types.{refusal}
 use Rattle.held.specs.Places.{clean}
 use Rattle.straight.proofs.Straight.{clean-zeros}
 use Rattle.ostream.specs.declared.OStream.{OStream}
 use Rattle.ostream.specs.declared.Answer.the-variants.{Done}
-use Rattle.ostream.specs.declared.Written.{Written}
 use Rattle.ostream.specs.declared.Count.the-variants.{Bytes, Refused}
-use Rattle.ostream.specs.declared.Counted.{Counted}
 use Rattle.ostream.specs.Stream.{every, lazyDepth, soundStream, at, opened}
 use Rattle.ostream.specs.Emission.{refused}
 use Rattle.ostream.specs.Buffer.{badBuffer, opening, draining, changing}

@@ -1,12 +1,11 @@
 -- A float field, from its bytes.
-use mathlib.Core.Path.{_≡_, refl, sym, ap, _∙_, subst}
-use mathlib.Core.List.{List, [], _∷_, _++_}
+use mathlib.Core.Path.{_≡_, refl, ap, _∙_}
+use mathlib.Core.List.{List, _++_}
 use Prim.Native.Nat.{ℕ}
 use lib.ListN.{length}
 use Rattle.layout.specs.Field.{Width, fp32, fp64, bytesOf, float, header, word, lowBytes, T-fixlen}
 use Rattle.layout.specs.Copy.{fieldBytes}
-use Rattle.types.specs.declared.FixlenType.{FixlenType}
-use Rattle.types.specs.Types.{subtype, fixlenType}
+use Rattle.types.specs.Types.{fixlenType}
 use Rattle.emit.proofs.Low.{length-low}
 use Rattle.ostream.specs.declared.OStream.{OStream}
 use Rattle.ostream.specs.declared.Written.{Written}

@@ -1,7 +1,7 @@
 -- Writing straight away: what the tests of a field that holds nothing say of the state, and a call that is made so.
 use mathlib.Core.Path.{_≡_, refl, sym, ap, _∙_, subst}
 use mathlib.Core.List.{List, [], _∷_, _++_}
-use mathlib.Core.Bool.{Bool, true, _&&_}
+use mathlib.Core.Bool.{true, _&&_}
 use Prim.Native.Nat.{ℕ, _+_, _≤_, _<_}
 use native.Mathlib.Omega.{arith}
 use lib.Dec.{leb, eqb}
@@ -17,7 +17,7 @@ use Rattle.straight.proofs.Straight.{has-room}
 use Rattle.ostream.specs.declared.OStream.{OStream}
 use Rattle.ostream.specs.declared.Answer.the-variants.{Done}
 use Rattle.ostream.specs.declared.Written.{Written}
-use Rattle.ostream.specs.Stream.{every, soundStream, lazyDepth, heldBytes, committed, at}
+use Rattle.ostream.specs.Stream.{every, soundStream, lazyDepth, heldBytes, at}
 use Rattle.ostream.specs.Straight.{holds}
 use Rattle.ostream.specs.Calls.{unsound, idTooLarge, arrayTooLong, fieldTests}
 use Rattle.ostream.specs.Emission.{Call, accepted, judged, called, leaves}

@@ -1,6 +1,6 @@
 -- One call of the writer: its refusals in order, its whole output, and the state that it leaves once all of that is out.
 -- Every writing call is these three and a place in the output to go on from.
-use mathlib.Core.List.{List, [], _∷_}
+use mathlib.Core.List.{List}
 use Prim.Native.Nat.{ℕ, _+_, _-_}
 use lib.Dec.{leb, ltb}
 use lib.ListN.{length, drop}

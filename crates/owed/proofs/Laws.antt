@@ -1,5 +1,5 @@
 -- What is owed is the same event of the layout's however it is held, and its bytes are those that are written.
-use Prim.Native.Nat.{ℕ, zero, suc, _+_, _-_, _*_, _≤_, min}
+use Prim.Native.Nat.{ℕ, zero, suc, _+_, _-_, _≤_, min}
 use mathlib.Core.Path.{_≡_, refl, sym, ap, _∙_, subst}
 use mathlib.Core.Bool.{Bool, true, false, _&&_}
 use mathlib.Core.List.{List, [], _∷_, _++_}
@@ -9,7 +9,7 @@ use lib.Dec.{leb, ltb, eqb}
 use types.Run.{OneOf, miss}
 use denote.Enum.Declared.{tagOf}
 use Rattle.layout.specs.Limits.{base}
-use Rattle.layout.specs.Field.{Width, fp32, fp64, Raw, string, blob, Kind, unsigneds, signeds, floats, bytesOf, float, raw}
+use Rattle.layout.specs.Field.{fp32, fp64, string, blob, unsigneds, signeds, floats, bytesOf, float, raw}
 use Rattle.layout.specs.Event as layout
 use Rattle.laws.specs.Events.{eventBytes}
 use lib.IntN.{ℤ}

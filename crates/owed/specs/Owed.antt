@@ -1,6 +1,6 @@
 -- What a copier owes, as an event of the layout's and back; and, for private functions alone, its bytes and the parts of its soundness.
 use Prim.Native.Nat.{ℕ, suc, zero, _+_, _*_}
-use mathlib.Core.Bool.{Bool, true, false, _&&_}
+use mathlib.Core.Bool.{Bool, true, _&&_}
 use mathlib.Core.List.{List, [], _++_}
 use lib.Dec.{leb, ltb, eqb}
 use lib.ListN.{length}

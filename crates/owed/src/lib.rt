@@ -10,7 +10,6 @@ ghost use Rattle.layout.specs.Limits.{base};
 ghost use Rattle.copying.specs.Owed.{agrees};
 ghost use Rattle.event.specs.Event.{eventOf};
 ghost use Rattle.emit.specs.Put.{put, reached};
-ghost use Rattle.emit.specs.Cursor.{placed, moved};
 ghost use Rattle.owed.specs.Owed.{owedOf, owe, arrayOutput, outputOf, outputBytes, levelOf, legalOf, placeIsIn};
 use emit::Cursor;
 use emit::put_fitting;

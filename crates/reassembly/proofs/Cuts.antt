@@ -1,13 +1,12 @@
 -- A list of events whose pieces, cut into bytes, are a payload's, has that payload's pieces in order.
-use Prim.Native.Nat.{ℕ, zero, suc, _+_}
+use Prim.Native.Nat.{ℕ, suc, _+_}
 use native.Mathlib.Omega.{arith}
-use native.Mathlib.Nat.{add-assoc}
 use mathlib.Core.Path.{_≡_, refl, sym, ap, _∙_, subst}
-use mathlib.Core.List.{List, [], _∷_, _++_, append-assoc, append-nil}
+use mathlib.Core.List.{List, [], _∷_, _++_}
 use lib.ListN.{length}
 use Rattle.layout.specs.Field.{Raw}
 use Rattle.layout.specs.Event.{Event, Unsigned, Signed, Float, Piece, Fixlen, Array, Begin, End, cutFrom, cutPiece, cut, bytewise}
-use Rattle.payload.specs.Run.{joined, Split, one, more, Pieces, empty, split}
+use Rattle.payload.specs.Run.{joined, Split, one, more}
 use Rattle.reassembly.specs.Pieces.{pieceEvents, NoPiece, Next}
 
 -- ---- where an event that is no piece stands

@@ -14,10 +14,10 @@ use Rattle.machine.specs.Run.{chunks, join}
 use Rattle.machine.proofs.Runs.{reads}
 use Rattle.payload.specs.declared.PayloadAcc.{PayloadAcc}
 use Rattle.payload.specs.Gather.{sound}
-use Rattle.payload.specs.Run.{joined, Pieces, empty, split, Handed, refused, outcomes, handedWhole, atLast}
+use Rattle.payload.specs.Run.{joined, Pieces, empty, split, refused, outcomes, handedWhole, atLast}
 use Rattle.payload.proofs.Whole.{whole-at-last, too-long-throughout}
-use Rattle.reassembly.specs.Pieces.{pieceEvents, NoPiece, Next}
-use Rattle.reassembly.proofs.Cuts.{At, found, Parted, parted}
+use Rattle.reassembly.specs.Pieces.{pieceEvents, Next}
+use Rattle.reassembly.proofs.Cuts.{found, parted}
 
 -- the pieces of a payload in a list of events, and what is after them
 record Held (id : ℕ) (r : Raw) (bytes : List ℕ) (es post : List Event) : Type 0 where

@@ -1,5 +1,4 @@
 -- `answers::unfit`: the two tests of an offset.
-use mathlib.Core.Path.{_≡_, sym, ap, _∙_}
 use Rattle.answers.proofs.unfit.Statement.{statement}
 use Rattle.answers.proofs.unfit.Tie as tie
 use Rattle.answers.proofs.unfit.Reads as reads

@@ -1,6 +1,6 @@
 -- `arrays::put_unsigned_array`: the head and the elements; how long they are is asked only where the buffer's end is met.
 use Prim.Native.Nat.{ℕ, _+_, _-_, _*_, _<_}
-use mathlib.Core.Path.{_≡_, refl, sym, ap, _∙_}
+use mathlib.Core.Path.{refl, sym, ap, _∙_}
 use mathlib.Core.List.{_++_}
 use native.Mathlib.Omega.{arith}
 use lib.Dec.{ltb}

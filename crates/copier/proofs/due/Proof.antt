@@ -1,5 +1,5 @@
 -- `copier::due`: by phase.
-use mathlib.Core.Path.{_≡_, refl, sym, ap, _∙_, subst}
+use mathlib.Core.Path.{sym, ap}
 use Rattle.phase.specs.declared.Phase.{Phase}
 use Rattle.phase.specs.Phases.{stateAt}
 use Rattle.copying.specs.Owed.{dueIn}

@@ -1,6 +1,5 @@
 -- `copier::piece`: a payload: spent, stuck or going on.
-use Prim.Native.Nat.{ℕ, _-_, _≤_, min}
-use mathlib.Core.Path.{_≡_, sym, subst}
+use mathlib.Core.Path.{sym, subst}
 use native.Mathlib.Omega.{arith}
 use lib.Seq.{length-take-le}
 use Rattle.copier.specs.declared.Turn.{Turn}

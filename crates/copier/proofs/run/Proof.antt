@@ -4,8 +4,8 @@ use Rattle.copier.proofs.Turns.{rest-is-whole}
 use lib.ListN.{length-drop}
 use Rattle.copier.proofs.Turns.{ran-by}
 -- `copier::run` meets its contract: each turn, the call is what going on from the reader reached comes to.
-use Prim.Native.Nat.{ℕ, _+_, _-_, _*_, _≤_, _<_}
-use mathlib.Core.Path.{_≡_, sym, subst}
+use Prim.Native.Nat.{ℕ, _+_, _-_, _*_, _<_}
+use mathlib.Core.Path.{subst}
 use native.Mathlib.Omega.{arith}
 use lib.ListN.{length, drop}
 use borrow.Author.Needs.{needs}

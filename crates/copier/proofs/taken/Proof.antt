@@ -1,5 +1,5 @@
 -- `copier::taken`: by the writer's answer.
-use mathlib.Core.Path.{_≡_, refl, sym, ap, _∙_, subst}
+use mathlib.Core.Path.{sym, ap}
 use Rattle.copier.specs.Calls.{opensIn}
 use borrow.Author.Needs.{needs}
 use Rattle.copier.proofs.taken.Statement.{statement}

@@ -1,6 +1,5 @@
 -- `copier::written`: the event fits or fills the buffer.
-use Prim.Native.Nat.{ℕ, _+_, _-_, _≤_, _<_}
-use mathlib.Core.Path.{_≡_, refl}
+use mathlib.Core.Path.{refl}
 use native.Mathlib.Omega.{arith}
 use lib.ListN.{length, drop}
 use Rattle.owed.specs.Owed.{outputBytes}

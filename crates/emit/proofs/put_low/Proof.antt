@@ -1,9 +1,7 @@
 -- `emit::put_low`: at each turn, the rest's low bytes are left to write.
-use Prim.Native.Nat.{ℕ, _+_, _-_, _/_, _%_, _≤_, _<_}
-use mathlib.Core.Path.{_≡_, refl, sym, ap, _∙_}
+use mathlib.Core.Path.{_∙_}
 use native.Mathlib.Omega.{arith}
 use borrow.Author.Tests.{ltb-true, ltb-false}
-use lib.ListN.{length}
 use Rattle.layout.specs.Field.{lowBytes}
 use Rattle.emit.proofs.Low.{low-more, length-low}
 use Rattle.emit.proofs.Turns.{Left, start, next, no-room, none-left}

@@ -1,6 +1,6 @@
 -- `emit::put_rest`: a copy whose turns are counted beforehand, so that none tests for room.
-use Prim.Native.Nat.{ℕ, _+_, _-_, _≤_, _<_, min}
-use mathlib.Core.Path.{_≡_, refl, sym, ap, _∙_}
+use Prim.Native.Nat.{_+_, _-_, _≤_, min}
+use mathlib.Core.Path.{_≡_}
 use native.Mathlib.Omega.{arith}
 use lib.ListN.{length, drop, length-drop}
 use borrow.Author.Needs.{needs}

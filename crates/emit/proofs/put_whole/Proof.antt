@@ -1,9 +1,7 @@
 -- `emit::put_whole`: at each turn, the rest's varint is left to write.
-use Prim.Native.Nat.{ℕ, _+_, _-_, _/_, _%_, _≤_, _<_}
-use mathlib.Core.Path.{_≡_, refl, sym, ap, _∙_}
+use Prim.Native.Nat.{_-_}
 use native.Mathlib.Omega.{arith}
 use lib.ListN.{length, length-set}
-use borrow.Author.Needs.{needs}
 use Rattle.layout.specs.Varint.{shortest}
 use Rattle.varint.proofs.Shortest.{shortest-one, shortest-more}
 use Rattle.emit.proofs.Turns.{Left, start, next, no-room, ended}

@@ -1,16 +1,11 @@
 -- `emit::varints_len`: lengths summed up, none of them above 10.
-use Prim.Native.Nat.{ℕ, _+_, _-_, _*_, _/_, _≤_, _<_, min}
-use mathlib.Core.Path.{_≡_, refl, sym, ap, _∙_}
+use Prim.Native.Nat.{_-_, _≤_}
 use native.Mathlib.Omega.{arith}
 use borrow.Author.Needs.{needs}
-use lib.ListN.{length, drop, getD}
+use lib.ListN.{length, getD}
 use Rattle.layout.specs.Varint.{shortest}
-use Rattle.layout.specs.Zigzag.{zigzag}
-use Rattle.layout.specs.Field.{each, lowBytes}
 use Rattle.varint.proofs.Shortest.{length-64}
-use Rattle.emit.proofs.Low.{length-low}
-use Rattle.emit.proofs.Segments.{respelled}
-use Rattle.emit.proofs.Elements.{Counted, count-start, count-next, count-end, Owing, owing-start, owing-next, owing-end, owing-jump, each-at, each-end}
+use Rattle.emit.proofs.Elements.{Counted, count-start, count-next, count-end}
 use Rattle.emit.proofs.varints_len.Statement.{statement}
 use Rattle.emit.proofs.varints_len.Tie as tie
 use Rattle.emit.proofs.varints_len.Reads as reads

@@ -1,15 +1,14 @@
 -- `emit::zigzags_len`: lengths summed up, none of them above 10.
-use Prim.Native.Nat.{ℕ, _+_, _-_, _*_, _/_, _≤_, _<_, min}
-use mathlib.Core.Path.{_≡_, refl, sym, ap, _∙_}
+use Prim.Native.Nat.{ℕ, _-_, _≤_}
+use mathlib.Core.Path.{ap, _∙_}
 use native.Mathlib.Omega.{arith}
 use borrow.Author.Needs.{needs, sfits-of}
-use lib.ListN.{length, drop, getD}
+use lib.ListN.{length, getD}
 use lib.IntN.{ℤ, pos}
 use mir.Syntax.{w64}
 use mir.ValLaws.{toZ-ofZ}
 use Rattle.layout.specs.Varint.{shortest}
 use Rattle.layout.specs.Zigzag.{zigzag}
-use Rattle.layout.specs.Field.{each}
 use Rattle.varint.proofs.Shortest.{length-64}
 use Rattle.emit.proofs.Elements.{Counted, count-start, count-next, count-end}
 use Rattle.emit.proofs.zigzags_len.Statement.{statement}

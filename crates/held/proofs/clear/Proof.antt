@@ -1,15 +1,11 @@
 -- `held::clear`: the first i places are zeroed.
-use Prim.Native.Nat.{ℕ, _+_, _-_, _≤_, _<_}
-use mathlib.Core.Path.{_≡_, refl, sym, ap, _∙_}
-use mathlib.Core.Bool.{Bool, true, false}
+use Prim.Native.Nat.{ℕ, _-_, _≤_}
+use mathlib.Core.Path.{_≡_, refl, ap, _∙_}
 use native.Mathlib.Omega.{arith}
 use borrow.Author.Needs.{needs}
-use borrow.Author.Tests.{le-leb, lt-leb, eq-eqb, ne-eqb}
-use lib.Dec.{leb, eqb}
 use mathlib.Core.List.{List}
-use lib.ListN.{length, take, drop, set}
-use Rattle.layout.specs.Limits.{base}
-use Rattle.held.specs.Places.{every, zeroed}
+use lib.ListN.{length, set}
+use Rattle.held.specs.Places.{zeroed}
 use Rattle.held.proofs.Places.{zeroed-more, length-zeroed}
 use Rattle.held.proofs.clear.Statement.{statement}
 use Rattle.held.proofs.clear.Tie as tie

@@ -1,10 +1,8 @@
 -- `held::head_len`: three lengths, none of which is large.
-use Prim.Native.Nat.{ℕ, _+_, _≤_, _<_}
-use mathlib.Core.Path.{_≡_, sym, ap, _∙_}
 use mathlib.Core.List.{_++_}
 use native.Mathlib.Omega.{arith}
 use borrow.Author.Needs.{needs}
-use lib.ListN.{length, length-append}
+use lib.ListN.{length-append}
 use Rattle.layout.specs.Varint.{shortest}
 use Rattle.varint.proofs.Shortest.{length-64}
 use Rattle.held.specs.Headers.{headersOf}

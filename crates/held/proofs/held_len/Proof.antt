@@ -1,9 +1,9 @@
 -- `held::held_len`: the lengths of the held headers, summed up.
-use Prim.Native.Nat.{ℕ, _+_, _-_, _*_, _≤_, _<_}
+use Prim.Native.Nat.{ℕ, _+_, _-_, _*_, _≤_}
 use mathlib.Core.Path.{_≡_, refl, sym, ap, _∙_}
 use native.Mathlib.Omega.{arith}
 use borrow.Author.Needs.{needs}
-use lib.ListN.{length, take, getD}
+use lib.ListN.{length, take}
 use lib.Seq.{length-take-le, getD-take}
 use Rattle.layout.specs.Varint.{shortest}
 use Rattle.layout.specs.Field.{header, T-begin}

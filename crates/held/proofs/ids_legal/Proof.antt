@@ -1,14 +1,13 @@
 -- `held::ids_legal`: the ids before i are legal, so what the rest comes to is what all come to.
-use Prim.Native.Nat.{ℕ, _+_, _-_, _≤_, _<_}
-use mathlib.Core.Path.{_≡_, refl, sym, ap, _∙_}
-use mathlib.Core.Bool.{Bool, true, false}
+use Prim.Native.Nat.{_-_, _≤_}
+use mathlib.Core.Path.{_≡_, refl, sym, _∙_}
 use native.Mathlib.Omega.{arith}
 use borrow.Author.Needs.{needs}
-use borrow.Author.Tests.{le-leb, lt-leb, eq-eqb, ne-eqb}
-use lib.Dec.{leb, eqb}
+use borrow.Author.Tests.{le-leb, lt-leb}
+use lib.Dec.{leb}
 use lib.ListN.{length, take, drop}
 use Rattle.layout.specs.Limits.{base}
-use Rattle.held.specs.Places.{every, zeroed}
+use Rattle.held.specs.Places.{every}
 use Rattle.held.proofs.Places.{first-fails, first-on, first-end}
 use Rattle.held.proofs.ids_legal.Statement.{statement}
 use Rattle.held.proofs.ids_legal.Tie as tie

@@ -1,8 +1,5 @@
 -- `held::put_head`: three segments in a row.
-use Prim.Native.Nat.{ℕ, _≤_}
-use mathlib.Core.Path.{_≡_, sym, ap, _∙_}
 use borrow.Author.Needs.{needs}
-use lib.ListN.{length}
 use Rattle.emit.proofs.Segments.{joined-three}
 use Rattle.held.proofs.put_head.Statement.{statement}
 use Rattle.held.proofs.put_head.Tie as tie

@@ -1,14 +1,12 @@
 -- `held::unused_zero`: the places before i are zero, so what the rest comes to is what all come to.
-use Prim.Native.Nat.{ℕ, _+_, _-_, _≤_, _<_}
-use mathlib.Core.Path.{_≡_, refl, sym, ap, _∙_}
-use mathlib.Core.Bool.{Bool, true, false}
+use Prim.Native.Nat.{_-_, _≤_}
+use mathlib.Core.Path.{_≡_, refl, sym, _∙_}
 use native.Mathlib.Omega.{arith}
 use borrow.Author.Needs.{needs}
-use borrow.Author.Tests.{le-leb, lt-leb, eq-eqb, ne-eqb}
-use lib.Dec.{leb, eqb}
-use lib.ListN.{length, take, drop}
-use Rattle.layout.specs.Limits.{base}
-use Rattle.held.specs.Places.{every, zeroed}
+use borrow.Author.Tests.{eq-eqb, ne-eqb}
+use lib.Dec.{eqb}
+use lib.ListN.{length, drop}
+use Rattle.held.specs.Places.{every}
 use Rattle.held.proofs.Places.{every-fails, every-on, every-end}
 use Rattle.held.proofs.unused_zero.Statement.{statement}
 use Rattle.held.proofs.unused_zero.Tie as tie

@@ -1,9 +1,8 @@
 -- `lines::put_bits32`.
-use Rattle.lines.proofs.Numbers.{decimal-is, hexadecimal-is}
+use Rattle.lines.proofs.Numbers.{hexadecimal-is}
 use mathlib.Core.Path.{_∙_}
-use native.Mathlib.Omega.{arith}
 use lib.Dec.{lit≤}
-use Rattle.lines.proofs.Texts.{says, joined, nothing}
+use Rattle.lines.proofs.Texts.{says}
 use borrow.Author.Needs.{needs}
 use Rattle.lines.proofs.put_bits32.Statement.{statement}
 use Rattle.lines.proofs.put_bits32.Tie as tie

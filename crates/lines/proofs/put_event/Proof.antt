@@ -1,6 +1,5 @@
 -- `lines::put_event`.
-use mathlib.Core.Path.{_≡_, sym, ap, _∙_}
-use mathlib.Core.List.{List}
+use mathlib.Core.Path.{sym, ap, _∙_}
 use Rattle.lines.specs.Spelled.{shownText}
 use Rattle.lines.proofs.Texts.{says}
 use borrow.Author.Needs.{needs}

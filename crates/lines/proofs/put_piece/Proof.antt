@@ -1,5 +1,5 @@
 -- `lines::put_piece`.
-use mathlib.Core.Path.{_≡_, sym, ap, _∙_}
+use mathlib.Core.Path.{_≡_, ap, _∙_}
 use mathlib.Core.List.{List}
 use Prim.Native.Nat.{ℕ, min}
 use lib.ListN.{length}

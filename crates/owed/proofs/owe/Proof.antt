@@ -1,7 +1,7 @@
 -- `owed::owe`: what is owed, event by event.
 use lib.IntN.{ℤ}
 use Rattle.layout.specs.Event as layout
-use mir.Val.{Fits, toZ, ofZ}
+use mir.Val.{toZ, ofZ}
 use mir.Syntax.{w64}
 use mathlib.Core.Path.{_≡_, sym, ap, _∙_}
 use mathlib.Core.List.{[]}

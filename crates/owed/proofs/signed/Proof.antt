@@ -1,7 +1,7 @@
 -- `owed::signed`: an element where one is due.
-use mir.Val.{Fits, toZ, ofZ}
+use mir.Val.{toZ, ofZ}
 use mir.Syntax.{w64}
-use mathlib.Core.Path.{_≡_, sym, ap, _∙_}
+use mathlib.Core.Path.{_≡_}
 use borrow.Author.Needs.{needs}
 use Rattle.owed.proofs.Laws.{signed-due}
 use Rattle.owed.proofs.signed.Statement.{statement}

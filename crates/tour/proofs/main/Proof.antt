@@ -1,7 +1,4 @@
 -- `tour::main` is safe and ends.
-use Prim.Native.Nat.{_≤_, _-_}
-use mathlib.Core.Path.{_≡_}
-use lib.ListN.{length}
 use borrow.Author.Needs.{needs}
 use Rattle.tour.proofs.main.Statement.{statement}
 use Rattle.tour.proofs.main.Tie as tie

@@ -1,7 +1,4 @@
 -- `tour::read` is safe and ends.
-use Prim.Native.Nat.{_≤_, _-_}
-use mathlib.Core.Path.{_≡_}
-use lib.ListN.{length}
 use borrow.Author.Needs.{needs}
 use Rattle.tour.proofs.read.Statement.{statement}
 use Rattle.tour.proofs.read.Tie as tie

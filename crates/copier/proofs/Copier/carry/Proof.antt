@@ -1,7 +1,6 @@
 -- `copier::Copier::carry`: what is owed fits or fills the buffer.
-use Prim.Native.Nat.{ℕ, _+_, _-_, _≤_, _<_}
 use native.Mathlib.Omega.{arith}
-use lib.ListN.{length, drop, length-drop}
+use lib.ListN.{drop, length-drop}
 use Rattle.emit.proofs.Writes.{reached-is}
 use Rattle.owed.specs.Owed.{outputBytes}
 use Rattle.copier.proofs.Calls.{ready-within, ends-within, carry-full, carry-runs}

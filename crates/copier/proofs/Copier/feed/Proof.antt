@@ -1,6 +1,6 @@
 -- `copier::Copier::feed`: the refusals in order, then the loop.
 use Rattle.istream.specs.Stream.{stateOf}
-use mathlib.Core.Path.{_≡_, refl, sym, ap, _∙_, subst}
+use mathlib.Core.Path.{sym, ap, _∙_}
 use mir.Val.{Fits}
 use mir.Syntax.{w8}
 use borrow.Author.Tests.{not-true, not-false}

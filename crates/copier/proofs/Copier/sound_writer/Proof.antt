@@ -1,5 +1,5 @@
 -- `copier::Copier::sound_writer`: the tests one after another.
-use mathlib.Core.Path.{_≡_, sym, _∙_}
+use mathlib.Core.Path.{sym, _∙_}
 use borrow.Author.Tests.{not-true, not-false, eq-eqb, ne-eqb}
 use Rattle.copier.specs.Copier.{soundWriter}
 use Rattle.copier.proofs.Tests.{sound-broke, sound-whole}

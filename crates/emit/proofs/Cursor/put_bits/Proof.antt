@@ -1,9 +1,7 @@
 -- `emit::Cursor::put_bits`: low bytes that are out already, or the rest of them.
-use Prim.Native.Nat.{ℕ, _+_, _-_, _*_, _/_, _^_, _≤_, _<_}
-use mathlib.Core.Path.{_≡_, refl, sym, ap, _∙_}
+use mathlib.Core.Path.{sym}
 use native.Mathlib.Omega.{arith}
 use borrow.Author.Needs.{needs}
-use lib.ListN.{length}
 use Rattle.layout.specs.Field.{lowBytes}
 use Rattle.emit.proofs.Low.{length-low, drop-low}
 use Rattle.emit.proofs.Segments.{some-left, none-left}

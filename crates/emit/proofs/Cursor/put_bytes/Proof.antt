@@ -1,9 +1,7 @@
 -- `emit::Cursor::put_bytes`: the copy from the bytes to skip on, and how many are left to skip.
-use Prim.Native.Nat.{ℕ, _+_, _-_, _≤_, _<_}
-use mathlib.Core.Path.{_≡_, refl, sym, ap, _∙_}
+use mathlib.Core.Path.{refl}
 use native.Mathlib.Omega.{arith}
 use borrow.Author.Needs.{needs}
-use lib.ListN.{length}
 use Rattle.emit.proofs.Segments.{some-left}
 use Rattle.emit.proofs.Cursor.put_bytes.Statement.{statement}
 use Rattle.emit.proofs.Cursor.put_bytes.Tie as tie

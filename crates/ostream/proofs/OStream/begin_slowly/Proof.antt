@@ -1,14 +1,14 @@
 -- `ostream::OStream::begin_slowly`: the refusals; then one more is held, or all that are held go out.
-use Prim.Native.Nat.{ℕ, _+_, _*_}
+use Prim.Native.Nat.{ℕ}
 use mathlib.Core.Bool.{Bool}
-use mathlib.Core.List.{List, [], _∷_, _++_}
-use mathlib.Core.Path.{_≡_, refl, sym, ap, _∙_}
+use mathlib.Core.List.{[], _∷_, _++_}
+use mathlib.Core.Path.{refl, ap, _∙_}
 use native.Mathlib.Omega.{arith}
 use lib.ListN.{length}
 use Rattle.layout.specs.Varint.{shortest}
 use Rattle.layout.specs.Copy.{fieldBytes}
-use Rattle.answers.specs.Judged.{judged, checkOf, accepted}
-use Rattle.answers.specs.Tests.{unsoundWriter, deepest, outermost, idTooLarge}
+use Rattle.answers.specs.Judged.{judged, checkOf}
+use Rattle.answers.specs.Tests.{unsoundWriter, deepest, idTooLarge}
 use Rattle.answers.proofs.Checks.{check-passes, check-fails}
 use Rattle.ostream.proofs.Called.{refuses, settles, alters, begin-knows}
 use borrow.Author.Tests.{lt-ltb, le-ltb}

@@ -1,7 +1,7 @@
 -- `ostream::OStream::buffer_set`: 5 by the new buffer, then 6 by the old one.
-use mathlib.Core.Bool.{Bool, true, false, not}
+use mathlib.Core.Bool.{Bool}
 use mathlib.Core.List.{[], _∷_}
-use mathlib.Core.Path.{_≡_, sym, ap, _∙_}
+use mathlib.Core.Path.{sym, ap, _∙_}
 use lib.ListN.{length}
 use Rattle.answers.specs.Judged.{Verdict, judged, checkOf}
 use Rattle.answers.specs.Tests.{badBuffer, unsoundWriter}

@@ -1,5 +1,4 @@
 -- `ostream::OStream::check`: the tests of a field.
-use Prim.Native.Nat.{ℕ}
 use mathlib.Core.Bool.{Bool}
 use mathlib.Core.List.{[], _∷_}
 use mathlib.Core.Path.{ap, _∙_}

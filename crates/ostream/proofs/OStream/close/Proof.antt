@@ -3,7 +3,6 @@ use mathlib.Core.Path.{refl}
 use native.Mathlib.Omega.{arith}
 use lib.ListN.{length}
 use borrow.Author.Tests.{ne-eqb}
-use Rattle.layout.specs.Copy.{fieldBytes}
 use Rattle.ostream.specs.Stream.{heldBytes}
 use Rattle.ostream.proofs.Called.{is-sound, settles}
 use borrow.Author.Needs.{needs}

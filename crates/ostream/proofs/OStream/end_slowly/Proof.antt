@@ -1,14 +1,13 @@
 -- `ostream::OStream::end_slowly`: one that is held is dropped, else the close is written.
-use Prim.Native.Nat.{ℕ, _+_, _*_}
+use Prim.Native.Nat.{ℕ}
 use mathlib.Core.Bool.{Bool}
 use mathlib.Core.List.{List, [], _∷_, _++_}
-use mathlib.Core.Path.{_≡_, refl, sym, ap, _∙_}
+use mathlib.Core.Path.{refl, sym, ap, _∙_}
 use native.Mathlib.Omega.{arith}
 use lib.ListN.{length}
-use Rattle.layout.specs.Varint.{shortest}
 use Rattle.layout.specs.Copy.{fieldBytes}
-use Rattle.answers.specs.Judged.{judged, checkOf, accepted}
-use Rattle.answers.specs.Tests.{unsoundWriter, deepest, outermost, idTooLarge}
+use Rattle.answers.specs.Judged.{judged, checkOf}
+use Rattle.answers.specs.Tests.{unsoundWriter, outermost}
 use Rattle.answers.proofs.Checks.{check-passes, check-fails}
 use Rattle.ostream.proofs.Called.{refuses, alters, recalled, none-held, is-sound, end-knows}
 use borrow.Author.Tests.{eq-eqb, ne-eqb}

@@ -1,5 +1,5 @@
 -- `ostream::OStream::flush`: the old position is answered, and the new one is 0.
-use mathlib.Core.Path.{_≡_, sym, ap, _∙_}
+use mathlib.Core.Path.{sym, _∙_}
 use borrow.Author.Needs.{needs}
 use Rattle.ostream.specs.Buffer.{draining}
 use Rattle.ostream.proofs.OStream.flush.Statement.{statement}

@@ -1,5 +1,5 @@
 -- `ostream::OStream::install`: eight places of zero.
-use mathlib.Core.Path.{_≡_, refl}
+use mathlib.Core.Path.{refl}
 use Rattle.ostream.specs.Stream.{opened}
 use Rattle.ostream.proofs.OStream.install.Statement.{statement}
 use Rattle.ostream.proofs.OStream.install.Tie as tie

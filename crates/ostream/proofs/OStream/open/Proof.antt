@@ -1,5 +1,5 @@
 -- `ostream::OStream::open`: refused, or a writer at the offset.
-use mathlib.Core.Path.{_≡_, sym, ap, _∙_}
+use mathlib.Core.Path.{sym, ap, _∙_}
 use borrow.Author.Needs.{needs}
 use Rattle.types.specs.declared.Error.the-variants.{BadBuffer}
 use Rattle.ostream.specs.declared.OStream.{OStream}

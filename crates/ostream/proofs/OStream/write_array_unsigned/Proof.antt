@@ -1,12 +1,12 @@
 -- `ostream::OStream::write_array_unsigned`: straight away from a state that holds nothing, and otherwise left to the slow form.
-use Prim.Native.Nat.{ℕ, _+_, _*_, _≤_}
+use Prim.Native.Nat.{_+_, _*_}
 use mathlib.Core.Path.{_≡_, refl, sym, ap, _∙_}
 use mathlib.Core.List.{_++_}
 use mathlib.Core.Logic.{⊎-elim}
 use native.Mathlib.Omega.{arith}
 use lib.ListN.{length, length-append}
 use Rattle.layout.specs.Varint.{shortest}
-use Rattle.varint.proofs.Shortest.{length-64, length-some}
+use Rattle.varint.proofs.Shortest.{length-some}
 use Rattle.straight.proofs.Straight.{went, unmoved}
 use Rattle.ostream.proofs.Called.{committed-none}
 use Rattle.layout.specs.Field.{each}

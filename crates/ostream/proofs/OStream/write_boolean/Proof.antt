@@ -1,6 +1,6 @@
 -- `ostream::OStream::write_boolean`: an unsigned field of the bit.
 use Prim.Native.Nat.{ℕ}
-use mathlib.Core.Path.{_≡_, sym, ap, _∙_, subst}
+use mathlib.Core.Path.{ap, _∙_}
 use borrow.Author.Needs.{needs}
 use lib.ListN.{length}
 use Rattle.ostream.specs.Emission.{called, leaves}

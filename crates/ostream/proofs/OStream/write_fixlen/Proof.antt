@@ -1,7 +1,7 @@
 -- `ostream::OStream::write_fixlen`: the string subtype is refused, any other goes on.
 use mathlib.Core.Bool.{Bool}
 use mathlib.Core.List.{[], _∷_}
-use mathlib.Core.Path.{_≡_, refl, sym, ap, _∙_}
+use mathlib.Core.Path.{refl, sym, ap, _∙_}
 use lib.ListN.{length}
 use Rattle.answers.specs.Judged.{judged, checkOf}
 use Rattle.answers.specs.Tests.{unsoundWriter, stringSubtype, idTooLarge, payloadTooLong}

@@ -1,14 +1,13 @@
 -- `ostream::OStream::write_fixlen_slowly`: the refusals, then the field from the place on.
 use Prim.Native.Nat.{ℕ, _+_, _*_}
 use mathlib.Core.List.{_++_}
-use mathlib.Core.Path.{_≡_, refl, sym, ap, _∙_}
+use mathlib.Core.Path.{refl, ap, _∙_}
 use native.Mathlib.Omega.{arith}
 use lib.ListN.{length}
 use Rattle.layout.specs.Varint.{shortest}
 use Rattle.answers.specs.Judged.{judged}
 use Rattle.answers.proofs.Checks.{check-passes, check-fails}
 use Rattle.ostream.proofs.Called.{refuses, settles, field-sound, field-short}
-use Rattle.types.specs.Types.{fixlenRaw}
 use Rattle.ostream.specs.Stream.{heldBytes}
 use Rattle.ostream.specs.Calls.{fieldTests, rawCall, fixlenBytes}
 use Rattle.ostream.proofs.Straight.{left-to}

@@ -1,13 +1,11 @@
 -- `ostream::OStream::write_sequence_begin_lazy`: where the id can be held, it takes the next place and nothing is written.
-use Prim.Native.Nat.{ℕ}
-use mathlib.Core.Path.{_≡_, refl, sym, ap, _∙_}
-use mathlib.Core.List.{[]}
+use mathlib.Core.Path.{refl, sym, ap, _∙_}
 use native.Mathlib.Omega.{arith}
 use borrow.Author.Tests.{lt-ltb, le-ltb, lt-leb}
 use lib.ListN.{length}
 use Rattle.ostream.specs.declared.OStream.{OStream}
 use Rattle.ostream.specs.declared.Answer.the-variants.{Done}
-use Rattle.ostream.specs.Stream.{holding, at}
+use Rattle.ostream.specs.Stream.{holding}
 use Rattle.ostream.specs.Calls.{beginCall}
 use Rattle.ostream.proofs.Called.{is-sound, alters}
 use Rattle.ostream.proofs.Straight.{Holds, can-hold}

@@ -1,14 +1,10 @@
 -- `ostream::OStream::write_sequence_end_keep`: the refusals, then the close, behind what is held.
-use Prim.Native.Nat.{ℕ, _+_, _*_}
 use mathlib.Core.Bool.{Bool}
-use mathlib.Core.List.{List, [], _∷_, _++_}
-use mathlib.Core.Path.{_≡_, refl, sym, ap, _∙_}
-use native.Mathlib.Omega.{arith}
+use mathlib.Core.List.{[], _∷_}
+use mathlib.Core.Path.{ap, _∙_}
 use lib.ListN.{length}
-use Rattle.layout.specs.Varint.{shortest}
-use Rattle.layout.specs.Copy.{fieldBytes}
-use Rattle.answers.specs.Judged.{judged, checkOf, accepted}
-use Rattle.answers.specs.Tests.{unsoundWriter, deepest, outermost, idTooLarge}
+use Rattle.answers.specs.Judged.{judged, checkOf}
+use Rattle.answers.specs.Tests.{unsoundWriter, outermost}
 use Rattle.answers.proofs.Checks.{check-passes, check-fails}
 use Rattle.ostream.proofs.Called.{refuses, end-knows}
 use Rattle.ostream.specs.Calls.{endCall}

@@ -1,6 +1,6 @@
 -- `ostream::OStream::write_signed`: the layout's bytes of the field.
 use Prim.Native.Nat.{ℕ}
-use mathlib.Core.Path.{_≡_, sym, ap, _∙_, subst}
+use mathlib.Core.Path.{ap, _∙_}
 use borrow.Author.Needs.{needs}
 use lib.ListN.{length}
 use mir.Syntax.{w64}

@@ -1,8 +1,7 @@
 -- `ostream::OStream::write_varint_slowly`: the refusals, then the field from the place on.
-use Prim.Native.Nat.{ℕ, _+_, _*_}
+use Prim.Native.Nat.{ℕ}
 use mathlib.Core.List.{_++_}
-use mathlib.Core.Path.{_≡_, refl, sym, ap, _∙_}
-use native.Mathlib.Omega.{arith}
+use mathlib.Core.Path.{refl, ap}
 use lib.ListN.{length}
 use Rattle.layout.specs.Varint.{shortest}
 use Rattle.answers.specs.Judged.{judged}

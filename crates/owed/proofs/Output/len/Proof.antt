@@ -1,8 +1,7 @@
 -- `owed::Output::len`: the sum of the lengths of its varints.
-use Prim.Native.Nat.{ℕ, _+_, _≤_}
 use mir.Val.{Fits}
 use mir.Syntax.{w64}
-use mathlib.Core.Path.{_≡_, sym, ap, _∙_}
+use mathlib.Core.Path.{sym, ap, _∙_}
 use mathlib.Core.List.{_++_}
 use native.Mathlib.Omega.{arith}
 use lib.ListN.{length, length-append}

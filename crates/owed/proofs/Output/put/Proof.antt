@@ -1,5 +1,5 @@
 -- `owed::Output::put`: its segments in a row.
-use mathlib.Core.Path.{_≡_, ap}
+use mathlib.Core.Path.{ap}
 use Rattle.owed.specs.Owed.{outputBytes}
 use Rattle.emit.proofs.Segments.{joined, joined-three}
 use Rattle.owed.proofs.Laws.{landed, landed-none}

@@ -1,5 +1,4 @@
 -- `owed::Output::put_bounded`: the plain way, and the length that it has.
-use Prim.Native.Nat.{ℕ, _≤_, _<_}
 use native.Mathlib.Omega.{arith}
 use borrow.Author.Needs.{needs}
 use Rattle.owed.proofs.Output.put_bounded.Statement.{statement}

@@ -1,8 +1,8 @@
 -- `owed::Output::put_fitting`: one varint or two straight away, and the rarer outputs by the plain way.
-use Prim.Native.Nat.{ℕ, _+_, _≤_}
+use Prim.Native.Nat.{_≤_}
 use mir.Val.{Fits}
 use mir.Syntax.{w64}
-use mathlib.Core.Path.{_≡_, ap}
+use mathlib.Core.Path.{ap}
 use native.Mathlib.Omega.{arith}
 use lib.ListN.{length}
 use Rattle.layout.specs.Varint.{shortest}

@@ -1,5 +1,5 @@
 -- `owed::Owed::has_place`: nothing has no place.
-use mathlib.Core.Path.{_≡_, ap, _∙_}
+use mathlib.Core.Path.{ap, _∙_}
 use lib.Dec.{ltb}
 use lib.ListN.{length}
 use Rattle.owed.specs.declared.Output.{Output}

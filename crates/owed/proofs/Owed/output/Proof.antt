@@ -1,11 +1,11 @@
 -- `owed::Owed::output`: variant by variant.
-use Prim.Native.Nat.{ℕ, _+_, _*_}
+use Prim.Native.Nat.{_+_, _*_}
 use Rattle.layout.specs.Field.{Subtype, bytesOf, subtypeNumber, float, raw}
 use Rattle.types.specs.Types.{width, rawSort}
 use Rattle.owed.specs.declared.Output.the-variants.{Two}
-use mir.Val.{Fits, toZ, ofZ}
+use mir.Val.{toZ, ofZ}
 use mir.Syntax.{w64}
-use mathlib.Core.Path.{_≡_, sym, ap, _∙_}
+use mathlib.Core.Path.{_≡_, ap}
 use Rattle.event.proofs.Laws.{subtype-back}
 use borrow.Author.Needs.{needs}
 use Rattle.owed.proofs.Owed.output.Statement.{statement}

@@ -1,5 +1,5 @@
 -- `owed::Owed::sound`: three tests.
-use mathlib.Core.Path.{_≡_, sym, _∙_}
+use mathlib.Core.Path.{sym, _∙_}
 use borrow.Author.Tests.{not-true, not-false}
 use Rattle.owed.proofs.Laws.{not-level, not-legal, level-and-legal}
 use borrow.Author.Needs.{needs}

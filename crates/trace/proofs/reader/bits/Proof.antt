@@ -1,5 +1,5 @@
 -- `trace::reader::bits` is safe: each number that is cast is below 2 ^ 63, as in `varint::bits`.
-use mathlib.Core.Path.{_≡_, ap, _∙_}
+use mathlib.Core.Path.{ap, _∙_}
 use Prim.Native.Nat.{_-_, _^_}
 use lib.IntN.{ℤ}
 use mir.Syntax.{w64}

@@ -1,5 +1,4 @@
 -- `trace_writer::writer::settled` is safe: the part of the room has the length that is asked for.
-use lib.ListN.{length}
 use lib.Seq.{length-take-le}
 use mathlib.Core.Path.{sym}
 use borrow.Author.Needs.{needs}

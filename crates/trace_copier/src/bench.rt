@@ -5,30 +5,10 @@ use copier::Answer;
 use copier::Copier;
 use emit::put_rest;
 
-// The copier, where the ticket's next byte stands, and how many bytes are in `out`.
-struct Run {
-    copier: Copier,
-    at: usize,
-    sent: usize,
-    open: bool,
-}
-
-fn position(k: Copier) -> usize {
+// What stands below the copier's position is sent.
+fn send(k: Copier, buf: &[u8], out: &mut [u8], sent: usize) -> usize {
     let w = k.writer;
-    w.offset
-}
-
-fn drain(r: Run, buf: &[u8], out: &mut [u8]) -> Run {
-    let k = r.copier;
-    let sent = put_rest(out, r.sent, part(buf, 0, position(k)), 0);
-    let f = k.flush(buf);
-    let left = f.copier;
-    Run {
-        copier: left,
-        at: r.at,
-        sent,
-        open: r.open,
-    }
+    put_rest(out, sent, part(buf, 0, w.offset), 0)
 }
 
 fn further(at: usize, n: usize, end: usize) -> usize {
@@ -38,49 +18,31 @@ fn further(at: usize, n: usize, end: usize) -> usize {
     if n < end - at { at + n } else { end }
 }
 
-fn call(ticket: &[u8], end: usize, r: Run, buf: &mut [u8]) -> Run {
-    let k = r.copier;
-    let f = k.feed(between(ticket, r.at, end), buf);
-    let answer = f.answer;
-    let left = f.copier;
-    Run {
-        copier: left,
-        at: further(r.at, f.used, end),
-        sent: r.sent,
-        open: match answer {
-            Answer::Full => true,
-            Answer::Status(_) => false,
-            Answer::Refused(_) => false,
-        },
-    }
-}
-
-// One chunk, to its verdict. Nothing here says that its calls end: the turns are counted down from a number that no run uses up.
-fn chunk(ticket: &[u8], end: usize, from: Run, buf: &mut [u8], out: &mut [u8]) -> Run {
-    let mut r = call(ticket, end, from, buf);
-    let mut turns = u64::MAX;
-    while turns > 0 && r.open {
-        r = drain(r, buf, out);
-        r = call(ticket, end, r, buf);
-        turns -= 1;
-    }
-    r
-}
-
+// A call after another: at "full" a drain and the chunk's rest, at a verdict the next chunk. Nothing here says that the calls end: they are
+// counted down from a number that no run uses up.
 pub fn chunks(ticket: &[u8], size: usize, buf: &mut [u8], out: &mut [u8]) -> u64 {
-    let o = Copier::new(buf, 0);
-    let k = o.copier;
-    let mut r = Run {
-        copier: k,
-        at: 0,
-        sent: 0,
-        open: false,
-    };
-    let mut turns = ticket.len();
-    while turns > 0 && r.at < ticket.len() {
-        r = chunk(ticket, further(r.at, size, ticket.len()), r, buf, out);
+    let opened = Copier::new(buf, 0);
+    let mut k = opened.copier;
+    let mut at: usize = 0;
+    let mut end = further(0, size, ticket.len());
+    let mut sent: usize = 0;
+    let mut turns = u64::MAX;
+    while turns > 0 {
+        let f = k.feed(between(ticket, at, end), buf);
+        let answer = f.answer;
+        k = f.copier;
+        at = further(at, f.used, end);
         turns -= 1;
+        if let Answer::Full = answer {
+            sent = send(k, buf, out, sent);
+            let d = k.flush(buf);
+            k = d.copier;
+            continue;
+        }
+        if end == ticket.len() {
+            return send(k, buf, out, sent) as u64;
+        }
+        end = further(end, size, ticket.len());
     }
-    r = drain(r, buf, out);
-    r.sent as u64
+    send(k, buf, out, sent) as u64
 }

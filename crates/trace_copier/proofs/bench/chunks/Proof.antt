@@ -1,39 +1,62 @@
--- `trace_copier::bench::chunks` is safe and ends: each turn takes one from `turns`.
-use borrow.Author.Needs.{needs}
-use mathlib.Core.Path.{_≡_}
+-- `trace_copier::bench::chunks` is safe and ends.
+use mathlib.Core.Path.{_≡_, _∙_}
 use lib.ListN.{length}
+use borrow.Author.Needs.{needs}
 use Rattle.trace_copier.proofs.bench.chunks.Statement.{statement}
 use Rattle.trace_copier.proofs.bench.chunks.Tie as tie
+use Rattle.trace_copier.proofs.bench.chunks.Reads as reads
+use Rattle.trace_copier.proofs.bench.chunks.Lts as lts
+use Rattle.cases.proofs.between.Reads as between-reads
+use Rattle.copier.proofs.Copier.feed.Reads as feed-reads
+use Rattle.copier.proofs.Copier.flush.Reads as flush-reads
+use Rattle.copier.proofs.Copier.new.Reads as new-reads
+use Rattle.trace_copier.proofs.bench.further.Reads as further-reads
+use Rattle.trace_copier.proofs.bench.send.Reads as send-reads
 
 abbrev Inv-loop : tie.InvT-loop
-Inv-loop ticket size buf₀ out₀ r₀ turns₀ buf out r turns = (length buf ≡ length buf₀) × (length out ≡ length out₀)
+Inv-loop ticket size buf₀ out₀ k₀ at₀ end₀ sent₀ turns₀ buf out k at end sent turns = (length buf ≡ length buf₀) × (length out ≡ length out₀)
 
 abbrev μ-loop : tie.MeasureT-loop
-μ-loop ticket size buf₀ out₀ r₀ turns₀ buf out r turns = turns
+μ-loop ticket size buf₀ out₀ k₀ at₀ end₀ sent₀ turns₀ buf out k at end sent turns = turns
 
 new-requires : tie.Need-new-requires Inv-loop μ-loop
 new-requires c κs = search needs
 
-loop-holds : tie.Need-loop-holds Inv-loop μ-loop
-loop-holds c = search needs
-
 further-requires : tie.Need-further-requires Inv-loop μ-loop
 further-requires c κs = search needs
 
-chunk-requires : tie.Need-chunk-requires Inv-loop μ-loop
-chunk-requires c κs = search needs
+loop-holds : tie.Need-loop-holds Inv-loop μ-loop
+loop-holds c = search needs
+
+between-requires : tie.Need-between-requires Inv-loop μ-loop
+between-requires c κs = search needs
+
+feed-requires : tie.Need-feed-requires Inv-loop μ-loop
+feed-requires c κs = search needs
+
+further-requires-2 : tie.Need-further-requires-2 Inv-loop μ-loop
+further-requires-2 c κs = search needs
 
 sub-turns : tie.Need-sub-turns Inv-loop μ-loop
 sub-turns c = search needs
+
+enum-told : tie.Need-enum-told Inv-loop μ-loop
+enum-told c = search needs
+
+send-requires : tie.Need-send-requires Inv-loop μ-loop
+send-requires c κs = search needs
+
+flush-requires : tie.Need-flush-requires Inv-loop μ-loop
+flush-requires c κs = search needs
 
 loop-less : tie.Need-loop-less Inv-loop μ-loop
 loop-less c = search needs
 
 loop-again : tie.Need-loop-again Inv-loop μ-loop
-loop-again c = search needs
+loop-again c = (c .before .before .before .before .before .before .before .before .before .before .before .before .before .before .feed .kept .1 .1 .0 ∙ c .before .before .before .before .before .before .before .before .before .before .before .before .before .before .before .before .before .before .loop .inv .0, c .before .before .before .before .before .send .kept .1 .1 .0 ∙ c .before .before .before .before .before .before .before .before .before .before .before .before .before .before .before .before .before .before .loop .inv .1)
 
-drain-requires : tie.Need-drain-requires Inv-loop μ-loop
-drain-requires c κs = search needs
+send-requires-2 : tie.Need-send-requires-2 Inv-loop μ-loop
+send-requires-2 c κs = search needs
 
 same-length : tie.Need-same-length Inv-loop μ-loop
 same-length c = search needs
@@ -44,6 +67,27 @@ same-length-2 c = search needs
 returns : tie.Need-returns Inv-loop μ-loop
 returns c = search needs
 
+further-requires-3 : tie.Need-further-requires-3 Inv-loop μ-loop
+further-requires-3 c κs = search needs
+
+loop-less-2 : tie.Need-loop-less-2 Inv-loop μ-loop
+loop-less-2 c = search needs
+
+loop-again-2 : tie.Need-loop-again-2 Inv-loop μ-loop
+loop-again-2 c = (search needs, search needs)
+
+send-requires-3 : tie.Need-send-requires-3 Inv-loop μ-loop
+send-requires-3 c κs = search needs
+
+same-length-3 : tie.Need-same-length-3 Inv-loop μ-loop
+same-length-3 c = search needs
+
+same-length-4 : tie.Need-same-length-4 Inv-loop μ-loop
+same-length-4 c = search needs
+
+returns-2 : tie.Need-returns-2 Inv-loop μ-loop
+returns-2 c = search needs
+
 pub chunks-spec : {M : Type 1} → statement M
 chunks-spec =
     tie.close
@@ -51,13 +95,25 @@ chunks-spec =
     Inv-loop
     μ-loop
     new-requires
-    loop-holds
     further-requires
-    chunk-requires
+    loop-holds
+    between-requires
+    feed-requires
+    further-requires-2
     sub-turns
+    enum-told
+    send-requires
+    flush-requires
     loop-less
     loop-again
-    drain-requires
+    send-requires-2
     same-length
     same-length-2
-    returns)
+    returns
+    further-requires-3
+    loop-less-2
+    loop-again-2
+    send-requires-3
+    same-length-3
+    same-length-4
+    returns-2)

@@ -9,3 +9,4 @@ pub mod Sound
 pub mod Reader
 pub mod Bound
 pub mod Whole
+pub mod AsIs

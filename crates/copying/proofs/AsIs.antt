@@ -3,36 +3,33 @@
 use Prim.Native.Nat.{ℕ, zero, suc, _+_, _-_, _*_, _/_, _%_, _^_, _<_, _≤_, min}
 use native.Mathlib.Omega.{arith}
 use mathlib.Core.Path.{_≡_, refl, sym, ap, _∙_, subst}
-use mathlib.Core.Bool.{Bool, true, false}
-use mathlib.Core.List.{List, [], _∷_, _++_, map, append-assoc, append-nil}
+use mathlib.Core.Bool.{Bool, false}
+use mathlib.Core.List.{List, [], _∷_, _++_, append-assoc}
 use lib.ListN.{length, take, drop, length-append}
 use lib.Seq.{drop-append-seam, take-append-add, take-at}
-use lib.Dec.{ltb, leb}
+use lib.Dec.{ltb}
 use lib.IntN.{ℤ}
 use borrow.Author.Tests.{le-leb, le-ltb, lt-ltb, eq-eqb, ne-eqb}
 use Rattle.layout.specs.Limits.{Limits, pick}
-use Rattle.layout.specs.Varint.{whole, Push, more, value, overrun, push, varintFrom, shortest}
+use Rattle.layout.specs.Varint.{shortest}
 use Rattle.layout.specs.Zigzag.{zigzag, unzigzag}
 use Rattle.layout.specs.Event.{Event, Unsigned, Signed, Float, Piece, Fixlen, Array, Begin, End}
-use Rattle.layout.specs.Field.{Width, Raw, Subtype, Wire, Field, bytesOf, subtypeNumber, subtypeOf, wireNumber, wireOf, header, word, lowBytes, each}
-use Rattle.layout.specs.Field.{fp32, fp64, string, blob, float, raw, known, unsigneds, signeds, floats}
+use Rattle.layout.specs.Field.{Width, Raw, Wire, Field, bytesOf, wireNumber, header, word, lowBytes, each}
+use Rattle.layout.specs.Field.{fp32, fp64, float, raw, unsigneds, signeds, floats}
 use Rattle.layout.specs.Field.{T-unsigned, T-signed, T-fixlen, T-unsigneds, T-signeds, T-floats, T-begin, T-end}
 use Rattle.layout.specs.Field.{unsigned, signed, payload, unsignedArray, signedArray, floatArray, begin, end}
-use Rattle.layout.specs.Reading.{lowFrom}
 use Rattle.layout.specs.Message.{depthAfter, All, Bytes, complete, verdictOf}
 use Rattle.layout.specs.Copy.{fieldBytes, encode, plainCopy}
 use Rattle.varint.proofs.Shortest.{length-some}
 use Rattle.varint.proofs.Zigzag.{zigzag-unzigzag}
 use Rattle.laws.specs.Events.{eventBytes}
 use Rattle.laws.specs.Legal.{Fit, Legal, Nests, Balanced}
-use Rattle.laws.specs.Legal as Legal
-use Rattle.laws.proofs.Varint.{varint-parses, step-value, step-more, step-over}
-use Rattle.laws.proofs.Parts.{low-parses, length-low}
+use Rattle.laws.proofs.Parts.{length-low}
 use Rattle.laws.proofs.Message.{encode-settled}
 use Rattle.laws.proofs.Laws.{accepts}
-use Rattle.machine.specs.Machine.{Phase, inHeader, inUnsigned, inSigned, inWord, inUnsignedCount, inSignedCount, inFloatCount, inArrayWord, inFloat, inPayload}
-use Rattle.machine.specs.Machine.{idle, Stepped, on, bad, step, within, nextOr, firstOr, atWire, atHeader, atSubtype, atWord, atUnsigned, atSigned}
-use Rattle.machine.specs.Machine.{atUnsignedCount, atSignedCount, atFloatCount, atElement, atArrayWord, atFloat}
+use Rattle.machine.specs.Machine.{Phase, inUnsigned, inSigned, inWord, inUnsignedCount, inSignedCount, inFloatCount, inArrayWord, inFloat, inPayload}
+use Rattle.machine.specs.Machine.{idle, on, bad, nextOr, firstOr, atWire, atUnsigned, atSigned}
+use Rattle.machine.specs.Machine.{atUnsignedCount, atSignedCount, atFloatCount, atArrayWord}
 use Rattle.machine.specs.Call.{State, reading, owing, broke, Pace, byte, bulk, paceOf, piece, Called, scan, scanned, raisedState, call}
 use Rattle.machine.specs.Call as calls
 use Rattle.machine.specs.Run.{placeOf}
@@ -40,8 +37,10 @@ use Rattle.machine.proofs.Bridge.{Fair}
 use Rattle.machine.proofs.Calls.{FairPlace}
 use Rattle.emit.specs.Put.{put, reached}
 use Rattle.emit.proofs.Writes.{length-put, put-put, put-none, reached-is}
-use Rattle.copying.specs.Owed.{Owed, nothing, owes, rest, depthBy, depthOnce, leftIn, dueIn}
+use Rattle.copying.specs.Owed.{nothing, rest, depthBy, depthOnce, leftIn, dueIn}
 use Rattle.copying.specs.Copy.{Copy, Copied, after, settled, gone, handed, stuck, heard, allOf, copy}
+use native.Mathlib.Nat.{pow-suc}
+use Rattle.copying.proofs.Takes.{Reads, then, shortest-reads, at-unsigned, at-signed, at-unsigneds, at-signeds, at-floats, header-reads, word-reads, array-word-reads, count-reads, some-byte, float-reads}
 use Rattle.copying.proofs.Turns.{paced, handed-is, copy-turn, copy-settles}
 
 -- ---- copied as it is
@@ -142,18 +141,7 @@ one-event L s d a e s′ r pos c b h =
     ∙ ap (λ (l : List ℕ). after (length a) (copy L (settled o (reached b pos l)) c (put b pos l))) out
     ∙ ap (λ (p : ℕ). after (length a) (copy L (settled o p) c (put b pos a))) (put-all b pos a h)
 
--- ---- what the reader makes of some bytes
-
--- From a depth and phase on, the bytes a come to m; the reader goes on behind them.
-abbrev pub Reads : Limits → ℕ → Phase → List ℕ → Stepped → Type 0
-Reads L d p a m = (n : ℕ) (t : List ℕ) → scan L n d p (a ++ t) ≡ scanned (n + length a) m (λ d′ p′. scan L (n + length a) d′ p′ t)
-
--- bytes that raise nothing, and more bytes
-then : (L : Limits) (d : ℕ) (p : Phase) (a : List ℕ) (d1 : ℕ) (p1 : Phase) (a1 : List ℕ) (m : Stepped) → Reads L d p a (on [] d1 p1) → Reads L d1 p1 a1 m → Reads L d p (a ++ a1) m
-unfolding scanned
-then L d p a d1 p1 a1 m f g n t =
-    let e : n + length a + length a1 ≡ n + length (a ++ a1) = omega (arith, length-append a a1) in
-    ap (scan L n d p) (append-assoc a a1 t) ∙ f n (a1 ++ t) ∙ g (n + length a) t ∙ ap (λ (k : ℕ). scanned k m (λ d′ p′. scan L k d′ p′ t)) e
+-- ---- the events of a field
 
 -- bytes that raise an event
 raises : (L : Limits) (d : ℕ) (p : Phase) (a : List ℕ) (e : Event) (es : List Event) (d1 : ℕ) (p1 : Phase) → Fair p → 0 < length a → eventBytes (leftIn p) e ≡ a → Reads L d p a (on (e ∷ es) d1 p1)
@@ -167,184 +155,6 @@ raises L d p a e es d1 p1 f m w r =
       calls-is = λ t. r 0 t ∙ ap (λ (k : ℕ). record { read = k; answer = calls.event e; state = raisedState d1 p1 es }) z;
       bytes = w;
     }
-
--- ---- varints
-
--- phases that take a varint at depth d: P within it, k bytes having come to v, and F where its value is known
-pub record Varying (L : Limits) (d : ℕ) (P : ℕ → ℕ → Phase) (F : ℕ → Stepped) : Type 0 where
-  pub pace : (k v : ℕ) → paceOf (P k v) ≡ byte
-  pub steps : (k v b : ℕ) → step L d (P k v) b ≡ within d (push L k v b) P F
-
-scan-byte : (L : Limits) (n d : ℕ) (p : Phase) (b : ℕ) (bs : List ℕ) → paceOf p ≡ byte → scan L n d p (b ∷ bs) ≡ scanned (suc n) (step L d p b) (λ d′ p′. scan L (suc n) d′ p′ bs)
-unfolding scan
-scan-byte L n d p b bs e =
-    ap
-    (λ (q : Pace).
-    elim q [
-      | byte ↦ scanned (suc n) (step L d p b) (λ d′ p′. scan L (suc n) d′ p′ bs)
-      | bulk id r total o ↦ piece n d id r total o (min (total - o) (length (b ∷ bs))) (b ∷ bs)
-    ])
-    e
-
-module _ (L : Limits) (d : ℕ) (P : ℕ → ℕ → Phase) (F : ℕ → Stepped) (w : Varying L d P F) where
-  -- one byte of it
-  varint-byte : (n k v b : ℕ) (bs : List ℕ) (q : Push) → push L k v b ≡ q → scan L n d (P k v) (b ∷ bs) ≡ scanned (suc n) (within d q P F) (λ d′ p′. scan L (suc n) d′ p′ bs)
-  varint-byte n k v b bs q e =
-      scan-byte L n d (P k v) b bs (w .pace k v)
-      ∙ ap (λ (m : Stepped). scanned (suc n) m (λ d′ p′. scan L (suc n) d′ p′ bs)) (w .steps k v b ∙ ap (λ (x : Push). within d x P F) e)
-
-  -- the reader takes the bytes that the layout takes
-  takes : (bs : List ℕ) (n m k v x : ℕ) (t : List ℕ) → varintFrom L k v bs ≡ whole x t → m + length t ≡ n + length bs
-      → scan L n d (P k v) bs ≡ scanned m (F x) (λ d′ p′. scan L m d′ p′ t)
-  unfolding varintFrom within scanned
-  takes [] n m k v x t e l = absurd (let z : _≡_ {A = ℕ} 0 1 = cc in omega arith)
-  takes (b ∷ bs) n m k v x t e l = go (push L k v b) refl (λ k′ v′. takes bs (suc n) m k′ v′ x t)
-    where
-      go : (q : Push) → push L k v b ≡ q
-          → ((k′ v′ : ℕ) → varintFrom L k′ v′ bs ≡ whole x t → m + length t ≡ suc n + length bs → scan L (suc n) d (P k′ v′) bs ≡ scanned m (F x) (λ d′ p′. scan L m d′ p′ t))
-          → scan L n d (P k v) (b ∷ bs) ≡ scanned m (F x) (λ d′ p′. scan L m d′ p′ t)
-      go (more k′ v′) i ih = varint-byte n k v b bs (more k′ v′) i ∙ ih k′ v′ (sym (step-more L k v b k′ v′ bs i) ∙ e) (omega arith)
-      go (value y) i ih =
-          let f = sym (step-value L k v b y bs i) ∙ e in
-          let y≡ : y ≡ x = cc in
-          let t≡ : bs ≡ t = cc in
-          let m≡ : suc n ≡ m = omega (arith, ap length t≡) in
-          varint-byte n k v b bs (value y) i
-          ∙ ap (λ (z : ℕ). scanned (suc n) (F z) (λ d′ p′. scan L (suc n) d′ p′ bs)) y≡
-          ∙ ap (λ (z : List ℕ). scanned (suc n) (F x) (λ d′ p′. scan L (suc n) d′ p′ z)) t≡
-          ∙ ap (λ (z : ℕ). scanned z (F x) (λ d′ p′. scan L z d′ p′ t)) m≡
-      go overrun i ih = absurd (let f = sym (step-over L k v b bs i) ∙ e in let z : _≡_ {A = ℕ} 0 1 = cc in omega arith)
-
-  pub shortest-reads : (x : ℕ) → x < 2 ^ L .bits → Reads L d (P 0 0) (shortest x) (F x)
-  shortest-reads x h n t = takes (shortest x ++ t) n (n + length (shortest x)) 0 0 x t (varint-parses L .forth x t h) (omega (arith, length-append (shortest x) t))
-
-module _ (L : Limits) (d id : ℕ) where
-  at-header : Varying L d inHeader (atHeader L d)
-  unfolding step
-  at-header = record { pace = λ k v. refl; steps = λ k v b. refl }
-
-  at-unsigned : (left : ℕ) → Varying L d (inUnsigned id left) (atUnsigned d id left)
-  unfolding step
-  at-unsigned left = record { pace = λ k v. refl; steps = λ k v b. refl }
-
-  at-signed : (left : ℕ) → Varying L d (inSigned id left) (atSigned d id left)
-  unfolding step
-  at-signed left = record { pace = λ k v. refl; steps = λ k v b. refl }
-
-  at-word : Varying L d (inWord id) (atWord L d id)
-  unfolding step
-  at-word = record { pace = λ k v. refl; steps = λ k v b. refl }
-
-  at-unsigneds : Varying L d (inUnsignedCount id) (atUnsignedCount L d id)
-  unfolding step
-  at-unsigneds = record { pace = λ k v. refl; steps = λ k v b. refl }
-
-  at-signeds : Varying L d (inSignedCount id) (atSignedCount L d id)
-  unfolding step
-  at-signeds = record { pace = λ k v. refl; steps = λ k v b. refl }
-
-  at-floats : Varying L d (inFloatCount id) (atFloatCount L d id)
-  unfolding step
-  at-floats = record { pace = λ k v. refl; steps = λ k v b. refl }
-
-  at-array-word : (count : ℕ) → Varying L d (inArrayWord id count) (atArrayWord d id count)
-  unfolding step
-  at-array-word count = record { pace = λ k v. refl; steps = λ k v b. refl }
-
--- ---- headers, words and counts
-
-wire-is : (t : Wire) → (wireNumber t ≤ 7) × (wireOf (wireNumber t) ≡ t)
-wire-is T-unsigned = (omega arith, refl)
-wire-is T-signed = (omega arith, refl)
-wire-is T-fixlen = (omega arith, refl)
-wire-is T-unsigneds = (omega arith, refl)
-wire-is T-signeds = (omega arith, refl)
-wire-is T-floats = (omega arith, refl)
-wire-is T-begin = (omega arith, refl)
-wire-is T-end = (omega arith, refl)
-
-subtype-is : (s : Subtype) → (subtypeNumber s ≤ 7) × (subtypeOf (subtypeNumber s) ≡ known s)
-subtype-is (float fp32) = (omega arith, refl)
-subtype-is (float fp64) = (omega arith, refl)
-subtype-is (raw string) = (omega arith, refl)
-subtype-is (raw blob) = (omega arith, refl)
-
-module _ (L : Limits) (fit : Fit L) (d id : ℕ) where
-  header-reads : (t : Wire) → id ≤ L .id → Reads L d idle (header id t) (atWire L d id t)
-  unfolding atHeader
-  header-reads t h =
-      let i = wire-is t in
-      let q : (id * 8 + wireNumber t) / 8 ≡ id = omega (arith, i .0) in
-      let r : (id * 8 + wireNumber t) % 8 ≡ wireNumber t = omega (arith, i .0) in
-      let e : atHeader L d (id * 8 + wireNumber t) ≡ atWire L d id t = rw (q, r, i .1, le-leb id (L .id) h) in
-      subst (Reads L d idle (header id t)) e (shortest-reads L d inHeader (atHeader L d) (at-header L d id) (id * 8 + wireNumber t) (omega (arith, i .0, fit .headers)))
-
-  word-reads : (n : ℕ) (s : Subtype) → n ≤ L .size → Reads L d (inWord id 0 0) (word n s) (atSubtype L d id n (known s))
-  unfolding atWord
-  word-reads n s h =
-      let i = subtype-is s in
-      let q : (n * 8 + subtypeNumber s) / 8 ≡ n = omega (arith, i .0) in
-      let r : (n * 8 + subtypeNumber s) % 8 ≡ subtypeNumber s = omega (arith, i .0) in
-      let e : atWord L d id (n * 8 + subtypeNumber s) ≡ atSubtype L d id n (known s) = rw (q, r, i .1) in
-      subst (Reads L d (inWord id 0 0) (word n s)) e (shortest-reads L d (inWord id) (atWord L d id) (at-word L d id) (n * 8 + subtypeNumber s) (omega (arith, i .0, fit .words)))
-
-  array-word-reads : (count : ℕ) (w : Width) → bytesOf w ≤ L .size → Reads L d (inArrayWord id count 0 0) (word (bytesOf w) (float w)) (atElement d id count (bytesOf w) (known (float w)))
-  unfolding atArrayWord
-  array-word-reads count w h =
-      let s : Subtype = float w in
-      let n : ℕ = bytesOf w in
-      let i = subtype-is s in
-      let q : (n * 8 + subtypeNumber s) / 8 ≡ n = omega (arith, i .0) in
-      let r : (n * 8 + subtypeNumber s) % 8 ≡ subtypeNumber s = omega (arith, i .0) in
-      let e : atArrayWord d id count (n * 8 + subtypeNumber s) ≡ atElement d id count n (known s) = rw (q, r, i .1) in
-      subst (Reads L d (inArrayWord id count 0 0) (word n s)) e (shortest-reads L d (inArrayWord id count) (atArrayWord d id count) (at-array-word L d id count) (n * 8 + subtypeNumber s) (omega (arith, i .0, fit .words)))
-
--- ---- floats
-
-some-byte : (w : Width) → 0 < bytesOf w
-some-byte fp32 = omega arith
-some-byte fp64 = omega arith
-
-module _ (L : Limits) (d id : ℕ) (w : Width) (left : ℕ) where
-  -- a float is whole
-  abbrev whole-float : ℕ → Stepped
-  whole-float x = on (Float id w x ∷ []) d (nextOr left (λ m. inFloat id w m 0 0))
-
-  float-byte : (n k v b : ℕ) (bs : List ℕ) (t : Bool) → ltb (k + 1) (bytesOf w) ≡ t
-      → scan L n d (inFloat id w left k v) (b ∷ bs)
-      ≡ scanned (suc n) (pick t (on [] d (inFloat id w left (k + 1) (v + b * 256 ^ k))) (whole-float (v + b * 256 ^ k))) (λ d′ p′. scan L (suc n) d′ p′ bs)
-  unfolding step atFloat
-  float-byte n k v b bs t e =
-      scan-byte L n d (inFloat id w left k v) b bs refl
-      ∙ ap (λ (u : Bool). scanned (suc n) (pick u (on [] d (inFloat id w left (k + 1) (v + b * 256 ^ k))) (whole-float (v + b * 256 ^ k))) (λ d′ p′. scan L (suc n) d′ p′ bs)) e
-
-  -- the reader takes the bytes that the layout takes
-  takes-low : (j : ℕ) (bs : List ℕ) (n m k v x : ℕ) (t : List ℕ) → k + suc j ≡ bytesOf w → lowFrom (suc j) k v bs ≡ whole x t → m + length t ≡ n + length bs
-      → scan L n d (inFloat id w left k v) bs ≡ scanned m (whole-float x) (λ d′ p′. scan L m d′ p′ t)
-  unfolding lowFrom scanned
-  takes-low j [] n m k v x t f e l = absurd (let z : _≡_ {A = ℕ} 0 1 = cc in omega arith)
-  takes-low zero (b ∷ bs) n m k v x t f e l =
-      let x≡ : v + b * 256 ^ k ≡ x = cc in
-      let t≡ : bs ≡ t = cc in
-      let m≡ : suc n ≡ m = omega (arith, ap length t≡) in
-      float-byte n k v b bs false (le-ltb (k + 1) (bytesOf w) (omega arith))
-      ∙ ap (λ (z : ℕ). record { read = suc n; answer = calls.event (Float id w z); state = reading d (nextOr left (λ m. inFloat id w m 0 0)) }) x≡
-      ∙ ap (λ (z : ℕ). record { read = z; answer = calls.event (Float id w x); state = reading d (nextOr left (λ m. inFloat id w m 0 0)) }) m≡
-  takes-low (suc j) (b ∷ bs) n m k v x t f e l =
-      float-byte n k v b bs true (lt-ltb (k + 1) (bytesOf w) (omega arith))
-      ∙ takes-low j bs (suc n) m (k + 1) (v + b * 256 ^ k) x t (omega arith) e (omega arith)
-
-  float-reads : (x : ℕ) → x < 256 ^ bytesOf w → Reads L d (inFloat id w left 0 0) (lowBytes (bytesOf w) x) (whole-float x)
-  float-reads x h n t = go (bytesOf w) refl (low-parses (bytesOf w) .forth x t h)
-    where
-      go : (k : ℕ) → bytesOf w ≡ k → lowFrom k 0 0 (lowBytes (bytesOf w) x ++ t) ≡ whole x t
-          → scan L n d (inFloat id w left 0 0) (lowBytes (bytesOf w) x ++ t) ≡ scanned (n + length (lowBytes (bytesOf w) x)) (whole-float x) (λ d′ p′. scan L (n + length (lowBytes (bytesOf w) x)) d′ p′ t)
-      go zero e f = absurd (omega (arith, some-byte w))
-      go (suc j) e f =
-          takes-low j (lowBytes (bytesOf w) x ++ t) n (n + length (lowBytes (bytesOf w) x)) 0 0 x t (omega arith) f
-          (omega (arith, length-append (lowBytes (bytesOf w) x) t))
-
--- ---- the events of a field
 
 module _ (L : Limits) (d : ℕ) where
   event-as-is : (p : Phase) (a : List ℕ) (e : Event) (es : List Event) (d1 : ℕ) (p1 : Phase) → Fair p → 0 < length a → eventBytes (leftIn p) e ≡ a → Reads L d p a (on (e ∷ es) d1 p1)
@@ -411,6 +221,52 @@ module _ (L : Limits) (d : ℕ) where
       event-as-is (inFloat id w left 0 0) (lowBytes (bytesOf w) x) (Float id w x) [] d (nextOr left (λ m. inFloat id w m 0 0)) (some-byte w) (omega (arith, length-low (bytesOf w) x, some-byte w)) refl
       (float-reads L d id w left x h)
 
+-- ---- the elements of a float array
+
+-- the first n bytes as a number's, and k bytes behind them
+record Spelled (n k : ℕ) (bs : List ℕ) : Type 0 where
+  bits : ℕ
+  behind : List ℕ
+  small : bits < 256 ^ n
+  is : lowBytes n bits ++ behind ≡ bs
+  bytes : Bytes behind
+  long : length behind ≡ k
+
+spelled : (n k : ℕ) (bs : List ℕ) → Bytes bs → length bs ≡ n + k → Spelled n k bs
+unfolding lowBytes
+spelled zero k bs a l = record { bits = 0; behind = bs; small = omega arith; is = refl; bytes = a; long = omega arith }
+spelled (suc n) k [] a l = absurd (omega arith)
+spelled (suc n) k (b ∷ bs) a l =
+    let f = spelled n k bs (a .1) (omega arith) in
+    let x : ℕ = b + 256 * f .bits in
+    let q : x % 256 ≡ b = omega (arith, a .0) in
+    let r : x / 256 ≡ f .bits = omega (arith, a .0) in
+    record {
+      bits = x;
+      behind = f .behind;
+      small = omega (arith, a .0, f .small, pow-suc 256 n);
+      is = ap (λ (y : ℕ). (y ∷ lowBytes n (x / 256)) ++ f .behind) q ∙ ap (λ (y : ℕ). (b ∷ lowBytes n y) ++ f .behind) r ∙ ap (λ (l : List ℕ). b ∷ l) (f .is);
+      bytes = f .bytes;
+      long = f .long;
+    }
+
+-- any bytes are the elements of a float array, by their number
+any-floats : (L : Limits) (d id : ℕ) (w : Width) (left m : ℕ) (bs : List ℕ) → Bytes bs → length bs ≡ m * bytesOf w
+    → AsIs L (reading d (firstOr (m + left) (λ j. inFloat id w j 0 0))) d bs (reading d (firstOr left (λ j. inFloat id w j 0 0))) d
+any-floats L d id w left zero [] a l =
+    let z : left ≡ 0 + left = omega arith in
+    let p : ℕ → Phase = λ j. inFloat id w j 0 0 in
+    subst (λ (n : ℕ). AsIs L (reading d (firstOr n p)) d [] (reading d (firstOr left p)) d) z (none-as-is L (reading d (firstOr left p)) d)
+any-floats L d id w left zero (b ∷ bs) a l = absurd (omega arith)
+any-floats L d id w left (suc m) bs a l =
+    let f = spelled (bytesOf w) (m * bytesOf w) bs a (omega arith) in
+    let p : ℕ → Phase = λ j. inFloat id w j 0 0 in
+    let z : suc (m + left) ≡ suc m + left = omega arith in
+    subst (λ (n : ℕ). AsIs L (reading d (firstOr n p)) d bs (reading d (firstOr left p)) d) z
+    (subst (λ (l : List ℕ). AsIs L (reading d (p (suc (m + left)))) d l (reading d (firstOr left p)) d) (f .is)
+    (joined L (reading d (p (suc (m + left)))) d (lowBytes (bytesOf w) (f .bits)) (reading d (firstOr (m + left) p)) d (f .behind) (reading d (firstOr left p)) d
+    (float-element L d id w (suc (m + left)) (f .bits) (f .small)) (any-floats L d id w left m (f .behind) (f .bytes) (f .long))))
+
 -- ---- fields
 
 some-bytes : (n : ℕ) (a : List ℕ) → 0 < length (shortest n ++ a)
@@ -436,20 +292,15 @@ module _ (L : Limits) (fit : Fit L) (d id : ℕ) where
       subst (λ (l : List ℕ). AsIs L (reading d idle) d l (reading d idle) d) (append-assoc (header id t) a1 a2)
       (joined L (reading d idle) d (header id t ++ a1) s d a2 (reading d idle) d f g)
 
-  counted : (P : ℕ → ℕ → Phase) (F : ℕ → Stepped) (n : ℕ) (m : Stepped) → Varying L d P F → n ≤ L .count → F n ≡ pick (leb n (L .count)) m bad → Reads L d (P 0 0) (shortest n) m
-  counted P F n m w h e =
-      subst (Reads L d (P 0 0) (shortest n)) (e ∙ ap (λ (t : Bool). pick t m bad) (le-leb n (L .count) h))
-      (shortest-reads L d P F w n (omega (arith, fit .counts)))
-
-  unsigned-as-is : (n : ℕ) → id ≤ L .id → n < 2 ^ L .bits → AsIs L (reading d idle) d (header id T-unsigned ++ shortest n) (reading d idle) d
+  unsigned-field : (n : ℕ) → id ≤ L .id → n < 2 ^ L .bits → AsIs L (reading d idle) d (header id T-unsigned ++ shortest n) (reading d idle) d
   unfolding atUnsigned eventBytes depthBy
-  unsigned-as-is n h b =
+  unsigned-field n h b =
       behind T-unsigned (inUnsigned id 0 0 0) (shortest n) (Unsigned id n) [] idle h refl refl
       (shortest-reads L d (inUnsigned id 0) (atUnsigned d id 0) (at-unsigned L d id 0) n b)
 
-  signed-as-is : (n : ℕ) → id ≤ L .id → n < 2 ^ L .bits → AsIs L (reading d idle) d (header id T-signed ++ shortest n) (reading d idle) d
+  signed-field : (n : ℕ) → id ≤ L .id → n < 2 ^ L .bits → AsIs L (reading d idle) d (header id T-signed ++ shortest n) (reading d idle) d
   unfolding atSigned eventBytes depthBy
-  signed-as-is n h b =
+  signed-field n h b =
       behind T-signed (inSigned id 0 0 0) (shortest n) (Signed id (unzigzag n)) [] idle h refl (ap (λ (m : ℕ). header id T-signed ++ shortest m) (zigzag-unzigzag n))
       (shortest-reads L d (inSigned id 0) (atSigned d id 0) (at-signed L d id 0) n b)
 
@@ -457,10 +308,10 @@ module _ (L : Limits) (fit : Fit L) (d id : ℕ) where
   width-small fp32 = omega (arith, fit .floats)
   width-small fp64 = omega (arith, fit .floats)
 
-  float-as-is : (w : Width) (x : ℕ) → id ≤ L .id → x < 256 ^ bytesOf w
+  float-field : (w : Width) (x : ℕ) → id ≤ L .id → x < 256 ^ bytesOf w
       → AsIs L (reading d idle) d (header id T-fixlen ++ (word (bytesOf w) (float w) ++ lowBytes (bytesOf w) x)) (reading d idle) d
   unfolding eventBytes depthBy
-  float-as-is w x h b =
+  float-field w x h b =
       announced T-fixlen (word (bytesOf w) (float w)) (lowBytes (bytesOf w) x) (reading d (inFloat id w 0 0 0))
       (behind T-fixlen (inWord id 0 0) (word (bytesOf w) (float w)) (Fixlen id (float w) (bytesOf w)) [] (inFloat id w 0 0 0) h refl refl
       (subst (Reads L d (inWord id 0 0) (word (bytesOf w) (float w)))
@@ -468,16 +319,16 @@ module _ (L : Limits) (fit : Fit L) (d id : ℕ) where
       (word-reads L fit d id (bytesOf w) (float w) (width-small w))))
       (float-element L d id w 0 x b)
 
-  payload-as-is : (r : Raw) (bs : List ℕ) → id ≤ L .id → length bs ≤ L .size → AsIs L (reading d idle) d (header id T-fixlen ++ (word (length bs) (raw r) ++ bs)) (reading d idle) d
+  payload-field : (r : Raw) (bs : List ℕ) → id ≤ L .id → length bs ≤ L .size → AsIs L (reading d idle) d (header id T-fixlen ++ (word (length bs) (raw r) ++ bs)) (reading d idle) d
   unfolding eventBytes depthBy
-  payload-as-is r [] h l =
+  payload-field r [] h l =
       announced T-fixlen (word 0 (raw r)) [] (owing d id r)
       (behind T-fixlen (inWord id 0 0) (word 0 (raw r)) (Fixlen id (raw r) 0) (Piece id r 0 0 [] ∷ []) idle h refl refl
       (subst (Reads L d (inWord id 0 0) (word 0 (raw r)))
       (ap (λ (t : Bool). pick t (on (Fixlen id (raw r) 0 ∷ Piece id r 0 0 [] ∷ []) d idle) bad) (le-leb 0 (L .size) l))
       (word-reads L fit d id 0 (raw r) l)))
       (one-event L (owing d id r) d [] (Piece id r 0 0 []) (reading d idle) (empty-raises L d id r))
-  payload-as-is r (b ∷ bs) h l =
+  payload-field r (b ∷ bs) h l =
       let n : ℕ = suc (length bs) in
       announced T-fixlen (word n (raw r)) (b ∷ bs) (reading d (inPayload id r n 0))
       (behind T-fixlen (inWord id 0 0) (word n (raw r)) (Fixlen id (raw r) n) [] (inPayload id r n 0) h refl refl
@@ -493,75 +344,102 @@ module _ (L : Limits) (fit : Fit L) (d id : ℕ) where
       let z : length xs + 0 ≡ length xs = omega arith in
       subst (λ (n : ℕ). AsIs L (reading d (firstOr n p)) d (each enc xs) (reading d idle) d) z (each-as-is L d p ok enc one xs 0 h)
 
-  unsigneds-as-is : (ns : List ℕ) → id ≤ L .id → length ns ≤ L .count → All (λ n. n < 2 ^ L .bits) ns
+  unsigned-array : (ns : List ℕ) → id ≤ L .id → length ns ≤ L .count → All (λ n. n < 2 ^ L .bits) ns
       → AsIs L (reading d idle) d (header id T-unsigneds ++ (shortest (length ns) ++ each shortest ns)) (reading d idle) d
   unfolding atUnsignedCount eventBytes depthBy
-  unsigneds-as-is ns h l a =
+  unsigned-array ns h l a =
       let p : ℕ → Phase = λ m. inUnsigned id m 0 0 in
       announced T-unsigneds (shortest (length ns)) (each shortest ns) (reading d (firstOr (length ns) p))
       (behind T-unsigneds (inUnsignedCount id 0 0) (shortest (length ns)) (Array id unsigneds (length ns)) [] (firstOr (length ns) p) h refl refl
-      (counted (inUnsignedCount id) (atUnsignedCount L d id) (length ns) (on (Array id unsigneds (length ns) ∷ []) d (firstOr (length ns) p)) (at-unsigneds L d id) l refl))
+      (count-reads L fit d id (inUnsignedCount id) (atUnsignedCount L d id) (length ns) (on (Array id unsigneds (length ns) ∷ []) d (firstOr (length ns) p)) (at-unsigneds L d id) l refl))
       (all-as-is p (λ n. n < 2 ^ L .bits) shortest (λ left n b. unsigned-element L d id left n b) ns a)
 
-  signeds-as-is : (zs : List ℤ) → id ≤ L .id → length zs ≤ L .count → All (λ z. zigzag z < 2 ^ L .bits) zs
+  signed-array : (zs : List ℤ) → id ≤ L .id → length zs ≤ L .count → All (λ z. zigzag z < 2 ^ L .bits) zs
       → AsIs L (reading d idle) d (header id T-signeds ++ (shortest (length zs) ++ each (λ z. shortest (zigzag z)) zs)) (reading d idle) d
   unfolding atSignedCount eventBytes depthBy
-  signeds-as-is zs h l a =
+  signed-array zs h l a =
       let p : ℕ → Phase = λ m. inSigned id m 0 0 in
       announced T-signeds (shortest (length zs)) (each (λ z. shortest (zigzag z)) zs) (reading d (firstOr (length zs) p))
       (behind T-signeds (inSignedCount id 0 0) (shortest (length zs)) (Array id signeds (length zs)) [] (firstOr (length zs) p) h refl refl
-      (counted (inSignedCount id) (atSignedCount L d id) (length zs) (on (Array id signeds (length zs) ∷ []) d (firstOr (length zs) p)) (at-signeds L d id) l refl))
+      (count-reads L fit d id (inSignedCount id) (atSignedCount L d id) (length zs) (on (Array id signeds (length zs) ∷ []) d (firstOr (length zs) p)) (at-signeds L d id) l refl))
       (all-as-is p (λ z. zigzag z < 2 ^ L .bits) (λ z. shortest (zigzag z)) (λ left z b. signed-element L d id left (zigzag z) b) zs a)
 
-  floats-as-is : (w : Width) (xs : List ℕ) → id ≤ L .id → length xs ≤ L .count → All (λ x. x < 256 ^ bytesOf w) xs
+  float-array : (w : Width) (xs : List ℕ) → id ≤ L .id → length xs ≤ L .count → All (λ x. x < 256 ^ bytesOf w) xs
       → AsIs L (reading d idle) d (header id T-floats ++ (shortest (length xs) ++ (word (bytesOf w) (float w) ++ each (lowBytes (bytesOf w)) xs))) (reading d idle) d
   unfolding atFloatCount atArrayWord eventBytes depthBy
-  floats-as-is w xs h l a =
+  float-array w xs h l a =
       let n : ℕ = length xs in
       let p : ℕ → Phase = λ m. inFloat id w m 0 0 in
       subst (λ (l : List ℕ). AsIs L (reading d idle) d (header id T-floats ++ l) (reading d idle) d) (append-assoc (shortest n) (word (bytesOf w) (float w)) (each (lowBytes (bytesOf w)) xs))
       (announced T-floats (shortest n ++ word (bytesOf w) (float w)) (each (lowBytes (bytesOf w)) xs) (reading d (firstOr n p))
       (behind T-floats (inFloatCount id 0 0) (shortest n ++ word (bytesOf w) (float w)) (Array id (floats w) n) [] (firstOr n p) h refl refl
       (then L d (inFloatCount id 0 0) (shortest n) d (inArrayWord id n 0 0) (word (bytesOf w) (float w)) (on (Array id (floats w) n ∷ []) d (firstOr n p))
-      (counted (inFloatCount id) (atFloatCount L d id) n (on [] d (inArrayWord id n 0 0)) (at-floats L d id) l refl)
+      (count-reads L fit d id (inFloatCount id) (atFloatCount L d id) n (on [] d (inArrayWord id n 0 0)) (at-floats L d id) l refl)
       (subst (Reads L d (inArrayWord id n 0 0) (word (bytesOf w) (float w)))
       (ap (λ (t : Bool). pick t (on (Array id (floats w) n ∷ []) d (firstOr n p)) bad) (eq-eqb (bytesOf w) (bytesOf w) refl))
-      (array-word-reads L fit d id n w (width-small w)))))
+      (array-word-reads L fit d id n (bytesOf w) (float w) (width-small w)))))
       (all-as-is p (λ x. x < 256 ^ bytesOf w) (lowBytes (bytesOf w)) (λ left x b. float-element L d id w (suc left) x b) xs a))
 
-  begin-as-is : id ≤ L .id → d < L .depth → AsIs L (reading d idle) d (header id T-begin) (reading (suc d) idle) (suc d)
+  begin-field : id ≤ L .id → d < L .depth → AsIs L (reading d idle) d (header id T-begin) (reading (suc d) idle) (suc d)
   unfolding eventBytes depthBy
-  begin-as-is h l = bare T-begin (Begin id) (suc d) h (ap (λ (t : Bool). pick t (on (Begin id ∷ []) (suc d) idle) bad) (lt-ltb d (L .depth) l)) refl
+  begin-field h l = bare T-begin (Begin id) (suc d) h (ap (λ (t : Bool). pick t (on (Begin id ∷ []) (suc d) idle) bad) (lt-ltb d (L .depth) l)) refl
 
 -- a close is written with id 0
-end-as-is : (L : Limits) → Fit L → (d : ℕ) → 0 < d → AsIs L (reading d idle) d (header 0 T-end) (reading (d - 1) idle) (d - 1)
+end-field : (L : Limits) → Fit L → (d : ℕ) → 0 < d → AsIs L (reading d idle) d (header 0 T-end) (reading (d - 1) idle) (d - 1)
 unfolding eventBytes depthBy
-end-as-is L fit d l = bare L fit d 0 T-end End (d - 1) (omega arith) (ap (λ (t : Bool). pick t bad (on (End ∷ []) (d - 1) idle)) (ne-eqb d 0 (omega arith))) refl
+end-field L fit d l = bare L fit d 0 T-end End (d - 1) (omega arith) (ap (λ (t : Bool). pick t bad (on (End ∷ []) (d - 1) idle)) (ne-eqb d 0 (omega arith))) refl
 
 field-as-is : (L : Limits) → Fit L → (d : ℕ) (x : Field) → Legal L x → Nests L d x → AsIs L (reading d idle) d (fieldBytes x) (reading (depthAfter d x) idle) (depthAfter d x)
 unfolding fieldBytes depthAfter
-field-as-is L fit d (unsigned id n) (h, b) s = unsigned-as-is L fit d id n h b
-field-as-is L fit d (signed id z) (h, b) s = signed-as-is L fit d id (zigzag z) h b
-field-as-is L fit d (float id w x) (h, b) s = float-as-is L fit d id w x h b
-field-as-is L fit d (payload id r bs) (h, l, b) s = payload-as-is L fit d id r bs h l
-field-as-is L fit d (unsignedArray id ns) (h, l, a) s = unsigneds-as-is L fit d id ns h l a
-field-as-is L fit d (signedArray id zs) (h, l, a) s = signeds-as-is L fit d id zs h l a
-field-as-is L fit d (floatArray id w xs) (h, l, a) s = floats-as-is L fit d id w xs h l a
-field-as-is L fit d (begin id) h s = begin-as-is L fit d id h s
-field-as-is L fit d (end id) h s = end-as-is L fit d s
+field-as-is L fit d (unsigned id n) (h, b) s = unsigned-field L fit d id n h b
+field-as-is L fit d (signed id z) (h, b) s = signed-field L fit d id (zigzag z) h b
+field-as-is L fit d (float id w x) (h, b) s = float-field L fit d id w x h b
+field-as-is L fit d (payload id r bs) (h, l, b) s = payload-field L fit d id r bs h l
+field-as-is L fit d (unsignedArray id ns) (h, l, a) s = unsigned-array L fit d id ns h l a
+field-as-is L fit d (signedArray id zs) (h, l, a) s = signed-array L fit d id zs h l a
+field-as-is L fit d (floatArray id w xs) (h, l, a) s = float-array L fit d id w xs h l a
+field-as-is L fit d (begin id) h s = begin-field L fit d id h s
+field-as-is L fit d (end id) h s = end-field L fit d s
 
--- Whole fields in their shortest form are copied as they are.
-fields-go : (L : Limits) → Fit L → (xs : List Field) (d e : ℕ) → All (Legal L) xs → Balanced L d xs e → AsIs L (reading d idle) d (encode xs) (reading e idle) e
+all-fields : (L : Limits) → Fit L → (xs : List Field) (d e : ℕ) → All (Legal L) xs → Balanced L d xs e → AsIs L (reading d idle) d (encode xs) (reading e idle) e
 unfolding encode each
-fields-go L fit [] d e h n = subst (λ (k : ℕ). AsIs L (reading d idle) d [] (reading k idle) k) n (none-as-is L (reading d idle) d)
-fields-go L fit (x ∷ xs) d e h n =
+all-fields L fit [] d e h n = subst (λ (k : ℕ). AsIs L (reading d idle) d [] (reading k idle) k) n (none-as-is L (reading d idle) d)
+all-fields L fit (x ∷ xs) d e h n =
     joined L (reading d idle) d (fieldBytes x) (reading (depthAfter d x) idle) (depthAfter d x) (encode xs) (reading e idle) e
-    (field-as-is L fit d x (h .0) (n .0)) (fields-go L fit xs (depthAfter d x) e (h .1) (n .1))
+    (field-as-is L fit d x (h .0) (n .0)) (all-fields L fit xs (depthAfter d x) e (h .1) (n .1))
+
+-- ---- the laws
 
 -- at a field boundary
 abbrev pub between : ℕ → ℕ → Copy
 between d pos = free (reading d idle) d pos
 
+-- Whole fields, from a field boundary on.
 pub fields-as-is : (L : Limits) → Fit L → (xs : List Field) (d e pos : ℕ) (c b : List ℕ) → All (Legal L) xs → Balanced L d xs e → pos + length (encode xs) ≤ length b
     → copy L (between d pos) (encode xs ++ c) b ≡ after (length (encode xs)) (copy L (between e (pos + length (encode xs))) c (put b pos (encode xs)))
-fields-as-is L fit xs d e pos c b h n l = fields-go L fit xs d e h n pos c b l
+fields-as-is L fit xs d e pos c b h n l = all-fields L fit xs d e h n pos c b l
+
+-- Whole elements of an unsigned array, `left` more being due after them,
+pub unsigneds-as-is : (L : Limits) (ns : List ℕ) (left d id pos : ℕ) (c b : List ℕ) → All (λ n. n < 2 ^ L .bits) ns → pos + length (each shortest ns) ≤ length b
+    → copy L (free (reading d (firstOr (length ns + left) (λ m. inUnsigned id m 0 0))) d pos) (each shortest ns ++ c) b
+    ≡ after (length (each shortest ns)) (copy L (free (reading d (firstOr left (λ m. inUnsigned id m 0 0))) d (pos + length (each shortest ns))) c (put b pos (each shortest ns)))
+unsigneds-as-is L ns left d id pos c b a l = each-as-is L d (λ m. inUnsigned id m 0 0) (λ n. n < 2 ^ L .bits) shortest (unsigned-element L d id) ns left a pos c b l
+
+-- of a signed array,
+pub signeds-as-is : (L : Limits) (ns : List ℕ) (left d id pos : ℕ) (c b : List ℕ) → All (λ n. n < 2 ^ L .bits) ns → pos + length (each shortest ns) ≤ length b
+    → copy L (free (reading d (firstOr (length ns + left) (λ m. inSigned id m 0 0))) d pos) (each shortest ns ++ c) b
+    ≡ after (length (each shortest ns)) (copy L (free (reading d (firstOr left (λ m. inSigned id m 0 0))) d (pos + length (each shortest ns))) c (put b pos (each shortest ns)))
+signeds-as-is L ns left d id pos c b a l = each-as-is L d (λ m. inSigned id m 0 0) (λ n. n < 2 ^ L .bits) shortest (signed-element L d id) ns left a pos c b l
+
+-- and of a float array: any bytes, as many as m elements have.
+pub floats-as-is : (L : Limits) (w : Width) (m left d id pos : ℕ) (s c b : List ℕ) → Bytes s → length s ≡ m * bytesOf w → pos + length s ≤ length b
+    → copy L (free (reading d (firstOr (m + left) (λ j. inFloat id w j 0 0))) d pos) (s ++ c) b
+    ≡ after (length s) (copy L (free (reading d (firstOr left (λ j. inFloat id w j 0 0))) d (pos + length s)) c (put b pos s))
+floats-as-is L w m left d id pos s c b a n l = any-floats L d id w left m s a n pos c b l
+
+-- A message of such fields is its own plain copy.
+pub own-copy : (L : Limits) → Fit L → (T : List ℕ) (xs : List Field) → All (Legal L) xs → Balanced L 0 xs 0 → T ≡ encode xs → (verdictOf L T ≡ complete) × (plainCopy L T ≡ T)
+unfolding plainCopy
+own-copy L fit T xs h n e =
+    let a = accepts L fit xs h n in
+    (ap (verdictOf L) e ∙ a .0, ap (plainCopy L) e ∙ ap encode (a .1) ∙ encode-settled xs ∙ sym e)

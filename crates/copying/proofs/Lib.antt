@@ -9,4 +9,5 @@ pub mod Sound
 pub mod Reader
 pub mod Bound
 pub mod Whole
+pub mod Takes
 pub mod AsIs

@@ -1,15 +1,14 @@
 -- What is in its shortest form is copied as it is: whole fields from a field boundary on, and whole elements of an array, come out as the very
 -- bytes that were read. So a call may copy them as a block.
-use Prim.Native.Nat.{ℕ, zero, suc, _+_, _-_, _*_, _/_, _%_, _^_, _<_, _≤_, min}
+use Prim.Native.Nat.{ℕ, zero, suc, _+_, _-_, _*_, _/_, _%_, _^_, _<_, _≤_}
+use native.Mathlib.Nat.{pow-suc}
 use native.Mathlib.Omega.{arith}
 use mathlib.Core.Path.{_≡_, refl, sym, ap, _∙_, subst}
-use mathlib.Core.Bool.{Bool, false}
+use mathlib.Core.Bool.{Bool}
 use mathlib.Core.List.{List, [], _∷_, _++_, append-assoc}
-use lib.ListN.{length, take, drop, length-append}
-use lib.Seq.{drop-append-seam, take-append-add, take-at}
-use lib.Dec.{ltb}
+use lib.ListN.{length, length-append}
 use lib.IntN.{ℤ}
-use borrow.Author.Tests.{le-leb, le-ltb, lt-ltb, eq-eqb, ne-eqb}
+use borrow.Author.Tests.{le-leb, lt-ltb, eq-eqb, ne-eqb}
 use Rattle.layout.specs.Limits.{Limits, pick}
 use Rattle.layout.specs.Varint.{shortest}
 use Rattle.layout.specs.Zigzag.{zigzag, unzigzag}
@@ -28,200 +27,58 @@ use Rattle.laws.proofs.Parts.{length-low}
 use Rattle.laws.proofs.Message.{encode-settled}
 use Rattle.laws.proofs.Laws.{accepts}
 use Rattle.machine.specs.Machine.{Phase, inUnsigned, inSigned, inWord, inUnsignedCount, inSignedCount, inFloatCount, inArrayWord, inFloat, inPayload}
-use Rattle.machine.specs.Machine.{idle, on, bad, nextOr, firstOr, atWire, atUnsigned, atSigned}
-use Rattle.machine.specs.Machine.{atUnsignedCount, atSignedCount, atFloatCount, atArrayWord}
-use Rattle.machine.specs.Call.{State, reading, owing, broke, Pace, byte, bulk, paceOf, piece, Called, scan, scanned, raisedState, call}
-use Rattle.machine.specs.Call as calls
-use Rattle.machine.specs.Run.{placeOf}
-use Rattle.machine.proofs.Bridge.{Fair}
-use Rattle.machine.proofs.Calls.{FairPlace}
-use Rattle.emit.specs.Put.{put, reached}
-use Rattle.emit.proofs.Writes.{length-put, put-put, put-none, reached-is}
-use Rattle.copying.specs.Owed.{nothing, rest, depthBy, depthOnce, leftIn, dueIn}
-use Rattle.copying.specs.Copy.{Copy, Copied, after, settled, gone, handed, stuck, heard, allOf, copy}
-use native.Mathlib.Nat.{pow-suc}
+use Rattle.machine.specs.Machine.{idle, on, bad, nextOr, firstOr, atWire, atUnsigned, atSigned, atUnsignedCount, atSignedCount, atFloatCount, atArrayWord}
+use Rattle.machine.specs.Call.{State, reading, owing, raisedState}
+use Rattle.emit.specs.Put.{put}
+use Rattle.copying.specs.Owed.{depthBy}
+use Rattle.copying.specs.Copy.{Copy, after, copy}
+use Rattle.copying.proofs.OneEvent.{free, AsIs, none-as-is, joined, one-event, event-as-is, piece-raises, empty-raises}
 use Rattle.copying.proofs.Takes.{Reads, then, shortest-reads, at-unsigned, at-signed, at-unsigneds, at-signeds, at-floats, header-reads, word-reads, array-word-reads, count-reads, some-byte, float-reads}
-use Rattle.copying.proofs.Turns.{paced, handed-is, copy-turn, copy-settles}
 
--- ---- copied as it is
+-- ---- elements
 
--- a copier that owes nothing
-abbrev pub free : State → ℕ → ℕ → Copy
-free s d pos = record { reader = s; depth = d; pos = pos; owed = nothing }
+-- The bytes a are one element of an array, p m being where an element begins with m due from it on; `left` more are due after it.
+abbrev Element : Limits → ℕ → (ℕ → Phase) → ℕ → List ℕ → Type 0
+Element L d p left a = AsIs L (reading d (p (suc left))) d a (reading d (firstOr left p)) d
 
--- From a state and a depth, where nothing is owed, to another state and depth: wherever there is room for them, the bytes a go out as they
--- came in, and the call goes on from there.
-abbrev pub AsIs : Limits → State → ℕ → List ℕ → State → ℕ → Type 0
-AsIs L s d a s′ d′ = (pos : ℕ) (c b : List ℕ) → pos + length a ≤ length b → copy L (free s d pos) (a ++ c) b ≡ after (length a) (copy L (free s′ d′ (pos + length a)) c (put b pos a))
+-- they are n - left elements
+abbrev Elements : Limits → ℕ → (ℕ → Phase) → ℕ → ℕ → List ℕ → Type 0
+Elements L d p left n a = AsIs L (reading d (firstOr n p)) d a (reading d (firstOr left p)) d
 
-put-all : (b : List ℕ) (pos : ℕ) (a : List ℕ) → pos + length a ≤ length b → reached b pos a ≡ pos + length a
-put-all b pos a h = reached-is b pos a ∙ least (length a) (length b - pos) (omega arith)
-  where
-    least : (m r : ℕ) → m ≤ r → pos + min m r ≡ pos + m
-    least m r h = omega arith
+no-element : (L : Limits) (d : ℕ) (p : ℕ → Phase) (left : ℕ) → Elements L d p left (0 + left) []
+no-element L d p left = let z : left ≡ 0 + left = omega arith in subst (λ (n : ℕ). Elements L d p left n []) z (none-as-is L (reading d (firstOr left p)) d)
 
-after-after : (m n : ℕ) (r : Copied) → after m (after n r) ≡ after (m + n) r
-after-after m n r = let e : m + (n + r .used) ≡ m + n + r .used = omega arith in ap (λ (u : ℕ). record { used = u; answer = r .answer; copy = r .copy; buf = r .buf }) e
+one-more : (L : Limits) (d : ℕ) (p : ℕ → Phase) (left n : ℕ) (a l : List ℕ) → Element L d p (n + left) a → Elements L d p left (n + left) l → Elements L d p left (suc n + left) (a ++ l)
+one-more L d p left n a l f g =
+    let z : suc (n + left) ≡ suc n + left = omega arith in
+    subst (λ (n : ℕ). Elements L d p left n (a ++ l)) z (joined L (reading d (p (suc (n + left)))) d a (reading d (firstOr (n + left) p)) d l (reading d (firstOr left p)) d f g)
 
-pub none-as-is : (L : Limits) (s : State) (d : ℕ) → AsIs L s d [] s d
-none-as-is L s d pos c b h =
-    let p : pos ≡ pos + 0 = omega arith in
-    let z : (u : ℕ) → u ≡ 0 + u = λ u. omega arith in
-    let q : (r : Copied) → r ≡ after 0 r = λ r. ap (λ (u : ℕ). record { used = u; answer = r .answer; copy = r .copy; buf = r .buf }) (z (r .used)) in
-    q (copy L (free s d pos) c b)
-    ∙ ap (λ (l : List ℕ). after 0 (copy L (free s d pos) c l)) (sym (put-none b pos [] refl))
-    ∙ ap (λ (k : ℕ). after 0 (copy L (free s d k) c (put b pos []))) p
+-- element by element
+each-as-is : {A : Type 0} (L : Limits) (d : ℕ) (p : ℕ → Phase) (ok : A → Type 0) (enc : A → List ℕ) → ((left : ℕ) (x : A) → ok x → Element L d p left (enc x))
+    → (xs : List A) (left : ℕ) → All ok xs → Elements L d p left (length xs + left) (each enc xs)
+unfolding each
+each-as-is L d p ok enc one [] left h = no-element L d p left
+each-as-is L d p ok enc one (x ∷ xs) left h = one-more L d p left (length xs) (enc x) (each enc xs) (one (length xs + left) x (h .0)) (each-as-is L d p ok enc one xs left (h .1))
 
--- one run after another
-pub joined : (L : Limits) (s : State) (d : ℕ) (a : List ℕ) (s1 : State) (d1 : ℕ) (a1 : List ℕ) (s2 : State) (d2 : ℕ) → AsIs L s d a s1 d1 → AsIs L s1 d1 a1 s2 d2 → AsIs L s d (a ++ a1) s2 d2
-joined L s d a s1 d1 a1 s2 d2 f g pos c b h =
-    let n : length (a ++ a1) ≡ length a + length a1 = length-append a a1 in
-    let l : length (put b pos a) ≡ length b = length-put b pos a (omega arith) in
-    let w : put (put b pos a) (pos + length a) a1 ≡ put b pos (a ++ a1) =
-    ap (λ (k : ℕ). put (put b pos a) k a1) (sym (put-all b pos a (omega arith))) ∙ put-put b pos a a1 (omega arith) in
-    let p : pos + length a + length a1 ≡ pos + length (a ++ a1) = omega arith in
-    ap (λ (l : List ℕ). copy L (free s d pos) l b) (append-assoc a a1 c)
-    ∙ f pos (a1 ++ c) b (omega arith)
-    ∙ ap (after (length a)) (g (pos + length a) c (put b pos a) (omega arith))
-    ∙ after-after (length a) (length a1) (copy L (free s2 d2 (pos + length a + length a1)) c (put (put b pos a) (pos + length a) a1))
-    ∙ ap (λ (k : ℕ). after k (copy L (free s2 d2 (pos + length a + length a1)) c (put (put b pos a) (pos + length a) a1))) (sym n)
-    ∙ ap (λ (k : ℕ). after (length (a ++ a1)) (copy L (free s2 d2 k) c (put (put b pos a) (pos + length a) a1))) p
-    ∙ ap (λ (l : List ℕ). after (length (a ++ a1)) (copy L (free s2 d2 (pos + length (a ++ a1))) c l)) w
-
--- ---- one event
-
--- with room for a, the reader is handed bytes that begin with a
-handed-starts : (s : State) (room : ℕ) (a c : List ℕ) → length a ≤ room → (t : List ℕ) × (handed s room (a ++ c) ≡ a ++ t)
-unfolding handed
-handed-starts (reading d p) room a c h = go (paceOf p) (handed-is d p room (a ++ c))
-  where
-    go : (q : Pace) → handed (reading d p) room (a ++ c) ≡ paced q room (a ++ c) → (t : List ℕ) × (handed (reading d p) room (a ++ c) ≡ a ++ t)
-    go byte e = (c, e)
-    go (bulk id r total o) e =
-        let m : room ≡ length a + (room - length a) = omega arith in
-        (take (room - length a) c, e ∙ ap (λ (n : ℕ). take n (a ++ c)) m ∙ take-append-add a c (room - length a))
-handed-starts (owing d id r) room a c h = (c, refl)
-handed-starts broke room a c h = (c, refl)
-
--- where the next byte has room, or none is to come, no byte waits for room
-abbrev Moves : State → List ℕ → Type 0
-Moves (reading d p) a = 0 < length a
-Moves (owing d id r) a = Unit {0}
-Moves broke a = ⊥
-
-not-stuck : (s : State) (room : ℕ) (a c : List ℕ) → Moves s a → length a ≤ room → stuck s room (a ++ c) ≡ false
-unfolding stuck
-not-stuck (reading d p) room [] c m h = absurd (omega arith)
-not-stuck (reading d p) zero (x ∷ a) c m h = absurd (omega arith)
-not-stuck (reading d p) (suc room) (x ∷ a) c m h = refl
-not-stuck (owing d id r) room a c m h = refl
-not-stuck broke room a c m h = absurd m
-
--- The reader raises e at the end of a, and a is what e is written as.
-pub record Raises (L : Limits) (s : State) (a : List ℕ) (e : Event) (s′ : State) : Type 0 where
-  pub fair : FairPlace (placeOf s)
-  pub moves : Moves s a
-  pub calls-is : (t : List ℕ) → call L s (a ++ t) ≡ record { read = length a; answer = calls.event e; state = s′ }
-  pub bytes : eventBytes (dueIn s) e ≡ a
-
-pub one-event : (L : Limits) (s : State) (d : ℕ) (a : List ℕ) (e : Event) (s′ : State) → Raises L s a e s′ → AsIs L s d a s′ (depthBy d e)
-unfolding heard rest depthOnce
-one-event L s d a e s′ r pos c b h =
-    let k = free s d pos in
-    let room = length b - pos in
-    let t = handed-starts s room a c (omega arith) in
-    let q : call L s (handed s room (a ++ c)) ≡ record { read = length a; answer = calls.event e; state = s′ } = ap (call L s) (t .1) ∙ r .calls-is (t .0) in
-    let o = gone k s′ (allOf s e) in
-    let out : rest (o .owed) ≡ a = r .bytes in
-    let n : length (rest (o .owed)) ≡ length a = ap length out in
-    copy-turn L k (a ++ c) b (r .fair) refl (not-stuck s room a c (r .moves) (omega arith))
-    ∙ ap (λ (x : Called). heard k (a ++ c) b x (λ e. copy L (gone k (x .state) (allOf s e)) (drop (x .read) (a ++ c)) b)) q
-    ∙ ap (λ (l : List ℕ). after (length a) (copy L o l b)) (drop-append-seam a c)
-    ∙ ap (after (length a)) (copy-settles L o c b (omega arith) (omega arith))
-    ∙ ap (λ (l : List ℕ). after (length a) (copy L (settled o (reached b pos l)) c (put b pos l))) out
-    ∙ ap (λ (p : ℕ). after (length a) (copy L (settled o p) c (put b pos a))) (put-all b pos a h)
-
--- ---- the events of a field
-
--- bytes that raise an event
-raises : (L : Limits) (d : ℕ) (p : Phase) (a : List ℕ) (e : Event) (es : List Event) (d1 : ℕ) (p1 : Phase) → Fair p → 0 < length a → eventBytes (leftIn p) e ≡ a → Reads L d p a (on (e ∷ es) d1 p1)
-    → Raises L (reading d p) a e (raisedState d1 p1 es)
-unfolding scanned call dueIn
-raises L d p a e es d1 p1 f m w r =
-    let z : 0 + length a ≡ length a = omega arith in
-    record {
-      fair = f;
-      moves = m;
-      calls-is = λ t. r 0 t ∙ ap (λ (k : ℕ). record { read = k; answer = calls.event e; state = raisedState d1 p1 es }) z;
-      bytes = w;
-    }
-
-module _ (L : Limits) (d : ℕ) where
-  event-as-is : (p : Phase) (a : List ℕ) (e : Event) (es : List Event) (d1 : ℕ) (p1 : Phase) → Fair p → 0 < length a → eventBytes (leftIn p) e ≡ a → Reads L d p a (on (e ∷ es) d1 p1)
-      → AsIs L (reading d p) d a (raisedState d1 p1 es) (depthBy d e)
-  event-as-is p a e es d1 p1 f m w r = one-event L (reading d p) d a e (raisedState d1 p1 es) (raises L d p a e es d1 p1 f m w r)
-
-  -- a payload in one piece
-  piece-raises : (id : ℕ) (r : Raw) (b : ℕ) (bs : List ℕ) → Raises L (reading d (inPayload id r (suc (length bs)) 0)) (b ∷ bs) (Piece id r (suc (length bs)) 0 (b ∷ bs)) (reading d idle)
-  unfolding call scan eventBytes dueIn
-  piece-raises id r b bs =
-      let total : ℕ = suc (length bs) in
-      record { fair = omega arith; moves = omega arith; calls-is = called; bytes = refl }
-    where
-      ends : (n : ℕ) → ltb (0 + n) n ≡ false
-      ends n = le-ltb (0 + n) n (omega arith)
-
-      called : (t : List ℕ) → call L (reading d (inPayload id r (suc (length bs)) 0)) (b ∷ bs ++ t)
-          ≡ record { read = suc (length bs); answer = calls.event (Piece id r (suc (length bs)) 0 (b ∷ bs)); state = reading d idle }
-      called t =
-          let total : ℕ = suc (length bs) in
-          let k : min (total - 0) (length (b ∷ bs ++ t)) ≡ total = omega (arith, length-append bs t) in
-          let z : 0 + total ≡ total = omega arith in
-          ap (λ (k : ℕ). piece 0 d id r total 0 k (b ∷ bs ++ t)) k
-          ∙ ap (λ (n : ℕ). record { read = n; answer = calls.event (Piece id r total 0 (take total (b ∷ bs ++ t))); state = reading d (pick (ltb (0 + total) total) (inPayload id r total (0 + total)) idle) }) z
-          ∙ ap (λ (l : List ℕ). record { read = total; answer = calls.event (Piece id r total 0 l); state = reading d (pick (ltb (0 + total) total) (inPayload id r total (0 + total)) idle) }) (take-at (b ∷ bs) t total refl)
-          ∙ ap (λ (u : Bool). record { read = total; answer = calls.event (Piece id r total 0 (b ∷ bs)); state = reading d (pick u (inPayload id r total (0 + total)) idle) }) (ends total)
-
-  -- an empty payload's piece
-  empty-raises : (id : ℕ) (r : Raw) → Raises L (owing d id r) [] (Piece id r 0 0 []) (reading d idle)
-  unfolding call eventBytes dueIn
-  empty-raises id r = record { fair = refl; moves = tt; calls-is = λ t. refl; bytes = refl }
-
-  -- ---- elements
-
-  -- whole elements, where one at a time is copied as it is
-  each-as-is : {A : Type 0} (p : ℕ → Phase) (ok : A → Type 0) (enc : A → List ℕ) → ((left : ℕ) (x : A) → ok x → AsIs L (reading d (p (suc left))) d (enc x) (reading d (firstOr left p)) d)
-      → (xs : List A) (left : ℕ) → All ok xs → AsIs L (reading d (firstOr (length xs + left) p)) d (each enc xs) (reading d (firstOr left p)) d
-  unfolding each
-  each-as-is p ok enc one [] left h =
-      let z : left ≡ 0 + left = omega arith in
-      subst (λ (n : ℕ). AsIs L (reading d (firstOr n p)) d [] (reading d (firstOr left p)) d) z (none-as-is L (reading d (firstOr left p)) d)
-  each-as-is p ok enc one (x ∷ xs) left h =
-      let z : suc (length xs + left) ≡ suc (length xs) + left = omega arith in
-      subst (λ (n : ℕ). AsIs L (reading d (firstOr n p)) d (enc x ++ each enc xs) (reading d (firstOr left p)) d) z
-      (joined L (reading d (p (suc (length xs + left)))) d (enc x) (reading d (firstOr (length xs + left) p)) d (each enc xs) (reading d (firstOr left p)) d
-      (one (length xs + left) x (h .0)) (each-as-is p ok enc one xs left (h .1)))
-
-  unsigned-element : (id left n : ℕ) → n < 2 ^ L .bits → AsIs L (reading d (inUnsigned id (suc left) 0 0)) d (shortest n) (reading d (firstOr left (λ m. inUnsigned id m 0 0))) d
+module _ (L : Limits) (d id : ℕ) where
+  unsigned-element : (left n : ℕ) → n < 2 ^ L .bits → Element L d (λ m. inUnsigned id m 0 0) left (shortest n)
   unfolding atUnsigned eventBytes depthBy
-  unsigned-element id left n h =
-      event-as-is (inUnsigned id (suc left) 0 0) (shortest n) (Unsigned id n) [] d (firstOr left (λ m. inUnsigned id m 0 0)) tt (length-some n) refl
+  unsigned-element left n h =
+      event-as-is L d (inUnsigned id (suc left) 0 0) (shortest n) (Unsigned id n) [] d (firstOr left (λ m. inUnsigned id m 0 0)) tt (length-some n) refl
       (shortest-reads L d (inUnsigned id (suc left)) (atUnsigned d id (suc left)) (at-unsigned L d id (suc left)) n h)
 
-  signed-element : (id left n : ℕ) → n < 2 ^ L .bits → AsIs L (reading d (inSigned id (suc left) 0 0)) d (shortest n) (reading d (firstOr left (λ m. inSigned id m 0 0))) d
+  signed-element : (left n : ℕ) → n < 2 ^ L .bits → Element L d (λ m. inSigned id m 0 0) left (shortest n)
   unfolding atSigned eventBytes depthBy
-  signed-element id left n h =
-      event-as-is (inSigned id (suc left) 0 0) (shortest n) (Signed id (unzigzag n)) [] d (firstOr left (λ m. inSigned id m 0 0)) tt (length-some n) (ap shortest (zigzag-unzigzag n))
+  signed-element left n h =
+      event-as-is L d (inSigned id (suc left) 0 0) (shortest n) (Signed id (unzigzag n)) [] d (firstOr left (λ m. inSigned id m 0 0)) tt (length-some n) (ap shortest (zigzag-unzigzag n))
       (shortest-reads L d (inSigned id (suc left)) (atSigned d id (suc left)) (at-signed L d id (suc left)) n h)
 
-  float-element : (id : ℕ) (w : Width) (left x : ℕ) → x < 256 ^ bytesOf w
-      → AsIs L (reading d (inFloat id w left 0 0)) d (lowBytes (bytesOf w) x) (reading d (nextOr left (λ m. inFloat id w m 0 0))) d
+  -- a float, of an array or not
+  a-float : (w : Width) (left x : ℕ) → x < 256 ^ bytesOf w → AsIs L (reading d (inFloat id w left 0 0)) d (lowBytes (bytesOf w) x) (reading d (nextOr left (λ m. inFloat id w m 0 0))) d
   unfolding eventBytes depthBy
-  float-element id w left x h =
-      event-as-is (inFloat id w left 0 0) (lowBytes (bytesOf w) x) (Float id w x) [] d (nextOr left (λ m. inFloat id w m 0 0)) (some-byte w) (omega (arith, length-low (bytesOf w) x, some-byte w)) refl
+  a-float w left x h =
+      event-as-is L d (inFloat id w left 0 0) (lowBytes (bytesOf w) x) (Float id w x) [] d (nextOr left (λ m. inFloat id w m 0 0)) (some-byte w) (omega (arith, length-low (bytesOf w) x, some-byte w)) refl
       (float-reads L d id w left x h)
-
--- ---- the elements of a float array
 
 -- the first n bytes as a number's, and k bytes behind them
 record Spelled (n k : ℕ) (bs : List ℕ) : Type 0 where
@@ -251,23 +108,27 @@ spelled (suc n) k (b ∷ bs) a l =
     }
 
 -- any bytes are the elements of a float array, by their number
-any-floats : (L : Limits) (d id : ℕ) (w : Width) (left m : ℕ) (bs : List ℕ) → Bytes bs → length bs ≡ m * bytesOf w
-    → AsIs L (reading d (firstOr (m + left) (λ j. inFloat id w j 0 0))) d bs (reading d (firstOr left (λ j. inFloat id w j 0 0))) d
-any-floats L d id w left zero [] a l =
-    let z : left ≡ 0 + left = omega arith in
-    let p : ℕ → Phase = λ j. inFloat id w j 0 0 in
-    subst (λ (n : ℕ). AsIs L (reading d (firstOr n p)) d [] (reading d (firstOr left p)) d) z (none-as-is L (reading d (firstOr left p)) d)
-any-floats L d id w left zero (b ∷ bs) a l = absurd (omega arith)
-any-floats L d id w left (suc m) bs a l =
-    let f = spelled (bytesOf w) (m * bytesOf w) bs a (omega arith) in
-    let p : ℕ → Phase = λ j. inFloat id w j 0 0 in
-    let z : suc (m + left) ≡ suc m + left = omega arith in
-    subst (λ (n : ℕ). AsIs L (reading d (firstOr n p)) d bs (reading d (firstOr left p)) d) z
-    (subst (λ (l : List ℕ). AsIs L (reading d (p (suc (m + left)))) d l (reading d (firstOr left p)) d) (f .is)
-    (joined L (reading d (p (suc (m + left)))) d (lowBytes (bytesOf w) (f .bits)) (reading d (firstOr (m + left) p)) d (f .behind) (reading d (firstOr left p)) d
-    (float-element L d id w (suc (m + left)) (f .bits) (f .small)) (any-floats L d id w left m (f .behind) (f .bytes) (f .long))))
+module _ (L : Limits) (d id : ℕ) (w : Width) (left : ℕ) where
+  abbrev Floats : ℕ → List ℕ → Type 0
+  Floats m bs = Elements L d (λ j. inFloat id w j 0 0) left (m + left) bs
+
+  more-floats : (m : ℕ) (bs : List ℕ) (f : Spelled (bytesOf w) (m * bytesOf w) bs) → Floats m (f .behind) → Floats (suc m) bs
+  more-floats m bs f g =
+      subst (Floats (suc m)) (f .is)
+      (one-more L d (λ j. inFloat id w j 0 0) left m (lowBytes (bytesOf w) (f .bits)) (f .behind) (a-float L d id w (suc (m + left)) (f .bits) (f .small)) g)
+
+  any-floats : (m : ℕ) (bs : List ℕ) → Bytes bs → length bs ≡ m * bytesOf w → Floats m bs
+  any-floats zero [] a l = no-element L d (λ j. inFloat id w j 0 0) left
+  any-floats zero (b ∷ bs) a l = absurd (omega arith)
+  any-floats (suc m) bs a l =
+      let f = spelled (bytesOf w) (m * bytesOf w) bs a (omega arith) in
+      more-floats m bs f (any-floats m (f .behind) (f .bytes) (f .long))
 
 -- ---- fields
+
+-- a field that leaves the depth as it is
+abbrev FieldAsIs : Limits → ℕ → List ℕ → Type 0
+FieldAsIs L d a = AsIs L (reading d idle) d a (reading d idle) d
 
 some-bytes : (n : ℕ) (a : List ℕ) → 0 < length (shortest n ++ a)
 some-bytes n a = omega (arith, length-some n, length-append (shortest n) a)
@@ -287,18 +148,18 @@ module _ (L : Limits) (fit : Fit L) (d id : ℕ) where
 
   -- an announcement of the bytes a1, and what it announces
   announced : (t : Wire) (a1 a2 : List ℕ) (s : State) → AsIs L (reading d idle) d (header id t ++ a1) s d → AsIs L s d a2 (reading d idle) d
-      → AsIs L (reading d idle) d (header id t ++ (a1 ++ a2)) (reading d idle) d
+      → FieldAsIs L d (header id t ++ (a1 ++ a2))
   announced t a1 a2 s f g =
-      subst (λ (l : List ℕ). AsIs L (reading d idle) d l (reading d idle) d) (append-assoc (header id t) a1 a2)
+      subst (FieldAsIs L d) (append-assoc (header id t) a1 a2)
       (joined L (reading d idle) d (header id t ++ a1) s d a2 (reading d idle) d f g)
 
-  unsigned-field : (n : ℕ) → id ≤ L .id → n < 2 ^ L .bits → AsIs L (reading d idle) d (header id T-unsigned ++ shortest n) (reading d idle) d
+  unsigned-field : (n : ℕ) → id ≤ L .id → n < 2 ^ L .bits → FieldAsIs L d (header id T-unsigned ++ shortest n)
   unfolding atUnsigned eventBytes depthBy
   unsigned-field n h b =
       behind T-unsigned (inUnsigned id 0 0 0) (shortest n) (Unsigned id n) [] idle h refl refl
       (shortest-reads L d (inUnsigned id 0) (atUnsigned d id 0) (at-unsigned L d id 0) n b)
 
-  signed-field : (n : ℕ) → id ≤ L .id → n < 2 ^ L .bits → AsIs L (reading d idle) d (header id T-signed ++ shortest n) (reading d idle) d
+  signed-field : (n : ℕ) → id ≤ L .id → n < 2 ^ L .bits → FieldAsIs L d (header id T-signed ++ shortest n)
   unfolding atSigned eventBytes depthBy
   signed-field n h b =
       behind T-signed (inSigned id 0 0 0) (shortest n) (Signed id (unzigzag n)) [] idle h refl (ap (λ (m : ℕ). header id T-signed ++ shortest m) (zigzag-unzigzag n))
@@ -309,7 +170,7 @@ module _ (L : Limits) (fit : Fit L) (d id : ℕ) where
   width-small fp64 = omega (arith, fit .floats)
 
   float-field : (w : Width) (x : ℕ) → id ≤ L .id → x < 256 ^ bytesOf w
-      → AsIs L (reading d idle) d (header id T-fixlen ++ (word (bytesOf w) (float w) ++ lowBytes (bytesOf w) x)) (reading d idle) d
+      → FieldAsIs L d (header id T-fixlen ++ (word (bytesOf w) (float w) ++ lowBytes (bytesOf w) x))
   unfolding eventBytes depthBy
   float-field w x h b =
       announced T-fixlen (word (bytesOf w) (float w)) (lowBytes (bytesOf w) x) (reading d (inFloat id w 0 0 0))
@@ -317,9 +178,9 @@ module _ (L : Limits) (fit : Fit L) (d id : ℕ) where
       (subst (Reads L d (inWord id 0 0) (word (bytesOf w) (float w)))
       (ap (λ (t : Bool). pick t (on (Fixlen id (float w) (bytesOf w) ∷ []) d (inFloat id w 0 0 0)) bad) (eq-eqb (bytesOf w) (bytesOf w) refl))
       (word-reads L fit d id (bytesOf w) (float w) (width-small w))))
-      (float-element L d id w 0 x b)
+      (a-float L d id w 0 x b)
 
-  payload-field : (r : Raw) (bs : List ℕ) → id ≤ L .id → length bs ≤ L .size → AsIs L (reading d idle) d (header id T-fixlen ++ (word (length bs) (raw r) ++ bs)) (reading d idle) d
+  payload-field : (r : Raw) (bs : List ℕ) → id ≤ L .id → length bs ≤ L .size → FieldAsIs L d (header id T-fixlen ++ (word (length bs) (raw r) ++ bs))
   unfolding eventBytes depthBy
   payload-field r [] h l =
       announced T-fixlen (word 0 (raw r)) [] (owing d id r)
@@ -338,31 +199,31 @@ module _ (L : Limits) (fit : Fit L) (d id : ℕ) where
       (one-event L (reading d (inPayload id r n 0)) d (b ∷ bs) (Piece id r n 0 (b ∷ bs)) (reading d idle) (piece-raises L d id r b bs))
 
   -- all the elements of an array
-  all-as-is : {A : Type 0} (p : ℕ → Phase) (ok : A → Type 0) (enc : A → List ℕ) → ((left : ℕ) (x : A) → ok x → AsIs L (reading d (p (suc left))) d (enc x) (reading d (firstOr left p)) d)
+  all-as-is : {A : Type 0} (p : ℕ → Phase) (ok : A → Type 0) (enc : A → List ℕ) → ((left : ℕ) (x : A) → ok x → Element L d p left (enc x))
       → (xs : List A) → All ok xs → AsIs L (reading d (firstOr (length xs) p)) d (each enc xs) (reading d idle) d
   all-as-is p ok enc one xs h =
       let z : length xs + 0 ≡ length xs = omega arith in
-      subst (λ (n : ℕ). AsIs L (reading d (firstOr n p)) d (each enc xs) (reading d idle) d) z (each-as-is L d p ok enc one xs 0 h)
+      subst (λ (n : ℕ). Elements L d p 0 n (each enc xs)) z (each-as-is L d p ok enc one xs 0 h)
 
   unsigned-array : (ns : List ℕ) → id ≤ L .id → length ns ≤ L .count → All (λ n. n < 2 ^ L .bits) ns
-      → AsIs L (reading d idle) d (header id T-unsigneds ++ (shortest (length ns) ++ each shortest ns)) (reading d idle) d
+      → FieldAsIs L d (header id T-unsigneds ++ (shortest (length ns) ++ each shortest ns))
   unfolding atUnsignedCount eventBytes depthBy
   unsigned-array ns h l a =
       let p : ℕ → Phase = λ m. inUnsigned id m 0 0 in
       announced T-unsigneds (shortest (length ns)) (each shortest ns) (reading d (firstOr (length ns) p))
       (behind T-unsigneds (inUnsignedCount id 0 0) (shortest (length ns)) (Array id unsigneds (length ns)) [] (firstOr (length ns) p) h refl refl
       (count-reads L fit d id (inUnsignedCount id) (atUnsignedCount L d id) (length ns) (on (Array id unsigneds (length ns) ∷ []) d (firstOr (length ns) p)) (at-unsigneds L d id) l refl))
-      (all-as-is p (λ n. n < 2 ^ L .bits) shortest (λ left n b. unsigned-element L d id left n b) ns a)
+      (all-as-is p (λ n. n < 2 ^ L .bits) shortest (unsigned-element L d id) ns a)
 
   signed-array : (zs : List ℤ) → id ≤ L .id → length zs ≤ L .count → All (λ z. zigzag z < 2 ^ L .bits) zs
-      → AsIs L (reading d idle) d (header id T-signeds ++ (shortest (length zs) ++ each (λ z. shortest (zigzag z)) zs)) (reading d idle) d
+      → FieldAsIs L d (header id T-signeds ++ (shortest (length zs) ++ each (λ z. shortest (zigzag z)) zs))
   unfolding atSignedCount eventBytes depthBy
   signed-array zs h l a =
       let p : ℕ → Phase = λ m. inSigned id m 0 0 in
       announced T-signeds (shortest (length zs)) (each (λ z. shortest (zigzag z)) zs) (reading d (firstOr (length zs) p))
       (behind T-signeds (inSignedCount id 0 0) (shortest (length zs)) (Array id signeds (length zs)) [] (firstOr (length zs) p) h refl refl
       (count-reads L fit d id (inSignedCount id) (atSignedCount L d id) (length zs) (on (Array id signeds (length zs) ∷ []) d (firstOr (length zs) p)) (at-signeds L d id) l refl))
-      (all-as-is p (λ z. zigzag z < 2 ^ L .bits) (λ z. shortest (zigzag z)) (λ left z b. signed-element L d id left (zigzag z) b) zs a)
+      (all-as-is p (λ z. zigzag z < 2 ^ L .bits) (λ z. shortest (zigzag z)) (λ left z. signed-element L d id left (zigzag z)) zs a)
 
   float-array : (w : Width) (xs : List ℕ) → id ≤ L .id → length xs ≤ L .count → All (λ x. x < 256 ^ bytesOf w) xs
       → AsIs L (reading d idle) d (header id T-floats ++ (shortest (length xs) ++ (word (bytesOf w) (float w) ++ each (lowBytes (bytesOf w)) xs))) (reading d idle) d
@@ -370,7 +231,7 @@ module _ (L : Limits) (fit : Fit L) (d id : ℕ) where
   float-array w xs h l a =
       let n : ℕ = length xs in
       let p : ℕ → Phase = λ m. inFloat id w m 0 0 in
-      subst (λ (l : List ℕ). AsIs L (reading d idle) d (header id T-floats ++ l) (reading d idle) d) (append-assoc (shortest n) (word (bytesOf w) (float w)) (each (lowBytes (bytesOf w)) xs))
+      subst (λ (l : List ℕ). FieldAsIs L d (header id T-floats ++ l)) (append-assoc (shortest n) (word (bytesOf w) (float w)) (each (lowBytes (bytesOf w)) xs))
       (announced T-floats (shortest n ++ word (bytesOf w) (float w)) (each (lowBytes (bytesOf w)) xs) (reading d (firstOr n p))
       (behind T-floats (inFloatCount id 0 0) (shortest n ++ word (bytesOf w) (float w)) (Array id (floats w) n) [] (firstOr n p) h refl refl
       (then L d (inFloatCount id 0 0) (shortest n) d (inArrayWord id n 0 0) (word (bytesOf w) (float w)) (on (Array id (floats w) n ∷ []) d (firstOr n p))
@@ -378,7 +239,7 @@ module _ (L : Limits) (fit : Fit L) (d id : ℕ) where
       (subst (Reads L d (inArrayWord id n 0 0) (word (bytesOf w) (float w)))
       (ap (λ (t : Bool). pick t (on (Array id (floats w) n ∷ []) d (firstOr n p)) bad) (eq-eqb (bytesOf w) (bytesOf w) refl))
       (array-word-reads L fit d id n (bytesOf w) (float w) (width-small w)))))
-      (all-as-is p (λ x. x < 256 ^ bytesOf w) (lowBytes (bytesOf w)) (λ left x b. float-element L d id w (suc left) x b) xs a))
+      (all-as-is p (λ x. x < 256 ^ bytesOf w) (lowBytes (bytesOf w)) (λ left. a-float L d id w (suc left)) xs a))
 
   begin-field : id ≤ L .id → d < L .depth → AsIs L (reading d idle) d (header id T-begin) (reading (suc d) idle) (suc d)
   unfolding eventBytes depthBy
@@ -389,7 +250,8 @@ end-field : (L : Limits) → Fit L → (d : ℕ) → 0 < d → AsIs L (reading d
 unfolding eventBytes depthBy
 end-field L fit d l = bare L fit d 0 T-end End (d - 1) (omega arith) (ap (λ (t : Bool). pick t bad (on (End ∷ []) (d - 1) idle)) (ne-eqb d 0 (omega arith))) refl
 
-field-as-is : (L : Limits) → Fit L → (d : ℕ) (x : Field) → Legal L x → Nests L d x → AsIs L (reading d idle) d (fieldBytes x) (reading (depthAfter d x) idle) (depthAfter d x)
+-- one field
+pub field-as-is : (L : Limits) → Fit L → (d : ℕ) (x : Field) → Legal L x → Nests L d x → AsIs L (reading d idle) d (fieldBytes x) (reading (depthAfter d x) idle) (depthAfter d x)
 unfolding fieldBytes depthAfter
 field-as-is L fit d (unsigned id n) (h, b) s = unsigned-field L fit d id n h b
 field-as-is L fit d (signed id z) (h, b) s = signed-field L fit d id (zigzag z) h b
@@ -401,6 +263,7 @@ field-as-is L fit d (floatArray id w xs) (h, l, a) s = float-array L fit d id w 
 field-as-is L fit d (begin id) h s = begin-field L fit d id h s
 field-as-is L fit d (end id) h s = end-field L fit d s
 
+-- fields one after another
 all-fields : (L : Limits) → Fit L → (xs : List Field) (d e : ℕ) → All (Legal L) xs → Balanced L d xs e → AsIs L (reading d idle) d (encode xs) (reading e idle) e
 unfolding encode each
 all-fields L fit [] d e h n = subst (λ (k : ℕ). AsIs L (reading d idle) d [] (reading k idle) k) n (none-as-is L (reading d idle) d)

@@ -20,7 +20,7 @@ use Rattle.laws.proofs.Parts.{low-parses}
 use Rattle.machine.specs.Machine.{Phase, inHeader, inUnsigned, inSigned, inWord, inUnsignedCount, inSignedCount, inFloatCount, inArrayWord, inFloat}
 use Rattle.machine.specs.Machine.{idle, Stepped, on, bad, step, within, nextOr, atWire, atHeader, atSubtype, atWord, atUnsigned, atSigned}
 use Rattle.machine.specs.Machine.{atUnsignedCount, atSignedCount, atFloatCount, atElement, atArrayWord, atFloat}
-use Rattle.machine.specs.Call.{reading, Pace, byte, bulk, paceOf, piece, scan, scanned}
+use Rattle.machine.specs.Call.{Pace, byte, bulk, paceOf, piece, scan, scanned}
 use Rattle.machine.specs.Call as calls
 
 -- From a depth and phase on, the bytes a come to m; the reader goes on behind them.
@@ -52,6 +52,17 @@ scan-byte L n d p b bs e =
     ])
     e
 
+-- a value's last byte is read: y before the bytes bs is x before t
+last-byte : (L : Limits) (F : ℕ → Stepped) (n m y x : ℕ) (bs t : List ℕ) → whole y bs ≡ whole x t → m + length t ≡ n + suc (length bs)
+    → scanned (suc n) (F y) (λ d′ p′. scan L (suc n) d′ p′ bs) ≡ scanned m (F x) (λ d′ p′. scan L m d′ p′ t)
+last-byte L F n m y x bs t e l =
+    let y≡ : y ≡ x = cc in
+    let t≡ : bs ≡ t = cc in
+    let m≡ : suc n ≡ m = omega (arith, ap length t≡) in
+    ap (λ (z : ℕ). scanned (suc n) (F z) (λ d′ p′. scan L (suc n) d′ p′ bs)) y≡
+    ∙ ap (λ (z : List ℕ). scanned (suc n) (F x) (λ d′ p′. scan L (suc n) d′ p′ z)) t≡
+    ∙ ap (λ (z : ℕ). scanned z (F x) (λ d′ p′. scan L z d′ p′ t)) m≡
+
 module _ (L : Limits) (d : ℕ) (P : ℕ → ℕ → Phase) (F : ℕ → Stepped) (w : Varying L d P F) where
   -- one byte of it
   varint-byte : (n k v b : ℕ) (bs : List ℕ) (q : Push) → push L k v b ≡ q → scan L n d (P k v) (b ∷ bs) ≡ scanned (suc n) (within d q P F) (λ d′ p′. scan L (suc n) d′ p′ bs)
@@ -70,15 +81,7 @@ module _ (L : Limits) (d : ℕ) (P : ℕ → ℕ → Phase) (F : ℕ → Stepped
           → ((k′ v′ : ℕ) → varintFrom L k′ v′ bs ≡ whole x t → m + length t ≡ suc n + length bs → scan L (suc n) d (P k′ v′) bs ≡ scanned m (F x) (λ d′ p′. scan L m d′ p′ t))
           → scan L n d (P k v) (b ∷ bs) ≡ scanned m (F x) (λ d′ p′. scan L m d′ p′ t)
       go (more k′ v′) i ih = varint-byte n k v b bs (more k′ v′) i ∙ ih k′ v′ (sym (step-more L k v b k′ v′ bs i) ∙ e) (omega arith)
-      go (value y) i ih =
-          let f = sym (step-value L k v b y bs i) ∙ e in
-          let y≡ : y ≡ x = cc in
-          let t≡ : bs ≡ t = cc in
-          let m≡ : suc n ≡ m = omega (arith, ap length t≡) in
-          varint-byte n k v b bs (value y) i
-          ∙ ap (λ (z : ℕ). scanned (suc n) (F z) (λ d′ p′. scan L (suc n) d′ p′ bs)) y≡
-          ∙ ap (λ (z : List ℕ). scanned (suc n) (F x) (λ d′ p′. scan L (suc n) d′ p′ z)) t≡
-          ∙ ap (λ (z : ℕ). scanned z (F x) (λ d′ p′. scan L z d′ p′ t)) m≡
+      go (value y) i ih = varint-byte n k v b bs (value y) i ∙ last-byte L F n m y x bs t (sym (step-value L k v b y bs i) ∙ e) l
       go overrun i ih = absurd (let f = sym (step-over L k v b bs i) ∙ e in let z : _≡_ {A = ℕ} 0 1 = cc in omega arith)
 
   pub shortest-reads : (x : ℕ) → x < 2 ^ L .bits → Reads L d (P 0 0) (shortest x) (F x)
@@ -195,13 +198,7 @@ module _ (L : Limits) (d id : ℕ) (w : Width) (left : ℕ) where
       → scan L n d (inFloat id w left k v) bs ≡ scanned m (whole-float x) (λ d′ p′. scan L m d′ p′ t)
   unfolding lowFrom scanned
   takes-low j [] n m k v x t f e l = absurd (let z : _≡_ {A = ℕ} 0 1 = cc in omega arith)
-  takes-low zero (b ∷ bs) n m k v x t f e l =
-      let x≡ : v + b * 256 ^ k ≡ x = cc in
-      let t≡ : bs ≡ t = cc in
-      let m≡ : suc n ≡ m = omega (arith, ap length t≡) in
-      float-byte n k v b bs false (le-ltb (k + 1) (bytesOf w) (omega arith))
-      ∙ ap (λ (z : ℕ). record { read = suc n; answer = calls.event (Float id w z); state = reading d (nextOr left (λ m. inFloat id w m 0 0)) }) x≡
-      ∙ ap (λ (z : ℕ). record { read = z; answer = calls.event (Float id w x); state = reading d (nextOr left (λ m. inFloat id w m 0 0)) }) m≡
+  takes-low zero (b ∷ bs) n m k v x t f e l = float-byte n k v b bs false (le-ltb (k + 1) (bytesOf w) (omega arith)) ∙ last-byte L whole-float n m (v + b * 256 ^ k) x bs t e l
   takes-low (suc j) (b ∷ bs) n m k v x t f e l =
       float-byte n k v b bs true (lt-ltb (k + 1) (bytesOf w) (omega arith))
       ∙ takes-low j bs (suc n) m (k + 1) (v + b * 256 ^ k) x t (omega arith) e (omega arith)

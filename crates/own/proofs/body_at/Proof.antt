@@ -1,0 +1,75 @@
+-- `own::body_at` meets its contract, type by type.
+use Rattle.layout.specs.Field.{T-fixlen, T-floats}
+use Rattle.own.proofs.Spans.{none, ends-as}
+use Rattle.own.proofs.Bodies.{with-header}
+use Rattle.own.proofs.Places.{scalar-field, array-field, open-ends, close-ends}
+use borrow.Author.Needs.{needs}
+use Rattle.own.proofs.body_at.Statement.{statement}
+use Rattle.own.proofs.body_at.Tie as tie
+
+fixlen-at-requires : tie.Need-fixlen-at-requires
+fixlen-at-requires c κs = search needs
+
+float-array-at-requires : tie.Need-float-array-at-requires
+float-array-at-requires c κs = search needs
+
+add-t11 : tie.Need-add-t11
+add-t11 c = search needs
+
+long-number-at-requires : tie.Need-long-number-at-requires
+long-number-at-requires c κs = search needs
+
+array-at-requires : tie.Need-array-at-requires
+array-at-requires c κs = search needs
+
+sub-t16 : tie.Need-sub-t16
+sub-t16 c = search needs
+
+returns : tie.Need-returns
+returns c = close-ends _ _ _ _ (c .before .before .before .before .before .before .pre .0) (c .before .if4 .taken) (c .if5 .taken)
+
+returns-2 : tie.Need-returns-2
+returns-2 c = ends-as (c .fixlen-at .ensures) (λ bs. with-header _ _ T-fixlen bs (c .before .before .before .pre .1) (c .before .match .keys1))
+
+returns-3 : tie.Need-returns-3
+returns-3 c = ends-as (c .float-array-at .ensures) (λ bs. with-header _ _ T-floats bs (c .before .before .before .pre .1) (c .before .match .keys2))
+
+returns-4 : tie.Need-returns-4
+returns-4 c = let p = c .before .before .before .pre in open-ends _ _ _ _ (p .0) (p .1) (c .before .match .keys3) (c .if1 .taken)
+
+returns-5 : tie.Need-returns-5
+returns-5 c = none
+
+returns-6 : tie.Need-returns-6
+returns-6 c = ends-as (c .long-number-at .ensures) (λ bs. scalar-field _ _ bs (c .before .before .before .before .pre .1) (c .before .if2 .taken))
+
+returns-7 : tie.Need-returns-7
+returns-7 c =
+    let m = c .before .before .before in
+    ends-as (c .array-at .ensures) (λ bs. array-field _ _ bs (m .before .before .pre .1) (m .match .rest .0 .0 .1) (c .before .before .if2 .left) (c .before .if3 .taken))
+
+returns-8 : tie.Need-returns-8
+returns-8 c = none
+
+returns-9 : tie.Need-returns-9
+returns-9 c = none
+
+pub body-at-spec : {M : Type 1} → statement M
+body-at-spec =
+    tie.close
+    (tie.spec
+    fixlen-at-requires
+    float-array-at-requires
+    add-t11
+    long-number-at-requires
+    array-at-requires
+    sub-t16
+    returns
+    returns-2
+    returns-3
+    returns-4
+    returns-5
+    returns-6
+    returns-7
+    returns-8
+    returns-9)

@@ -1,0 +1,29 @@
+-- `own::field_at` meets its contract.
+use Rattle.own.proofs.Spans.{none, found-at, ends-as}
+use Rattle.own.proofs.Places.{field-ends}
+use borrow.Author.Needs.{needs}
+use Rattle.own.proofs.field_at.Statement.{statement}
+use Rattle.own.proofs.field_at.Tie as tie
+
+small-at-requires : tie.Need-small-at-requires
+small-at-requires c κs = search needs
+
+returns : tie.Need-returns
+returns c = ends-as (c .before .small-at .ensures) (λ bs f. f _)
+
+header-at-requires : tie.Need-header-at-requires
+header-at-requires c κs = search needs
+
+returns-2 : tie.Need-returns-2
+returns-2 c = none
+
+body-at-requires : tie.Need-body-at-requires
+body-at-requires c κs = (c .before .header-at .ensures .inside, found-at (c .before .header-at .ensures) (c .if2 .left) .good .0)
+
+returns-3 : tie.Need-returns-3
+returns-3 c = field-ends _ _ _ (c .before .before .header-at .ensures) (c .before .if2 .left) (c .body-at .ensures)
+
+pub field-at-spec : {M : Type 1} → statement M
+field-at-spec =
+    tie.close
+    (tie.spec small-at-requires returns header-at-requires returns-2 body-at-requires returns-3)

@@ -1,0 +1,55 @@
+-- `own::small_at` meets its contract.
+use Rattle.own.proofs.Spans.{none}
+use Rattle.own.proofs.Places.{small-ends}
+use borrow.Author.Needs.{needs}
+use Rattle.own.proofs.small_at.Statement.{statement}
+use Rattle.own.proofs.small_at.Tie as tie
+
+add-if2 : tie.Need-add-if2
+add-if2 c = search needs
+
+shared-slice-read-h : tie.Need-shared-slice-read-h
+shared-slice-read-h c = search needs
+
+add-if5 : tie.Need-add-if5
+add-if5 c = search needs
+
+shared-slice-read-if5 : tie.Need-shared-slice-read-if5
+shared-slice-read-if5 c = search needs
+
+add-result : tie.Need-add-result
+add-result c = search needs
+
+returns : tie.Need-returns
+returns c = small-ends _ _ (c .before .before .before .before .before .if2 .taken) (c .before .before .before .if3 .taken) (c .before .before .if4 .taken) (c .if5 .taken)
+
+returns-2 : tie.Need-returns-2
+returns-2 c = none
+
+returns-3 : tie.Need-returns-3
+returns-3 c = none
+
+returns-4 : tie.Need-returns-4
+returns-4 c = none
+
+returns-5 : tie.Need-returns-5
+returns-5 c = none
+
+returns-6 : tie.Need-returns-6
+returns-6 c = none
+
+pub small-at-spec : {M : Type 1} → statement M
+small-at-spec =
+    tie.close
+    (tie.spec
+    add-if2
+    shared-slice-read-h
+    add-if5
+    shared-slice-read-if5
+    add-result
+    returns
+    returns-2
+    returns-3
+    returns-4
+    returns-5
+    returns-6)

@@ -1,5 +1,5 @@
 -- A worked run: 88 00 AC 82 00 in four chunks, one of them empty, through a buffer of one byte, with a feed too many, a drain too many and
--- calls for other buffers between.
+-- calls for other buffers between. And worked refusals, where two tests or three fail.
 use Prim.Native.Nat.{ℕ}
 use mathlib.Core.Path.{_≡_, refl}
 use mathlib.Core.List.{List, [], _∷_, _++_}
@@ -8,18 +8,23 @@ use Rattle.layout.specs.Field.{lowBytes}
 use Rattle.layout.specs.Message.{complete, incomplete}
 use Rattle.laws.specs.Events.{eventBytes}
 use Rattle.machine.specs.Machine.{atHeader, atWord, atUnsignedCount, atSignedCount, atFloatCount, atArrayWord, atUnsigned, atSigned, within, atFloat, atByte, step, ending, judge}
-use Rattle.machine.specs.Call.{scanned, scan, call}
+use Rattle.machine.specs.Call.{broke, scanned, scan, call}
 use Rattle.machine.specs.Run.{Heard, status}
 use Rattle.emit.specs.Put.{over, put, reached}
 use Rattle.varint.specs.Varint.{soundAcc}
+use Rattle.phase.specs.declared.Phase.the-variants.{Header}
+use Rattle.istream.specs.declared.IStream.{IStream}
 use Rattle.istream.specs.Stream as reader
+use Rattle.istream.specs.Stream.{streamIn}
 use Rattle.ostream.specs.Stream as writer
 use Rattle.ostream.specs.Buffer.{opening, draining, changing}
 use Rattle.copying.specs.Owed.{rest, further, depthBy, depthOnce, dueIn, legal, level, agrees, soundOwed}
 use Rattle.copying.specs.Copy.{handed, stuck, heard, copies, copy}
+use Rattle.owed.specs.declared.Owed.the-variants.{Nothing}
+use Rattle.copier.specs.declared.Copier.{Copier}
 use Rattle.copier.specs.Copier.{soundWriter}
 use Rattle.copier.specs.Calls.{copied, started, drained, changed}
-use Rattle.copies.specs.Desk.{Desk, start, feeds, drains, changes, opens, Act, feed, drain, change, stray, feeding, act, acts, refusedWith}
+use Rattle.copies.specs.Desk.{Desk, start, saidNumber, feeds, drains, changes, opens, Act, feed, drain, change, stray, feeding, act, acts, refusedWith}
 
 -- what was sent, how each chunk ended, the drains counted, and the numbers that stray calls were refused with
 pub record Row : Type 0 where
@@ -60,3 +65,21 @@ pub worked : row schedule (start (0xEE ∷ []) chunks)
     }
 unfolding acts act numbers feeding copied soundWriter started drained changed opening draining changing writer.opened writer.soundStream writer.every reader.soundStream soundAcc soundOwed agrees level legal copy copies heard handed stuck rest further depthBy depthOnce dueIn eventBytes over put reached call scan scanned step within atHeader atWord atUnsignedCount atSignedCount atFloatCount atArrayWord atUnsigned atSigned atFloat atByte ending judge push shortest shortestIn lowBytes
 worked = refl
+
+-- a copier with nothing owed, its writer at this position
+abbrev at : IStream → ℕ → Copier
+at s n = record { reader = s; writer = writer.opened n; owed = Nothing; place = 0 }
+
+-- a reader with a header of ten bytes taken
+abbrev wild : IStream
+wild = record { phase = Header (record { value = 0; taken = 10 }); depth = 0 }
+
+abbrev refused : Copier → ℕ
+refused k = saidNumber (copied k (0x08 ∷ []) (0xEE ∷ []) .said)
+
+-- "The copier gives 1, then 6, then 2", over a buffer of one byte: an unsound reader and a broken one, with the writer beyond the buffer and
+-- within it
+pub worked-refusals : refused (at wild 2) ∷ refused (at wild 0) ∷ refused (at (streamIn broke) 2) ∷ refused (at (streamIn broke) 0) ∷ []
+    ≡ 1 ∷ 1 ∷ 6 ∷ 2 ∷ []
+unfolding copied soundWriter writer.opened writer.soundStream writer.every reader.soundStream soundAcc soundOwed
+worked-refusals = refl

@@ -30,7 +30,7 @@ use Rattle.copier.specs.Copier.{copyOf, soundWriter}
 use Rattle.copier.specs.Calls.{full, verdict, Left, saidOf, saidIn, leftIn, freshOver, started}
 use Rattle.copier.specs.Calls as calls
 use Rattle.copier.proofs.Answer.{the-type}
-use Rattle.host.specs.Host.{leftBy, room, enough, filled}
+use Rattle.exports.specs.Exports.{leftBy, room, enough, filled}
 
 -- the bytes of a slice, each below 256
 pub all-bytes : (T : List ℕ) → ((i : ℕ) → getD T i 0 < 256) → Bytes T

@@ -8,7 +8,7 @@ use Rattle.layout.specs.Message as layout
 use Rattle.whole.specs.declared.Verdict.{Verdict}
 use Rattle.whole.specs.declared.Verdict.the-variants.{Complete, Incomplete, Broken}
 use Rattle.whole.specs.Whole.{verdictIn}
-use Rattle.host.specs.Host.{number, Copied, leftBy, filled, copied}
+use Rattle.exports.specs.Exports.{number, Copied, leftBy, filled, copied}
 
 abbrev code : Verdict → ℤ
 code Complete = pos 0

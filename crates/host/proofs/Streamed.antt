@@ -9,7 +9,7 @@ use Rattle.layout.specs.Copy.{plainCopy}
 use Rattle.laws.proofs.Laws.{complete-iff}
 use Rattle.copies.specs.Demand.{Whole, Run, output}
 use Rattle.copies.proofs.Demand.{demand}
-use Rattle.host.specs.Host.{filled, copied}
+use Rattle.exports.specs.Exports.{filled, copied}
 
 pub as-streamed : (T : List ℕ) → Whole T → (r : Run T) (out : List ℕ) → copied (verdictOf base T) (plainCopy base T) out ≡ filled (output r) out
 unfolding copied

@@ -3,7 +3,7 @@ ghost use mathlib.Core.Path.{_≡_};
 ghost use Rattle.layout.specs.Limits.{base};
 ghost use Rattle.layout.specs.Message.{complete, verdictOf};
 ghost use Rattle.layout.specs.Copy.{plainCopy};
-ghost use Rattle.host.specs.Host.{number, leftBy, filled, copied};
+ghost use Rattle.exports.specs.Exports.{number, leftBy, filled, copied};
 use copier::Answer;
 use copier::Copier;
 use whole::Verdict;

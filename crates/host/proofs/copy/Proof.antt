@@ -5,7 +5,7 @@ use lib.IntN.{ℤ}
 use mir.Facts.{toZ-pos}
 use mir.Syntax.{w64}
 use Rattle.copier.specs.Calls.{Started}
-use Rattle.host.specs.Host.{leftBy}
+use Rattle.exports.specs.Exports.{leftBy}
 use Rattle.host.proofs.Fresh.{all-bytes, answers-full, answers-length, offset-small}
 use borrow.Author.Needs.{needs}
 use Rattle.host.proofs.copy.Statement.{statement}

@@ -4,7 +4,7 @@ use lib.IntN.{ℤ}
 use mir.Syntax.{w64}
 use mir.Val.{toZ, ofZ}
 use Rattle.whole.specs.declared.Verdict.the-variants.{Complete, Incomplete, Broken}
-use Rattle.host.specs.Host.{leftBy}
+use Rattle.exports.specs.Exports.{leftBy}
 use Rattle.host.proofs.Numbers.{copies, is-complete}
 use borrow.Author.Needs.{needs}
 use Rattle.host.proofs.sofab_copy.Statement.{statement}

@@ -1,0 +1,2 @@
+-- The laws that this crate's functions cite.
+pub mod Laws

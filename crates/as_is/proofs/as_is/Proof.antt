@@ -1,0 +1,104 @@
+-- `as_is::as_is`: by what the reader stands at.
+use borrow.Author.Needs.{needs}
+use Rattle.as_is.proofs.as_is.Statement.{statement}
+use Rattle.as_is.proofs.as_is.Tie as tie
+use Rattle.as_is.proofs.as_is.Reads as reads
+use Rattle.as_is.proofs.as_is.Lts as lts
+use Rattle.as_is.proofs.float_elements.Reads as float-elements-reads
+use Rattle.as_is.proofs.none.Reads as none-reads
+use Rattle.as_is.proofs.signed_elements.Reads as signed-elements-reads
+use Rattle.as_is.proofs.unsigned_elements.Reads as unsigned-elements-reads
+use Rattle.as_is.proofs.whole_fields.Reads as whole-fields-reads
+
+enum-known-phase : tie.Need-enum-known-phase
+enum-known-phase c = search needs
+
+whole-fields-requires : tie.Need-whole-fields-requires
+whole-fields-requires c κs = search needs
+
+returns : tie.Need-returns
+returns c = ?
+
+none-requires : tie.Need-none-requires
+none-requires c κs = search needs
+
+enum-known-phase-2 : tie.Need-enum-known-phase-2
+enum-known-phase-2 c = search needs
+
+unsigned-elements-requires : tie.Need-unsigned-elements-requires
+unsigned-elements-requires c κs = ?
+
+returns-2 : tie.Need-returns-2
+returns-2 c = ?
+
+none-requires-2 : tie.Need-none-requires-2
+none-requires-2 c κs = search needs
+
+enum-known-phase-3 : tie.Need-enum-known-phase-3
+enum-known-phase-3 c = search needs
+
+signed-elements-requires : tie.Need-signed-elements-requires
+signed-elements-requires c κs = ?
+
+returns-3 : tie.Need-returns-3
+returns-3 c = ?
+
+none-requires-3 : tie.Need-none-requires-3
+none-requires-3 c κs = search needs
+
+enum-known-phase-4 : tie.Need-enum-known-phase-4
+enum-known-phase-4 c = search needs
+
+float-elements-requires : tie.Need-float-elements-requires
+float-elements-requires c κs = ?
+
+returns-4 : tie.Need-returns-4
+returns-4 c = ?
+
+none-requires-4 : tie.Need-none-requires-4
+none-requires-4 c κs = search needs
+
+none-requires-5 : tie.Need-none-requires-5
+none-requires-5 c κs = search needs
+
+returns-5 : tie.Need-returns-5
+returns-5 c = ?
+
+returns-6 : tie.Need-returns-6
+returns-6 c = ?
+
+returns-7 : tie.Need-returns-7
+returns-7 c = ?
+
+returns-8 : tie.Need-returns-8
+returns-8 c = ?
+
+returns-9 : tie.Need-returns-9
+returns-9 c = ?
+
+pub as-is-spec : {M : Type 1} → statement M
+as-is-spec =
+    tie.close
+    (tie.spec
+    enum-known-phase
+    whole-fields-requires
+    returns
+    none-requires
+    enum-known-phase-2
+    unsigned-elements-requires
+    returns-2
+    none-requires-2
+    enum-known-phase-3
+    signed-elements-requires
+    returns-3
+    none-requires-3
+    enum-known-phase-4
+    float-elements-requires
+    returns-4
+    none-requires-4
+    none-requires-5
+    returns-5
+    returns-6
+    returns-7
+    returns-8
+    returns-9)

@@ -1,0 +1,30 @@
+-- `as_is::signed_elements`: an array's elements go as they came.
+use native.Mathlib.Omega.{arith}
+use mir.Syntax.{w8}
+use mir.Val.{Fits}
+use Rattle.as_is.proofs.Laws.{signeds-ahead, by-phase}
+use borrow.Author.Needs.{needs}
+use Rattle.as_is.proofs.signed_elements.Statement.{statement}
+use Rattle.as_is.proofs.signed_elements.Tie as tie
+use Rattle.as_is.proofs.signed_elements.Reads as reads
+use Rattle.as_is.proofs.signed_elements.Lts as lts
+use Rattle.own.proofs.elements.Reads as elements-reads
+use Rattle.phase.proofs.signeds.Reads as signeds-reads
+
+elements-requires : tie.Need-elements-requires
+elements-requires c κs = search needs
+
+sub-signeds : tie.Need-sub-signeds
+sub-signeds c = search needs
+
+signeds-requires : tie.Need-signeds-requires
+signeds-requires c κs = search needs
+
+returns : tie.Need-returns
+returns c =
+    let f : Fits w8 (c .before .before .before .before .args .depth) = search needs in
+    by-phase _ _ _ _ _ _ (c .signeds .ensures)
+    (signeds-ahead _ _ _ _ _ _ (omega (arith, f .fits)) (c .before .before .before .before .pre .0) (c .before .before .before .before .pre .1 .0) (c .before .before .before .before .pre .1 .1) (c .before .before .elements .ensures .1) (c .before .before .elements .ensures .0) (c .before .before .elements .ensures .2))
+
+pub signed-elements-spec : {M : Type 1} → statement M
+signed-elements-spec = tie.close (tie.spec elements-requires sub-signeds signeds-requires returns)

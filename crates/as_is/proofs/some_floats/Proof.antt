@@ -1,0 +1,31 @@
+-- `as_is::some_floats`: no more than stand whole, and no more than are left.
+use native.Mathlib.Omega.{arith}
+use borrow.Author.Needs.{needs}
+use Rattle.as_is.proofs.Laws.{float-width, whole-floats}
+use Rattle.as_is.proofs.some_floats.Statement.{statement}
+use Rattle.as_is.proofs.some_floats.Tie as tie
+use Rattle.as_is.proofs.some_floats.Reads as reads
+use Rattle.as_is.proofs.some_floats.Lts as lts
+use Rattle.types.proofs.FloatType.bytes.Reads as bytes-reads
+
+bytes-requires : tie.Need-bytes-requires
+bytes-requires c κs = search needs
+
+cast-whole : tie.Need-cast-whole
+cast-whole c = search needs
+
+div-whole : tie.Need-div-whole
+div-whole c = let p = float-width (c .before .before .before .args .w) in omega (arith, p .0, c .before .bytes .ensures)
+
+cast-result : tie.Need-cast-result
+cast-result c = search needs
+
+returns : tie.Need-returns
+returns c = (search needs, whole-floats (c .before .before .before .before .args .w) _ _ _ (c .before .before .bytes .ensures) ?)
+
+returns-2 : tie.Need-returns-2
+returns-2 c = (search needs, whole-floats (c .before .before .before .before .args .w) _ _ _ (c .before .before .bytes .ensures) ?)
+
+pub some-floats-spec : {M : Type 1} → statement M
+some-floats-spec =
+    tie.close (tie.spec bytes-requires cast-whole div-whole cast-result returns returns-2)

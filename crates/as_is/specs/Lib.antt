@@ -1,0 +1,2 @@
+-- What goes through a copier as it came.
+pub mod Ahead

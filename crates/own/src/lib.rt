@@ -3,7 +3,7 @@
 // The contracts say what holds of the bytes up to the place that was reached, and not that it is the last such place: a shorter run
 // would be slower and no less right. The private functions answer 0 for what is not so, or not whole.
 ghost use mathlib.Core.Path.{_≡_};
-ghost use Prim.Native.Nat.{ℕ, _+_, _/_, _≤_};
+ghost use Prim.Native.Nat.{ℕ, _/_, _≤_};
 ghost use mathlib.Core.List.{_++_};
 ghost use lib.ListN.{length, take};
 ghost use Rattle.layout.specs.Limits.{base};

@@ -1,4 +1,5 @@
 -- A message in its shortest form is its own plain copy.
+use Prim.Native.Nat.{ℕ}
 use mathlib.Core.Path.{_≡_, sym, ap, _∙_}
 use mathlib.Core.List.{List}
 use Rattle.layout.specs.Limits.{Limits}

@@ -20,19 +20,16 @@ use Rattle.varint.proofs.Shortest.{shortest-one, shortest-more}
 use Rattle.varint.proofs.Step.{grown, within, within-last}
 use Rattle.laws.proofs.Varint.{next-power}
 use Rattle.own.specs.Own.{Number, Stretch, Ends}
-use Rattle.own.proofs.Spans.{one-byte, byte-at, reaches, stretch-as, ends-as}
+use Rattle.own.proofs.Spans.{one-byte, byte-at, reaches, stretch-as}
 
 -- ---- one byte
 
 pub one : (t : List ℕ) (at : ℕ) → at < length t → getD t at 0 < 128 → Stretch t at (at + 1) (λ bs. bs ≡ shortest (getD t at 0))
 one t at h l = byte-at at h (sym (shortest-one (getD t at 0) l))
 
-pub one-value : (t : List ℕ) (at : ℕ) → at < length t → getD t at 0 < 128 → Ends t at (λ bs. bs ≡ shortest (getD t at 0)) (at + 1)
-one-value t at h l = reaches (omega arith) (one t at h l)
-
--- a header of one byte has a small id
-pub one-header : (t : List ℕ) (at : ℕ) → at < length t → getD t at 0 < 128 → Ends t at (λ bs. (getD t at 0 / 8 ≤ base .id) × (bs ≡ shortest (getD t at 0))) (at + 1)
-one-header t at h l = ends-as (one-value t at h l) (λ bs q. (omega arith, q))
+-- where the id of a header is asked for, it is small
+pub one-value : (t : List ℕ) (at : ℕ) → at < length t → getD t at 0 < 128 → Ends t at (λ bs. (getD t at 0 / 8 ≤ base .id) × (bs ≡ shortest (getD t at 0))) (at + 1)
+one-value t at h l = reaches (omega arith) (stretch-as (one t at h l) (λ bs q. (omega arith, q)))
 
 -- its value is a number
 pub one-ends : (t : List ℕ) (at i : ℕ) → i ≡ at → i < length t → getD t i 0 < 128 → Ends t at Number (i + 1)
@@ -67,6 +64,23 @@ goes-on b w l h p =
     let q : (b % 128 + w * 128) / 128 ≡ w = omega arith in
     let r : (b % 128 + w * 128) % 128 + 128 ≡ b = omega arith in
     sym (shortest-more (b % 128 + w * 128) (omega arith) ∙ ap (λ (x : ℕ). x ∷ shortest ((b % 128 + w * 128) / 128)) r ∙ ap (λ (x : ℕ). b ∷ shortest x) q)
+
+-- two bytes
+module _ (t : List ℕ) (at : ℕ) (l : 128 ≤ getD t at 0) (b : getD t at 0 < 256) (h : at + 1 < length t) (g : 0 < getD t (at + 1) 0) (k : getD t (at + 1) 0 < 128) where
+  two : Stretch t at (at + 2) (λ bs. bs ≡ shortest (getD t at 0 % 128 + getD t (at + 1) 0 * 128))
+  two =
+      let e : at + 1 + 1 ≡ at + 2 = omega arith in
+      record {
+        bytes = getD t at 0 ∷ getD t (at + 1) 0 ∷ [];
+        split = one-byte t at (omega arith) ∙ ap (λ (x : List ℕ). getD t at 0 ∷ x) (one-byte t (at + 1) h) ∙ ap (λ (i : ℕ). getD t at 0 ∷ getD t (at + 1) 0 ∷ drop i t) e;
+        good = ap (λ (x : List ℕ). getD t at 0 ∷ x) (sym (shortest-one (getD t (at + 1) 0) k)) ∙ goes-on (getD t at 0) (getD t (at + 1) 0) l b g;
+      }
+
+  pub two-ends : Ends t at Number (at + 2)
+  two-ends = reaches (omega arith) (stretch-as two (λ bs q. (getD t at 0 % 128 + getD t (at + 1) 0 * 128, omega arith, q)))
+
+  pub two-value : Ends t at (λ bs. ((getD t at 0 % 128 + getD t (at + 1) 0 * 128) / 8 ≤ base .id) × (bs ≡ shortest (getD t at 0 % 128 + getD t (at + 1) 0 * 128))) (at + 2)
+  two-value = reaches (omega arith) (stretch-as two (λ bs q. (omega arith, q)))
 
 spread : (v d w p : ℕ) → v + (d + w * 128) * p ≡ v + d * p + w * (p * 128)
 spread v d w p = omega arith
@@ -119,7 +133,7 @@ module _ {t : List ℕ} {at i : ℕ} (s : Going t at i) where
   pub going-from : at ≤ i
   going-from = omega (arith, s .under .place)
 
-  pub going-more : i < length t → 128 ≤ getD t i 0 → getD t i 0 < 256 → i - at ≤ 8 → Going t at (i + 1)
+  pub going-more : i < length t → 128 ≤ getD t i 0 → getD t i 0 < 256 → i - at < 9 → Going t at (i + 1)
   going-more h l g f =
       record { taken = s .taken + 1; value = s .value + digit (s .taken) (getD t i 0); under = under-more (s .under) h (omega (arith, s .under .place)) l g }
 
@@ -133,13 +147,6 @@ module _ {t : List ℕ} {at i : ℕ} (s : Going t at i) where
   going-last h e f =
       ending h (omega arith) (omega arith)
       (within-last base (s .taken) (s .value) (getD t i 0) (s .under .small) (omega (arith, s .under .place, s .under .few)) (omega arith))
-
--- a number of two bytes
-pub two-ends : (t : List ℕ) (at : ℕ) → 128 ≤ getD t at 0 → getD t at 0 < 256 → at + 1 < length t → 0 < getD t (at + 1) 0 → getD t (at + 1) 0 < 128 → Ends t at Number (at + 2)
-two-ends t at l b h g k =
-    let e : at + 1 + 1 ≡ at + 2 = omega arith in
-    subst (Ends t at Number) e
-    (going-ends (going-more (going-start t at) (omega arith) l b (omega arith)) h k (λ z. omega arith) (omega arith))
 
 -- ---- the value asked for: what a byte came to says which byte it was
 

@@ -3,7 +3,7 @@
 // The contracts say what holds of the bytes up to the place that was reached, and not that it is the last such place: a shorter run
 // would be slower and no less right. The private functions answer 0 for what is not so, or not whole.
 ghost use mathlib.Core.Path.{_≡_};
-ghost use Prim.Native.Nat.{ℕ, _+_, _/_, _≤_};
+ghost use Prim.Native.Nat.{ℕ, _/_, _≤_};
 ghost use mathlib.Core.List.{_++_};
 ghost use lib.ListN.{length, take};
 ghost use Rattle.layout.specs.Limits.{base};
@@ -54,25 +54,23 @@ fn long_number_at(t: &[u8], at: usize) -> usize
     let mut i = at;
     while i < t.len() {
         let b = t[i];
-        if b < 128 {
-            if i == at {
+        if i - at < 9 {
+            if b < 128 {
+                if i == at {
+                    return i + 1;
+                }
+                if b == 0 {
+                    return 0;
+                }
                 return i + 1;
             }
-            if b == 0 {
-                return 0;
-            }
-            if i - at < 9 {
-                return i + 1;
-            }
+            i += 1;
+        } else {
             if b == 1 {
                 return i + 1;
             }
             return 0;
         }
-        if 8 < i - at {
-            return 0;
-        }
-        i += 1;
     }
     0
 }
@@ -134,24 +132,8 @@ fn long_value_at(t: &[u8], at: usize) -> Found
     Found { value: 0, end: 0 }
 }
 
-// Most words and counts are one byte.
-fn value_at(t: &[u8], at: usize) -> Found
-    ensures { λ r. ⌜ Ends (now (t .entry)) at (λ bs. bs ≡ shortest (r .value)) (r .end) ⌝ }
-{
-    if at < t.len() {
-        let b = t[at];
-        if b < 128 {
-            return Found {
-                value: b as u64,
-                end: at + 1,
-            };
-        }
-    }
-    long_value_at(t, at)
-}
-
-// A header of one byte has a small id.
-fn header_at(t: &[u8], at: usize) -> Found
+// The value of one byte or two, and the place after it, or 0: most headers, words and counts are no longer.
+fn short_value_at(t: &[u8], at: usize) -> Found
     ensures { λ r. ⌜ Ends (now (t .entry)) at (λ bs. (r .value / 8 ≤ base .id) × (bs ≡ shortest (r .value))) (r .end) ⌝ }
 {
     if at < t.len() {
@@ -162,6 +144,40 @@ fn header_at(t: &[u8], at: usize) -> Found
                 end: at + 1,
             };
         }
+        if at + 1 < t.len() {
+            let c = t[at + 1];
+            if 0 < c {
+                if c < 128 {
+                    return Found {
+                        value: (b % 128) as u64 + c as u64 * 128,
+                        end: at + 2,
+                    };
+                }
+            }
+        }
+    }
+    Found { value: 0, end: 0 }
+}
+
+fn value_at(t: &[u8], at: usize) -> Found
+    ensures { λ r. ⌜ Ends (now (t .entry)) at (λ bs. bs ≡ shortest (r .value)) (r .end) ⌝ }
+{
+    let short = short_value_at(t, at);
+    let i = short.end;
+    if 0 < i {
+        return short;
+    }
+    long_value_at(t, at)
+}
+
+// A header of one byte or two has a small id.
+fn header_at(t: &[u8], at: usize) -> Found
+    ensures { λ r. ⌜ Ends (now (t .entry)) at (λ bs. (r .value / 8 ≤ base .id) × (bs ≡ shortest (r .value))) (r .end) ⌝ }
+{
+    let short = short_value_at(t, at);
+    let i = short.end;
+    if 0 < i {
+        return short;
     }
     let found = long_value_at(t, at);
     let h = found.value;

@@ -1,5 +1,10 @@
 -- `as_is::float_elements`: an array's elements go as they came.
+use native.Mathlib.Omega.{arith}
+use mathlib.Core.Path.{ap, sym, _∙_}
+use mir.Syntax.{w8}
+use mir.Val.{Fits}
 use borrow.Author.Needs.{needs}
+use Rattle.as_is.proofs.Laws.{floats-ahead, float-width, by-phase}
 use Rattle.as_is.proofs.float_elements.Statement.{statement}
 use Rattle.as_is.proofs.float_elements.Tie as tie
 use Rattle.as_is.proofs.float_elements.Reads as reads
@@ -30,7 +35,10 @@ mul-t12 : tie.Need-mul-t12
 mul-t12 c = ?
 
 returns : tie.Need-returns
-returns c = ?
+returns c =
+    let f : Fits w8 (c .before .before .before .before .args .depth) = search needs in
+    by-phase _ _ _ _ _ _ (c .before .floats .ensures)
+    (floats-ahead _ _ _ _ _ _ (omega (arith, f .fits)) (c .before .before .before .before .pre .0) (c .before .before .before .before .pre .1 .0) (c .before .before .before .before .pre .1 .1) (c .before .before .some-floats .ensures .0) ? (c .before .before .before .before .args .w) ? ? (float-width (c .before .before .before .before .args .w) .0))
 
 pub float-elements-spec : {M : Type 1} → statement M
 float-elements-spec =

@@ -15,16 +15,16 @@ cast-whole : tie.Need-cast-whole
 cast-whole c = search needs
 
 div-whole : tie.Need-div-whole
-div-whole c = let p = float-width (c .before .before .before .args .w) in omega (arith, p .0, c .before .bytes .ensures)
+div-whole c = let p = float-width (c .before .args .w) in omega (arith, p .0, c .bytes .ensures)
 
 cast-result : tie.Need-cast-result
 cast-result c = search needs
 
 returns : tie.Need-returns
-returns c = (search needs, whole-floats (c .before .before .before .before .args .w) _ _ _ (c .before .before .bytes .ensures) ?)
+returns c = (search needs, whole-floats (c .before .before .args .w) _ _ _ (c .before .bytes .ensures) ?)
 
 returns-2 : tie.Need-returns-2
-returns-2 c = (search needs, whole-floats (c .before .before .before .before .args .w) _ _ _ (c .before .before .bytes .ensures) ?)
+returns-2 c = (search needs, whole-floats (c .before .before .args .w) _ _ _ (c .before .bytes .ensures) ?)
 
 pub some-floats-spec : {M : Type 1} → statement M
 some-floats-spec =

@@ -19,19 +19,19 @@ loop-holds c = going-start _ _
 shared-slice-read-b : tie.Need-shared-slice-read-b Inv-loop μ-loop
 shared-slice-read-b c = search needs
 
+sub-if1 : tie.Need-sub-if1 Inv-loop μ-loop
+sub-if1 c = going-from (c .before .before .loop .inv)
+
 add-result : tie.Need-add-result Inv-loop μ-loop
 add-result c = search needs
 
 returns : tie.Need-returns Inv-loop μ-loop
 returns c =
-    let l = c .before .before .before in
-    one-ends _ _ _ (c .if2 .taken) (l .loop-test .taken) (c .before .if1 .taken)
+    let l = c .before .before .before .before in
+    one-ends _ _ _ (c .if3 .taken) (l .loop-test .taken) (c .before .if2 .taken)
 
 returns-2 : tie.Need-returns-2 Inv-loop μ-loop
 returns-2 c = none
-
-sub-if4 : tie.Need-sub-if4 Inv-loop μ-loop
-sub-if4 c = going-from (c .before .before .before .before .before .loop .inv)
 
 add-result-2 : tie.Need-add-result-2 Inv-loop μ-loop
 add-result-2 c = search needs
@@ -39,24 +39,7 @@ add-result-2 c = search needs
 returns-3 : tie.Need-returns-3 Inv-loop μ-loop
 returns-3 c =
     let l = c .before .before .before .before .before in
-    going-ends (l .before .loop .inv) (l .loop-test .taken) (c .before .before .before .if1 .taken) (c .before .if3 .left) (c .if4 .taken)
-
-add-result-3 : tie.Need-add-result-3 Inv-loop μ-loop
-add-result-3 c = search needs
-
-returns-4 : tie.Need-returns-4 Inv-loop μ-loop
-returns-4 c =
-    let l = c .before .before .before .before .before .before in
-    going-last (l .before .loop .inv) (l .loop-test .taken) (c .if5 .taken) (c .before .if4 .left)
-
-returns-5 : tie.Need-returns-5 Inv-loop μ-loop
-returns-5 c = none
-
-sub-if6 : tie.Need-sub-if6 Inv-loop μ-loop
-sub-if6 c = going-from (c .before .before .before .loop .inv)
-
-returns-6 : tie.Need-returns-6 Inv-loop μ-loop
-returns-6 c = none
+    going-ends (l .before .loop .inv) (l .loop-test .taken) (c .before .before .if2 .taken) (c .if4 .left) (c .before .before .before .if1 .taken)
 
 add-i : tie.Need-add-i Inv-loop μ-loop
 add-i c = search needs
@@ -67,10 +50,21 @@ loop-less c = search needs
 loop-again : tie.Need-loop-again Inv-loop μ-loop
 loop-again c =
     let l = c .before .before .before in
-    going-more (l .before .loop .inv) (l .loop-test .taken) (c .before .if1 .left) (c .before .before .shared-slice-known .given _ .fits) (c .if6 .left)
+    going-more (l .before .loop .inv) (l .loop-test .taken) (c .if2 .left) (c .before .before .shared-slice-known .given _ .fits) (c .before .if1 .taken)
 
-returns-7 : tie.Need-returns-7 Inv-loop μ-loop
-returns-7 c = none
+add-result-3 : tie.Need-add-result-3 Inv-loop μ-loop
+add-result-3 c = search needs
+
+returns-4 : tie.Need-returns-4 Inv-loop μ-loop
+returns-4 c =
+    let l = c .before .before .before in
+    going-last (l .before .loop .inv) (l .loop-test .taken) (c .if5 .taken) (c .before .if1 .left)
+
+returns-5 : tie.Need-returns-5 Inv-loop μ-loop
+returns-5 c = none
+
+returns-6 : tie.Need-returns-6 Inv-loop μ-loop
+returns-6 c = none
 
 pub long-number-at-spec : {M : Type 1} → statement M
 long-number-at-spec =
@@ -80,18 +74,16 @@ long-number-at-spec =
     μ-loop
     loop-holds
     shared-slice-read-b
+    sub-if1
     add-result
     returns
     returns-2
-    sub-if4
     add-result-2
     returns-3
-    add-result-3
-    returns-4
-    returns-5
-    sub-if6
-    returns-6
     add-i
     loop-less
     loop-again
-    returns-7)
+    add-result-3
+    returns-4
+    returns-5
+    returns-6)

@@ -34,6 +34,7 @@ use Rattle.copying.proofs.AsIs.{fields-as-is, unsigneds-as-is, signeds-as-is, f
 use Rattle.own.specs.Own as own
 use Rattle.own.specs.Own.{Numbers}
 use Rattle.own.proofs.Spans.{all-bytes, bytes-front}
+use Rattle.as_is.specs.declared.Block.{Block}
 use Rattle.as_is.specs.Ahead.{Ahead}
 
 -- the machine's states as the reader's
@@ -137,9 +138,11 @@ pub at-float : (s : IStream) (id : ℕ) (w : FloatType) (left k v : ℕ) → sou
 at-float s id w left k v t e z =
     let f = subst (λ (p : code.Phase). SoundState (stateOf (record { phase = p; depth = s .depth }))) e (is-sound s t) in
     let q : 256 ^ k ≡ 1 = ap (λ (j : ℕ). 256 ^ j) z in
-    let u : v ≡ 0 = let l : v < 256 ^ k = f .1 .1 .1 .1 in omega arith in
-    (f .1 .0, f .1 .1 .0,
-    λ i. record { phase = (e ∙ ap (λ (x : FloatType). phases.Float id x left k v) (sym (float-back w)) ∙ ap (λ (j : ℕ). phases.Float id (floatType (width w)) left j v) z ∙ ap (phases.Float id (floatType (width w)) left 0) u) i; depth = s .depth })
+    let u : v ≡ 0 = let l : v < 256 ^ k = f .1 .1 .1 .1 in omega arith in (
+      f .1 .0,
+      f .1 .1 .0,
+      λ i. record { phase = (e ∙ ap (λ (x : FloatType). phases.Float id x left k v) (sym (float-back w)) ∙ ap (λ (j : ℕ). phases.Float id (floatType (width w)) left j v) z ∙ ap (phases.Float id (floatType (width w)) left 0) u) i; depth = s .depth },
+    )
 
 -- a reader that the code makes of a phase and a depth
 pub by-phase : (s : IStream) (c : List ℕ) (n d : ℕ) (p q : code.Phase) → p ≡ q → Ahead s c n (record { phase = q; depth = d }) → Ahead s c n (record { phase = p; depth = d })
@@ -154,3 +157,10 @@ float-width Floats.Fp64 = (lit< tt, lit≤ tt)
 pub whole-floats : (w : FloatType) (len b r : ℕ) → b ≡ bytesOf (width w) → r ≤ len / b → r * bytesOf (width w) ≤ len
 whole-floats Floats.Fp32 len b r e h = let l : r ≤ len / 4 = subst (λ (x : ℕ). r ≤ len / x) e h in omega arith
 whole-floats Floats.Fp64 len b r e h = let l : r ≤ len / 8 = subst (λ (x : ℕ). r ≤ len / x) e h in omega arith
+
+-- what each answer of the last function says
+pub ahead-from : (s s₀ : IStream) (c : List ℕ) (n : ℕ) (s′ : IStream) → s ≡ s₀ → Ahead s₀ c n s′ → Ahead s c n s′
+ahead-from s s₀ c n s′ e a = subst (λ (x : IStream). Ahead x c n s′) (sym e) a
+
+pub none-is : (s : IStream) (c : List ℕ) (r : Block) → soundStream s ≡ true → Live (stateOf s) → r ≡ record { len = 0; reader = s } → Ahead s c (r .len) (r .reader)
+none-is s c r t l e = subst (λ (x : Block). Ahead s c (x .len) (x .reader)) (sym e) (none-ahead s c t l)

@@ -21,10 +21,10 @@ cast-result : tie.Need-cast-result
 cast-result c = search needs
 
 returns : tie.Need-returns
-returns c = (search needs, whole-floats (c .before .before .args .w) _ _ _ (c .before .bytes .ensures) ?)
+returns c = (search needs, whole-floats (c .before .before .args .w) _ _ _ (c .before .bytes .ensures) (omega arith))
 
 returns-2 : tie.Need-returns-2
-returns-2 c = (search needs, whole-floats (c .before .before .args .w) _ _ _ (c .before .bytes .ensures) ?)
+returns-2 c = (search needs, whole-floats (c .before .before .args .w) _ _ _ (c .before .bytes .ensures) (omega (arith, c .if1 .left)))
 
 pub some-floats-spec : {M : Type 1} → statement M
 some-floats-spec =

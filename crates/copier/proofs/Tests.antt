@@ -185,6 +185,9 @@ turned-by s pos c b left f t b′ e i (p, q) h =
     let z = q ∙ ap (λ (n : ℕ). heardBuf n f pos b) e ∙ ap (λ (y : Fed). heardBuf (dueIn (stateOf s)) y pos b) i in
     subst (λ (y : Turn). Turned s pos c b y b′) (sym x) (subst (λ (y : List ℕ). Turned s pos c b (heardTurn (s .depth) (dueIn (stateOf s)) (fedOf s c) pos b) y) (sym z) h)
 
+pub turned-is : (s : IStream) (pos : ℕ) (c b : List ℕ) (t t′ : Turn) (b′ : List ℕ) → t ≡ t′ → Turned s pos c b t′ b′ → Turned s pos c b t b′
+turned-is s pos c b t t′ b′ e h = subst (λ (x : Turn). Turned s pos c b x b′) (sym e) h
+
 pub went-is : (s : IStream) (pos : ℕ) (c b : List ℕ) (s′ : IStream) (n end : ℕ) (b′ : List ℕ) (l : List ℕ) → Went s pos c b s′ n (reached b pos l) (put b pos l)
     → (end ≡ reached b pos (drop 0 l)) × (b′ ≡ put b pos (drop 0 l)) → Went s pos c b s′ n end b′
 went-is s pos c b s′ n end b′ l w (p, q) =

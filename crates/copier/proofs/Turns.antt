@@ -2,11 +2,11 @@
 -- does.
 use mathlib.Core.Path.{_≡_, refl, sym, ap, _∙_, subst}
 use mathlib.Core.Bool.{Bool, true, false}
-use mathlib.Core.List.{List, [], _∷_}
+use mathlib.Core.List.{List, [], _∷_, _++_}
 use Prim.Native.Nat.{ℕ, zero, suc, _+_, _-_, _*_, _<_, _≤_, min}
 use native.Mathlib.Omega.{arith}
 use lib.Dec.{leb, ltb, eqb}
-use lib.ListN.{length, take, drop, length-take, length-drop}
+use lib.ListN.{length, take, drop, length-take, length-drop, take-append-drop}
 use lib.Seq.{take-all, take-take, drop-drop}
 use borrow.Author.Tests.{leb-true, leb-false, ltb-true, lt-ltb, le-ltb}
 use Rattle.layout.specs.Limits.{base, pick}
@@ -17,7 +17,7 @@ use Rattle.machine.specs.Call as calls
 use Rattle.machine.specs.Call.{State, reading, owing, broke, Called, event, verdict, invalid, verdictAt, Pace, byte, bulk, piece, scan, call}
 use Rattle.machine.specs.Machine.{idle}
 use Rattle.machine.specs.Run.{placeOf}
-use Rattle.machine.proofs.Calls.{FairPlace, weight, Judged, Closes}
+use Rattle.machine.proofs.Calls.{FairPlace, weight, light, Judged, Closes}
 use Rattle.types.specs.Types.{rawSort}
 use Rattle.types.specs.declared.RawType.{RawType}
 use Rattle.varint.proofs.Laws.{sound-start}
@@ -37,13 +37,15 @@ use Rattle.istream.proofs.Calls.{state-of-stream, stream-back}
 use Rattle.istream.proofs.Laws.{is-sound, sound-is, fed-sound, feed-keeps}
 use Rattle.reading.proofs.Feeds.{Ranged, call-range}
 use Rattle.emit.specs.Put.{put, reached}
-use Rattle.emit.proofs.Writes.{length-put, reached-le}
+use Rattle.emit.proofs.Writes.{length-put, reached-le, reached-is}
 use Rattle.laws.specs.Events.{eventBytes}
 use Rattle.ostream.specs.declared.OStream.{OStream}
 use Rattle.copying.specs.Owed.{nothing, owes, rest, further, depthBy, depthOnce, dueIn}
 use Rattle.copying.specs.Copy as copying
 use Rattle.copying.specs.Copy.{Copy, after, settled, filled, gone, handed, stuck, heard, copy}
 use Rattle.copying.proofs.Turns.{copy-full, copy-settles, copy-stuck, copy-turn, Heard, turn-heard, paced, handed-is}
+use Rattle.copying.proofs.OneEvent.{AsIs}
+use Rattle.as_is.specs.Ahead.{Ahead}
 use Rattle.owed.specs.declared.Owed.{Owed}
 use Rattle.owed.specs.Owed.{owe, outputOf, outputBytes}
 use Rattle.owed.proofs.Laws.{owe-any, spelled-event}
@@ -55,7 +57,7 @@ use Rattle.copier.specs.declared.Answer.the-variants.{Full, Status}
 use Rattle.copier.specs.Copier.{copierIn}
 use Rattle.copier.specs.Calls as says
 use Rattle.copier.specs.Calls.{Said, Left, saidOf}
-use Rattle.copier.specs.Turns.{standing, leftAs, fullStop, eventTurn, eventBuf, heardTurn, heardBuf, Went, Turned, Ran, pastPiece, InPayload, later}
+use Rattle.copier.specs.Turns.{standing, leftAs, fullStop, eventTurn, eventBuf, heardTurn, heardBuf, Went, Turned, Ran, pastPiece, pause, InPayload, later}
 use Rattle.copier.proofs.Events.{AtEvent, Bytes, Steady, call-level, fair, to-bytes}
 
 -- ---- what the reader is handed
@@ -215,10 +217,6 @@ module _ (s : IStream) (pos : ℕ) (c b : List ℕ) (h : pos ≤ length b) where
 is-payload : (s : IStream) (id : ℕ) (r : RawType) (total o : ℕ) → s .phase ≡ phases.Payload id r total o → s ≡ record { phase = phases.Payload id r total o; depth = s .depth }
 is-payload s id r total o e = ap (λ (p : code.Phase). record { phase = p; depth = s .depth }) e
 
--- a stop within a payload
-abbrev pub pause : IStream → Rattle.copier.specs.declared.Answer.Answer → ℕ → Stop
-pause s a pos = record { used = 0; answer = a; reader = s; depth = s .depth; pos = pos; owed = Nothing; place = 0 }
-
 take-none : (n : ℕ) → take {A = ℕ} n [] ≡ []
 take-none zero = refl
 take-none (suc n) = refl
@@ -231,7 +229,7 @@ module _ (d id : ℕ) (r : RawType) (total o pos : ℕ) (b : List ℕ) (h : pos 
   stands = reading d (inPayload id (rawSort r) total o)
 
   -- "an empty chunk"
-  no-bytes : o < total → Turned at pos [] b (turns.Stop (pause at (Status Incomplete) pos)) b
+  no-bytes : o < total → Turned at pos [] b (turns.Stop (pause at 0 (Status Incomplete) pos)) b
   unfolding stuck heard call scan judge ending
   no-bytes f =
       let k = standing at pos in
@@ -240,7 +238,7 @@ module _ (d id : ℕ) (r : RawType) (total o pos : ℕ) (b : List ℕ) (h : pos 
       let q = subst (λ (x : List ℕ). copy base k [] b ≡ heard k [] b (call base stands x) (λ e. copy base (gone k (call base stands x .state) (owes (dueIn stands) e 0)) (drop (call base stands x .read) []) b)) i (copy-turn base k [] b f refl refl) in
       (λ w. ap (leftAs w) q ∙ ap (λ (x : IStream). record { used = 0; said = Said.verdict incomplete; copier = record { reader = x; writer = record { offset = pos; depth = d; pending = w .pending; npending = w .npending }; owed = Nothing; place = 0 }; buf = b }) (stream-back d (phases.Payload id r total o) tt), omega arith, refl)
 
-  no-room : (x : ℕ) (xs : List ℕ) → length b - pos ≡ 0 → Turned at pos (x ∷ xs) b (turns.Stop (pause at Full pos)) b
+  no-room : (x : ℕ) (xs : List ℕ) → length b - pos ≡ 0 → Turned at pos (x ∷ xs) b (turns.Stop (pause at 0 Full pos)) b
   unfolding stuck
   no-room x xs z =
       let e : stuck stands (length b - pos) (x ∷ xs) ≡ true = ap (λ (m : ℕ). stuck stands m (x ∷ xs)) z in
@@ -308,17 +306,17 @@ pub past-end : (id : ℕ) (r : RawType) (total o n : ℕ) (p : code.Phase) → p
 past-end id r total o n p e h = e ∙ sym (ap (λ (t : Bool). phaseIn (pick t (inPayload id (rawSort r) total (o + n)) idle)) (le-ltb (o + n) total h))
 
 -- the three ways of a reader within a payload
-pub piece-none : (s : IStream) (id : ℕ) (r : RawType) (total o pos : ℕ) (c b : List ℕ) → pos ≤ length b → InPayload s id r total o → length c ≡ 0 → Turned s pos c b (turns.Stop (pause s (Status Incomplete) pos)) b
+pub piece-none : (s : IStream) (id : ℕ) (r : RawType) (total o pos : ℕ) (c b : List ℕ) → pos ≤ length b → InPayload s id r total o → length c ≡ 0 → Turned s pos c b (turns.Stop (pause s 0 (Status Incomplete) pos)) b
 piece-none s id r total o pos [] b h (t, u) z =
     let i = is-payload s id r total o u in
     let st = subst (λ (x : IStream). SoundState (stateOf x)) i (is-sound s t) in
-    subst (λ (x : IStream). Turned x pos [] b (turns.Stop (pause x (Status Incomplete) pos)) b) (sym i) (no-bytes (s .depth) id r total o pos b h (st .1 .1 .1))
+    subst (λ (x : IStream). Turned x pos [] b (turns.Stop (pause x 0 (Status Incomplete) pos)) b) (sym i) (no-bytes (s .depth) id r total o pos b h (st .1 .1 .1))
 piece-none s id r total o pos (x ∷ xs) b h p z = absurd (omega arith)
 
-pub piece-full : (s : IStream) (id : ℕ) (r : RawType) (total o pos : ℕ) (c b : List ℕ) → pos ≤ length b → InPayload s id r total o → (length c ≡ 0 → ⊥) → length b - pos ≡ 0 → Turned s pos c b (turns.Stop (pause s Full pos)) b
+pub piece-full : (s : IStream) (id : ℕ) (r : RawType) (total o pos : ℕ) (c b : List ℕ) → pos ≤ length b → InPayload s id r total o → (length c ≡ 0 → ⊥) → length b - pos ≡ 0 → Turned s pos c b (turns.Stop (pause s 0 Full pos)) b
 piece-full s id r total o pos [] b h p n z = absurd (n refl)
 piece-full s id r total o pos (x ∷ xs) b h (t, u) n z =
-    subst (λ (y : IStream). Turned y pos (x ∷ xs) b (turns.Stop (pause y Full pos)) b) (sym (is-payload s id r total o u)) (no-room (s .depth) id r total o pos b h x xs z)
+    subst (λ (y : IStream). Turned y pos (x ∷ xs) b (turns.Stop (pause y 0 Full pos)) b) (sym (is-payload s id r total o u)) (no-room (s .depth) id r total o pos b h x xs z)
 
 -- a payload's bytes are below its total, which has room in 32 bits
 pub piece-small : (s : IStream) (id : ℕ) (r : RawType) (total o : ℕ) → InPayload s id r total o → (o < total) × (total ≤ 2147483647)
@@ -347,6 +345,113 @@ piece-goes s id r total o pos (x ∷ xs) b h (t, u) n z k m w f q g = go (length
         let a = part-is (s .depth) id r total o pos b h x xs j e st k m w f in
         subst (λ (v : code.Phase). Goes s v m) (sym g)
         (subst (λ (y : IStream). Goes y (pastPiece id r total o m) m) (sym i) (subst (λ (l : ℕ). Goes y (pastPiece id r total o l) l) a v))
+
+-- a turn, and a stop at the next: one stop
+went-stops : (s : IStream) (pos : ℕ) (c b : List ℕ) (s′ : IStream) (n pos′ : ℕ) (b′ : List ℕ) (t : Stop) (b″ : List ℕ) → Went s pos c b s′ n pos′ b′ → Turned s′ pos′ (drop n c) b′ (turns.Stop t) b″
+    → Turned s pos c b (turns.Stop (later n t)) b″
+went-stops s pos c b s′ n pos′ b′ t b″ w (q, u, v) =
+    let l = length-drop n c in
+    let k = w .few in
+    (λ x. ap (leftAs x) (w .same) ∙ ap (λ (y : Left). record { used = n + y .used; said = y .said; copier = y .copier; buf = y .buf }) (q x), omega arith, v ∙ w .size)
+
+lesser : (n k x : ℕ) → n ≡ min k x → n < x → n ≡ k
+lesser n k x e h = omega arith
+
+-- where a payload goes on beyond what was taken of it, and the chunk too, there was no more room
+no-more : (room lc k n owed : ℕ) → k ≡ min lc room → n ≡ min k owed → n < owed → n < lc → n ≡ room
+no-more room lc k n owed e f h l =
+    let a : n ≡ k = lesser n k owed f h in
+    let b : n ≡ min room lc = a ∙ e ∙ swap lc room in
+    lesser n room lc b l
+  where
+    swap : (x y : ℕ) → min x y ≡ min y x
+    swap x y = omega arith
+
+spent-room : (b pos end n lt lc : ℕ) → pos ≤ b → n ≡ b - pos → n ≤ lc → lt ≡ min n lc → end ≡ pos + min lt (b - pos) → b - end ≡ 0
+spent-room b pos end n lt lc h e l t q = let x : lt ≡ n = small n lc lt t l in let y : end ≡ pos + n = q ∙ ap (λ (z : ℕ). pos + z) (ap (λ (z : ℕ). min z (b - pos)) (x ∙ e) ∙ same (b - pos)) ∙ ap (λ (z : ℕ). pos + z) (sym e) in omega (arith, y, e)
+  where
+    small : (n m l : ℕ) → l ≡ min n m → n ≤ m → l ≡ n
+    small n m l e h = omega arith
+
+    same : (x : ℕ) → min x x ≡ x
+    same x = omega arith
+
+beyond : (o n total : ℕ) → o + n < total → n < total - o
+beyond o n total h = omega arith
+
+lt-le : (x y : ℕ) → x < y → x ≤ y
+lt-le x y h = omega arith
+
+some-left : (d lc n : ℕ) → d ≡ lc - n → n < lc → d ≡ 0 → ⊥
+some-left d lc n e h z = omega arith
+
+none-left : (lc n : ℕ) → lc ≤ n → lc - n ≡ 0
+none-left lc n h = omega arith
+
+-- a payload that goes on, n of its bytes being out
+module _ (s : IStream) (id : ℕ) (r : RawType) (total o pos : ℕ) (c b : List ℕ) (h : pos ≤ length b) (p : InPayload s id r total o) (z : length c ≡ 0 → ⊥) (y : length b - pos ≡ 0 → ⊥) (k n : ℕ)
+    (e : k ≡ min (length c) (length b - pos)) (f : n ≡ min k (total - o)) (l : o + n < total) (end : ℕ) (b′ : List ℕ) (g : (end ≡ reached b pos (drop 0 (take n c))) × (b′ ≡ put b pos (drop 0 (take n c))))
+  where
+    abbrev onward : IStream
+    onward = record { phase = phases.Payload id r total (o + n); depth = s .depth }
+
+    went : Went s pos c b onward n end b′
+    went =
+        subst (λ (m : ℕ). Went s pos c b onward n m b′) (sym (g .0))
+        (subst (λ (x : List ℕ). Went s pos c b onward n (reached b pos (take n c)) x) (sym (g .1)) (piece-goes s id r total o pos c b h p z y k n e f (phases.Payload id r total (o + n)) (past-on id r total o n l)))
+
+    inside : end ≤ length b′
+    inside = at-most (length b) (length b′) end (went .size) (went .within)
+      where
+        at-most : (x x′ m : ℕ) → x′ ≡ x → m ≤ x → m ≤ x′
+        at-most x x′ m e h = omega arith
+
+    stops : (a : _) → Turned onward end (drop n c) b′ (turns.Stop (pause onward 0 a end)) b′ → Turned s pos c b (turns.Stop (pause onward n a end)) b′
+    stops a t = subst (λ (m : ℕ). Turned s pos c b (turns.Stop (pause onward m a end)) b′) (plain n) (went-stops s pos c b onward n end b′ (pause onward 0 a end) b′ went t)
+      where
+        plain : (n : ℕ) → n + 0 ≡ n
+        plain n = omega arith
+
+    -- the buffer is full,
+    pub piece-fills : n < length c → Turned s pos c b (turns.Stop (pause onward n Full end)) b′
+    piece-fills u =
+        let full : length b′ - end ≡ 0 =
+        ap (λ (m : ℕ). m - end) (went .size)
+        ∙ spent-room (length b) pos end n (length (take n c)) (length c) h (no-more (length b - pos) (length c) k n (total - o) e f (beyond o n total l) u) (lt-le n (length c) u) (length-take n c) (g .0 ∙ reached-is b pos (take n c)) in
+        stops Full (piece-full onward id r total (o + n) end (drop n c) b′ inside (went .sound, refl) (some-left (length (drop n c)) (length c) n (length-drop n c) u) full)
+
+    -- or the chunk is spent
+    pub piece-spends : length c ≤ n → Turned s pos c b (turns.Stop (pause onward n (Status Incomplete) end)) b′
+    piece-spends u = stops (Status Incomplete) (piece-none onward id r total (o + n) end (drop n c) b′ inside (went .sound, refl) (length-drop n c ∙ none-left (length c) n u))
+
+-- what stands in its shortest form goes as it came
+pub ahead-went : (s : IStream) (pos m : ℕ) (c b : List ℕ) (n : ℕ) (s′ : IStream) → pos ≤ length b → m ≡ min (length c) (length b - pos) → Ahead s (take m c) n s′ → 0 < n
+    → Went s pos c b s′ n (reached b pos (take n c)) (put b pos (take n c))
+ahead-went s pos m c b n s′ h e a z =
+    let f : n ≤ length (take m c) = a .few in
+    let t : length (take m c) ≡ min m (length c) = length-take m c in
+    let l : n ≤ length c = omega arith in
+    let i : take n (take m c) ≡ take n c = take-take n m c (omega arith) in
+    let u : length (take n c) ≡ n = length-take n c ∙ least n (length c) l in
+    let j : pos + length (take n c) ≤ length b = omega arith in
+    let q : copy base (standing s pos) (take n c ++ drop n c) b ≡ after (length (take n c)) (copy base (standing s′ (pos + length (take n c))) (drop n c) (put b pos (take n c))) =
+    subst (λ (x : List ℕ). AsIs base (stateOf s) (s .depth) x (stateOf s′) (s′ .depth)) i (a .same) pos (drop n c) b j in
+    let r : reached b pos (take n c) ≡ pos + length (take n c) = reached-is b pos (take n c) ∙ ap (λ (x : ℕ). pos + x) (least (length (take n c)) (length b - pos) (omega arith)) in
+    record {
+      same =
+          ap (λ (x : List ℕ). copy base (standing s pos) x b) (sym (take-append-drop n c)) ∙ q
+          ∙ ap (λ (x : ℕ). after x (copy base (standing s′ (pos + length (take n c))) (drop n c) (put b pos (take n c)))) u
+          ∙ ap (λ (x : ℕ). after n (copy base (standing s′ x) (drop n c) (put b pos (take n c)))) (sym r);
+      few = l;
+      nearer = let w = light (stateOf s′) in omega arith;
+      sound = a .sound;
+      live = a .live;
+      size = length-put b pos (take n c) h;
+      within = reached-le b pos (take n c) h;
+    }
+  where
+    least : (x y : ℕ) → x ≤ y → min x y ≡ x
+    least x y h = omega arith
 
 -- ---- the loop
 

@@ -32,6 +32,7 @@ use Rattle.owed.specs.declared.Owed.the-variants.{Nothing}
 use Rattle.owed.specs.Owed.{owe, outputOf, outputBytes}
 use Rattle.copier.specs.declared.Copier.{Copier}
 use Rattle.copier.specs.declared.Copied.{Copied}
+use Rattle.copier.specs.declared.Answer.{Answer}
 use Rattle.copier.specs.declared.Answer.the-variants.{Full, Status, Refused}
 use Rattle.copier.specs.declared.Stop.{Stop}
 use Rattle.copier.specs.declared.Turn.{Turn}
@@ -107,6 +108,10 @@ heardBuf left f pos b = bufBy left (f .answer) pos b
 -- a payload's phase, n of its bytes later
 abbrev pub pastPiece : ℕ → RawType → ℕ → ℕ → ℕ → Phase
 pastPiece id r total o n = phaseIn (pick (ltb (o + n) total) (inPayload id (rawSort r) total (o + n)) idle)
+
+-- a stop within a payload
+abbrev pub pause : IStream → ℕ → Answer → ℕ → Stop
+pause s used a pos = record { used = used; answer = a; reader = s; depth = s .depth; pos = pos; owed = Nothing; place = 0 }
 
 -- a sound reader within a payload
 abbrev pub InPayload : IStream → ℕ → RawType → ℕ → ℕ → Type 0

@@ -12,7 +12,8 @@ ghost use Rattle.layout.specs.Limits.{base};
 ghost use Rattle.copying.specs.Copy.{copy};
 ghost use Rattle.copier.specs.Copier.{soundWriter, copyOf};
 ghost use Rattle.copier.specs.Calls.{leftBy, copied, opensOf, opensIn, startedBy, started, sentBy, drained, changed};
-ghost use Rattle.copier.specs.Turns.{isBroke, refused, finished, eventTurn, eventBuf, heardTurn, heardBuf, pastPiece, InPayload, Turned, Stops, Ran, Ready, later};
+ghost use Rattle.copier.specs.Turns.{isBroke, refused, finished, eventTurn, eventBuf, heardTurn, heardBuf, pause, InPayload, Turned, Stops, Ran, Ready, later};
+use as_is::as_is;
 use emit::put_rest;
 use istream::Fed;
 use istream::IStream;
@@ -178,11 +179,11 @@ fn heard(depth: u8, left: u32, fed: Fed, pos: usize, buf: &mut [u8]) -> Turn
 }
 
 // A call that stops within a payload, with nothing owed.
-fn within(reader: IStream, answer: Answer, pos: usize) -> Turn
-    ensures { λ r. ⌜ r ≡ Turn.Stop (record { used = 0; answer = answer; reader = reader; depth = reader .depth; pos = pos; owed = Owed.Nothing; place = 0 }) ⌝ }
+fn within(reader: IStream, used: usize, answer: Answer, pos: usize) -> Turn
+    ensures { λ r. ⌜ r ≡ Turn.Stop (pause reader used answer pos) ⌝ }
 {
     Turn::Stop(Stop {
-        used: 0,
+        used,
         answer,
         reader,
         depth: reader.depth as u16,
@@ -190,19 +191,6 @@ fn within(reader: IStream, answer: Answer, pos: usize) -> Turn
         owed: Owed::Nothing,
         place: 0,
     })
-}
-
-// A payload's phase, so many of its bytes later.
-fn past(id: u32, r: RawType, total: u32, offset: u32, n: u32) -> Phase
-    requires { ⌜ offset + n < 4294967296 ⌝ }
-    ensures { λ p. ⌜ p ≡ pastPiece id r total offset n ⌝ }
-{
-    let at = offset + n;
-    if at < total {
-        Phase::Payload(id, r, total, at)
-    } else {
-        idle()
-    }
 }
 
 // A payload's bytes go out straight away, as many as there is room for. The next phase is made here and not by the reader's `feed`, which
@@ -220,21 +208,33 @@ fn piece(
     requires { ⌜ InPayload reader id r total offset × (pos ≤ length (now buf)) ⌝ }
     ensures { λ t. ⌜ Turned reader pos (now (rest .entry)) (now (buf .entry)) t (now (buf .exit)) ⌝ }
 {
-    if rest.len() == 0 {
-        return within(reader, Answer::Status(Status::Incomplete), pos);
+    let len = rest.len();
+    if len == 0 {
+        return within(reader, 0, Answer::Status(Status::Incomplete), pos);
     }
     let room = buf.len() - pos;
     if room == 0 {
-        return within(reader, Answer::Full, pos);
+        return within(reader, 0, Answer::Full, pos);
     }
-    let n = least(least(rest.len(), room), (total - offset) as usize);
+    let n = least(least(len, room), (total - offset) as usize);
     let end = put_rest(buf, pos, &rest[..n], 0);
-    let phase = past(id, r, total, offset, n as u32);
     let depth = reader.depth;
+    let at = offset + n as u32;
+    if at < total {
+        let next = IStream {
+            phase: Phase::Payload(id, r, total, at),
+            depth,
+        };
+        if n < len {
+            return within(next, n, Answer::Full, end);
+        }
+        return within(next, n, Answer::Status(Status::Incomplete), end);
+    }
+    let phase = idle();
     Turn::On(IStream { phase, depth }, n, end)
 }
 
-// One event, nothing being owed.
+// One event, nothing being owed; or what stands in its shortest form already, as it came.
 fn one_event(reader: IStream, pos: usize, rest: &[u8], buf: &mut [u8]) -> Turn
     requires { ⌜ (soundStream reader ≡ true) × (Live (stateOf reader) × (pos ≤ length (now buf))) ⌝ }
     ensures { λ r. ⌜ Turned reader pos (now (rest .entry)) (now (buf .entry)) r (now (buf .exit)) ⌝ }
@@ -242,6 +242,14 @@ fn one_event(reader: IStream, pos: usize, rest: &[u8], buf: &mut [u8]) -> Turn
     let phase = reader.phase;
     if let Phase::Payload(id, r, total, offset) = phase {
         return piece(reader, id, r, total, offset, pos, rest, buf);
+    }
+    let m = least(rest.len(), buf.len() - pos);
+    let block = as_is(reader, &rest[..m]);
+    let n = block.len;
+    if 0 < n {
+        let next = block.reader;
+        let end = put_rest(buf, pos, &rest[..n], 0);
+        return Turn::On(next, n, end);
     }
     heard(reader.depth, due(reader), reader.feed(rest), pos, buf)
 }

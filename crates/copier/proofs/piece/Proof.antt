@@ -1,26 +1,24 @@
--- `copier::piece`: a payload: spent, stuck or going on.
-use mathlib.Core.Path.{sym, subst}
+-- `copier::piece`: a payload: spent, stuck, going on or ending.
+use mathlib.Core.Path.{sym}
 use native.Mathlib.Omega.{arith}
 use lib.Seq.{length-take-le}
-use Rattle.copier.specs.declared.Turn.{Turn}
-use Rattle.copier.specs.Turns.{Turned}
-use Rattle.copier.proofs.Turns.{piece-none, piece-full, piece-small, piece-goes}
-use Rattle.copier.proofs.Tests.{went-is}
+use Rattle.copier.proofs.Turns.{piece-none, piece-full, piece-small, piece-goes, piece-fills, piece-spends, past-end}
+use Rattle.copier.proofs.Tests.{turned-is, went-is}
 use borrow.Author.Needs.{needs}
 use Rattle.copier.proofs.piece.Statement.{statement}
 use Rattle.copier.proofs.piece.Tie as tie
 use Rattle.copier.proofs.piece.Reads as reads
 use Rattle.copier.proofs.piece.Lts as lts
 use Rattle.copier.proofs.least.Reads as least-reads
-use Rattle.copier.proofs.past.Reads as past-reads
 use Rattle.copier.proofs.within.Reads as within-reads
 use Rattle.emit.proofs.put_rest.Reads as put-rest-reads
+use Rattle.phase.proofs.idle.Reads as idle-reads
 
 within-requires : tie.Need-within-requires
 within-requires c κs = search needs
 
 returns : tie.Need-returns
-returns c = subst (λ (t : Turn). Turned (c .before .before .before .before .args .reader) (c .before .before .before .before .args .pos) (c .before .before .before .before .args .rest .now) (c .before .before .before .before .args .buf .now) t (c .before .before .before .before .args .buf .now)) (sym (c .within .ensures)) (piece-none (c .before .before .before .before .args .reader) (c .before .before .before .before .args .id) (c .before .before .before .before .args .r) (c .before .before .before .before .args .total) (c .before .before .before .before .args .offset) (c .before .before .before .before .args .pos) (c .before .before .before .before .args .rest .now) (c .before .before .before .before .args .buf .now) (c .before .before .before .before .pre .1) (c .before .before .before .before .pre .0) (c .before .if1 .taken))
+returns c = turned-is _ _ _ _ _ _ _ (c .within .ensures) (piece-none (c .before .before .before .before .args .reader) (c .before .before .before .before .args .id) (c .before .before .before .before .args .r) (c .before .before .before .before .args .total) (c .before .before .before .before .args .offset) (c .before .before .before .before .args .pos) (c .before .before .before .before .args .rest .now) (c .before .before .before .before .args .buf .now) (c .before .before .before .before .pre .1) (c .before .before .before .before .pre .0) (c .before .if1 .taken))
 
 sub-room : tie.Need-sub-room
 sub-room c = search needs
@@ -29,7 +27,7 @@ within-requires-2 : tie.Need-within-requires-2
 within-requires-2 c κs = search needs
 
 returns-2 : tie.Need-returns-2
-returns-2 c = subst (λ (t : Turn). Turned (c .before .before .before .before .before .args .reader) (c .before .before .before .before .before .args .pos) (c .before .before .before .before .before .args .rest .now) (c .before .before .before .before .before .args .buf .now) t (c .before .before .before .before .before .args .buf .now)) (sym (c .within2 .ensures)) (piece-full (c .before .before .before .before .before .args .reader) (c .before .before .before .before .before .args .id) (c .before .before .before .before .before .args .r) (c .before .before .before .before .before .args .total) (c .before .before .before .before .before .args .offset) (c .before .before .before .before .before .args .pos) (c .before .before .before .before .before .args .rest .now) (c .before .before .before .before .before .args .buf .now) (c .before .before .before .before .before .pre .1) (c .before .before .before .before .before .pre .0) (c .before .before .if1 .left) (c .before .if2 .taken))
+returns-2 c = turned-is _ _ _ _ _ _ _ (c .within2 .ensures) (piece-full (c .before .before .before .before .before .args .reader) (c .before .before .before .before .before .args .id) (c .before .before .before .before .before .args .r) (c .before .before .before .before .before .args .total) (c .before .before .before .before .before .args .offset) (c .before .before .before .before .before .args .pos) (c .before .before .before .before .before .args .rest .now) (c .before .before .before .before .before .args .buf .now) (c .before .before .before .before .before .pre .1) (c .before .before .before .before .before .pre .0) (c .before .before .if1 .left) (c .before .if2 .taken))
 
 least-requires : tie.Need-least-requires
 least-requires c κs = search needs
@@ -49,17 +47,38 @@ slice-aggregate-put-rest c = let l = c .before .before .least2 .ensures in let k
 put-rest-requires : tie.Need-put-rest-requires
 put-rest-requires c κs = search needs
 
-cast-past : tie.Need-cast-past
-cast-past c = let l = c .before .before .before .before .before .least2 .ensures in let p = piece-small (c .before .before .before .before .before .before .before .before .before .before .before .args .reader) (c .before .before .before .before .before .before .before .before .before .before .before .args .id) (c .before .before .before .before .before .before .before .before .before .before .before .args .r) (c .before .before .before .before .before .before .before .before .before .before .before .args .total) (c .before .before .before .before .before .before .before .before .before .before .before .args .offset) (c .before .before .before .before .before .before .before .before .before .before .before .pre .0) in omega (arith, p .0, p .1)
+cast-at : tie.Need-cast-at
+cast-at c = search needs
 
-past-requires : tie.Need-past-requires
-past-requires c κs = let l = c .before .before .before .before .before .least2 .ensures in let p = piece-small (c .before .before .before .before .before .before .before .before .before .before .before .args .reader) (c .before .before .before .before .before .before .before .before .before .before .before .args .id) (c .before .before .before .before .before .before .before .before .before .before .before .args .r) (c .before .before .before .before .before .before .before .before .before .before .before .args .total) (c .before .before .before .before .before .before .before .before .before .before .before .args .offset) (c .before .before .before .before .before .before .before .before .before .before .before .pre .0) in omega (arith, p .0, p .1)
+add-at : tie.Need-add-at
+add-at c = search needs
+
+within-requires-3 : tie.Need-within-requires-3
+within-requires-3 c κs = search needs
 
 same-length : tie.Need-same-length
 same-length c = search needs
 
 returns-3 : tie.Need-returns-3
-returns-3 c = went-is _ _ _ _ _ _ _ _ _ (piece-goes (c .before .before .before .before .before .before .before .before .before .before .before .before .args .reader) (c .before .before .before .before .before .before .before .before .before .before .before .before .args .id) (c .before .before .before .before .before .before .before .before .before .before .before .before .args .r) (c .before .before .before .before .before .before .before .before .before .before .before .before .args .total) (c .before .before .before .before .before .before .before .before .before .before .before .before .args .offset) (c .before .before .before .before .before .before .before .before .before .before .before .before .args .pos) (c .before .before .before .before .before .before .before .before .before .before .before .before .args .rest .now) (c .before .before .before .before .before .before .before .before .before .before .before .before .args .buf .now) (c .before .before .before .before .before .before .before .before .before .before .before .before .pre .1) (c .before .before .before .before .before .before .before .before .before .before .before .before .pre .0) (c .before .before .before .before .before .before .before .before .before .if1 .left) (c .before .before .before .before .before .before .before .before .if2 .left) (c .before .before .before .before .before .before .before .least .result) (c .before .before .before .before .before .before .least2 .result) (c .before .before .before .before .before .before .before .least .ensures) (c .before .before .before .before .before .before .least2 .ensures) (c .past .result) (c .past .ensures)) (c .before .before .before .put-rest .ensures)
+returns-3 c = turned-is _ _ _ _ _ _ _ (c .within3 .ensures) (piece-fills (c .before .before .before .before .before .before .before .before .before .before .before .before .before .before .args .reader) (c .before .before .before .before .before .before .before .before .before .before .before .before .before .before .args .id) (c .before .before .before .before .before .before .before .before .before .before .before .before .before .before .args .r) (c .before .before .before .before .before .before .before .before .before .before .before .before .before .before .args .total) (c .before .before .before .before .before .before .before .before .before .before .before .before .before .before .args .offset) (c .before .before .before .before .before .before .before .before .before .before .before .before .before .before .args .pos) (c .before .before .before .before .before .before .before .before .before .before .before .before .before .before .args .rest .now) (c .before .before .before .before .before .before .before .before .before .before .before .before .before .before .args .buf .now) (c .before .before .before .before .before .before .before .before .before .before .before .before .before .before .pre .1) (c .before .before .before .before .before .before .before .before .before .before .before .before .before .before .pre .0) (c .before .before .before .before .before .before .before .before .before .before .before .if1 .left) (c .before .before .before .before .before .before .before .before .before .before .if2 .left) (c .before .before .before .before .before .before .before .before .before .least .result) (c .before .before .before .before .before .before .before .before .least2 .result) (c .before .before .before .before .before .before .before .before .before .least .ensures) (c .before .before .before .before .before .before .before .before .least2 .ensures) (c .before .before .if3 .taken) (c .before .before .before .before .before .put-rest .result) _ (c .before .before .before .before .before .put-rest .ensures) (c .before .if4 .taken))
+
+within-requires-4 : tie.Need-within-requires-4
+within-requires-4 c κs = search needs
+
+same-length-2 : tie.Need-same-length-2
+same-length-2 c = search needs
+
+returns-4 : tie.Need-returns-4
+returns-4 c = turned-is _ _ _ _ _ _ _ (c .within4 .ensures) (piece-spends (c .before .before .before .before .before .before .before .before .before .before .before .before .before .before .args .reader) (c .before .before .before .before .before .before .before .before .before .before .before .before .before .before .args .id) (c .before .before .before .before .before .before .before .before .before .before .before .before .before .before .args .r) (c .before .before .before .before .before .before .before .before .before .before .before .before .before .before .args .total) (c .before .before .before .before .before .before .before .before .before .before .before .before .before .before .args .offset) (c .before .before .before .before .before .before .before .before .before .before .before .before .before .before .args .pos) (c .before .before .before .before .before .before .before .before .before .before .before .before .before .before .args .rest .now) (c .before .before .before .before .before .before .before .before .before .before .before .before .before .before .args .buf .now) (c .before .before .before .before .before .before .before .before .before .before .before .before .before .before .pre .1) (c .before .before .before .before .before .before .before .before .before .before .before .before .before .before .pre .0) (c .before .before .before .before .before .before .before .before .before .before .before .if1 .left) (c .before .before .before .before .before .before .before .before .before .before .if2 .left) (c .before .before .before .before .before .before .before .before .before .least .result) (c .before .before .before .before .before .before .before .before .least2 .result) (c .before .before .before .before .before .before .before .before .before .least .ensures) (c .before .before .before .before .before .before .before .before .least2 .ensures) (c .before .before .if3 .taken) (c .before .before .before .before .before .put-rest .result) _ (c .before .before .before .before .before .put-rest .ensures) (c .before .if4 .left))
+
+idle-requires : tie.Need-idle-requires
+idle-requires c κs = search needs
+
+same-length-3 : tie.Need-same-length-3
+same-length-3 c = search needs
+
+returns-5 : tie.Need-returns-5
+returns-5 c = went-is _ _ _ _ _ _ _ _ _ (piece-goes (c .before .before .before .before .before .before .before .before .before .before .before .before .before .args .reader) (c .before .before .before .before .before .before .before .before .before .before .before .before .before .args .id) (c .before .before .before .before .before .before .before .before .before .before .before .before .before .args .r) (c .before .before .before .before .before .before .before .before .before .before .before .before .before .args .total) (c .before .before .before .before .before .before .before .before .before .before .before .before .before .args .offset) (c .before .before .before .before .before .before .before .before .before .before .before .before .before .args .pos) (c .before .before .before .before .before .before .before .before .before .before .before .before .before .args .rest .now) (c .before .before .before .before .before .before .before .before .before .before .before .before .before .args .buf .now) (c .before .before .before .before .before .before .before .before .before .before .before .before .before .pre .1) (c .before .before .before .before .before .before .before .before .before .before .before .before .before .pre .0) (c .before .before .before .before .before .before .before .before .before .before .if1 .left) (c .before .before .before .before .before .before .before .before .before .if2 .left) (c .before .before .before .before .before .before .before .before .least .result) (c .before .before .before .before .before .before .before .least2 .result) (c .before .before .before .before .before .before .before .before .least .ensures) (c .before .before .before .before .before .before .before .least2 .ensures) (c .idle .result) (past-end (c .before .before .before .before .before .before .before .before .before .before .before .before .before .args .id) (c .before .before .before .before .before .before .before .before .before .before .before .before .before .args .r) (c .before .before .before .before .before .before .before .before .before .before .before .before .before .args .total) (c .before .before .before .before .before .before .before .before .before .before .before .before .before .args .offset) _ _ (c .idle .ensures) (c .before .if3 .left))) (c .before .before .before .before .put-rest .ensures)
 
 pub piece-spec : {M : Type 1} → statement M
 piece-spec =
@@ -76,7 +95,14 @@ piece-spec =
     least-requires-2
     slice-aggregate-put-rest
     put-rest-requires
-    cast-past
-    past-requires
+    cast-at
+    add-at
+    within-requires-3
     same-length
-    returns-3)
+    returns-3
+    within-requires-4
+    same-length-2
+    returns-4
+    idle-requires
+    same-length-3
+    returns-5)

@@ -3,14 +3,13 @@ use Prim.Native.Nat.{ℕ, suc, _<_, _≤_}
 use native.Mathlib.Omega.{arith}
 use mathlib.Core.Path.{_≡_, refl, sym, ap, _∙_, subst}
 use mathlib.Core.Bool.{Bool, true, false}
-use mathlib.Core.List.{List, [], _∷_, _++_, append-nil}
+use mathlib.Core.List.{List, [], _∷_, _++_}
 use lib.Dec.{leb}
 use lib.IntN.{ℤ, pos, negsuc}
 use lib.ListN.{length, take, drop, getD}
-use lib.Seq.{drop-length}
 use types.Run.{OneOf, miss}
 use denote.Enum.Declared.{tagOf}
-use borrow.Author.Tests.{leb-true, leb-false, le-leb, lt-leb}
+use borrow.Author.Tests.{leb-true, leb-false}
 use Rattle.layout.specs.Limits.{base}
 use Rattle.layout.specs.Message.{Bytes, complete, verdictOf}
 use Rattle.layout.specs.Copy.{plainCopy}
@@ -30,7 +29,8 @@ use Rattle.copier.specs.Copier.{copyOf, soundWriter}
 use Rattle.copier.specs.Calls.{full, verdict, Left, saidOf, saidIn, leftIn, freshOver, started}
 use Rattle.copier.specs.Calls as calls
 use Rattle.copier.proofs.Answer.{the-type}
-use Rattle.exports.specs.Exports.{leftBy, room, enough, filled}
+use Rattle.exports.specs.Exports.{leftBy, filled}
+use Rattle.host.proofs.Filled.{fitting, too-short}
 
 -- the bytes of a slice, each below 256
 pub all-bytes : (T : List ℕ) → ((i : ℕ) → getD T i 0 < 256) → Bytes T
@@ -61,31 +61,6 @@ fed-whole T b a v =
     let w = copy-whole base T b a v in
     subst (Fed (plainCopy base T) b) (sym (goes-on T b))
     (record { fits = λ l. let q = w .fits l in (ap saidIn (q .0), q .1, q .2); short = λ l. let q = w .short l in (ap saidIn (q .0), q .1) })
-
--- ---- what is promised of an output
-
-all : (b : List ℕ) → length b < 9223372036854775808 → room b ≡ length b
-all b s = omega arith
-
--- room for just the copy is enough, and less is not
-is-enough : (m b : List ℕ) → length b < 9223372036854775808 → length m ≤ length b → enough m b ≡ true
-is-enough m b s l = le-leb (length m) (room b) (omega (arith, all b s))
-
-not-enough : (m b : List ℕ) → length b < 9223372036854775808 → length b < length m → enough m b ≡ false
-not-enough m b s l = lt-leb (length m) (room b) (omega (arith, all b s))
-
--- The copy, and the rest of the output as it came.
-fitting : (m b : List ℕ) → length b < 9223372036854775808 → length m ≤ length b → filled m b ≡ leftBy (pos (length m)) (m ++ drop (length m) b)
-unfolding filled
-fitting m b s l = simp (is-enough m b s l)
-
--- Every byte of the output is the copy's.
-too-short : (m b : List ℕ) → length b < 9223372036854775808 → length b < length m → filled m b ≡ leftBy (negsuc 100) (take (length b) m)
-unfolding filled
-too-short m b s l =
-    let d : take (room b) m ++ drop (room b) b ≡ take (length b) m =
-    ap (λ (n : ℕ). take n m ++ drop n b) (all b s) ∙ ap (λ (y : List ℕ). take (length b) m ++ y) (drop-length b) ∙ append-nil (take (length b) m) in
-    simp (not-enough m b s l) (ap (leftBy (negsuc 100)) d)
 
 -- ---- what the call says
 

@@ -1,4 +1,6 @@
 -- The laws behind the exports.
 pub mod Numbers
+pub mod Filled
+pub mod Own
 pub mod Fresh
 pub mod Streamed

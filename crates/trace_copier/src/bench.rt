@@ -5,10 +5,14 @@ use copier::Answer;
 use copier::Copier;
 use emit::put_rest;
 
+fn position(k: Copier) -> usize {
+    let w = k.writer;
+    w.offset
+}
+
 // What stands below the copier's position is sent.
 fn send(k: Copier, buf: &[u8], out: &mut [u8], sent: usize) -> usize {
-    let w = k.writer;
-    put_rest(out, sent, part(buf, 0, w.offset), 0)
+    put_rest(out, sent, part(buf, 0, position(k)), 0)
 }
 
 fn further(at: usize, n: usize, end: usize) -> usize {
@@ -18,8 +22,8 @@ fn further(at: usize, n: usize, end: usize) -> usize {
     if n < end - at { at + n } else { end }
 }
 
-// A call after another: at "full" a drain and the chunk's rest, at a verdict the next chunk. Nothing here says that the calls end: they are
-// counted down from a number that no run uses up.
+// A call after another, and a drain whenever the buffer is full: after "full" the chunk's rest, after a verdict the next chunk. Nothing here
+// says that the calls end: they are counted down from a number that no run uses up.
 pub fn chunks(ticket: &[u8], size: usize, buf: &mut [u8], out: &mut [u8]) -> u64 {
     let opened = Copier::new(buf, 0);
     let mut k = opened.copier;
@@ -33,16 +37,21 @@ pub fn chunks(ticket: &[u8], size: usize, buf: &mut [u8], out: &mut [u8]) -> u64
         k = f.copier;
         at = further(at, f.used, end);
         turns -= 1;
-        if let Answer::Full = answer {
+        let next = after(answer, end, size, ticket.len());
+        if position(k) == buf.len() {
             sent = send(k, buf, out, sent);
             let d = k.flush(buf);
             k = d.copier;
+            if next == at {
+                return sent as u64;
+            }
+            end = next;
             continue;
         }
-        if end == ticket.len() {
+        if next == at {
             return send(k, buf, out, sent) as u64;
         }
-        end = further(end, size, ticket.len());
+        end = next;
     }
-    send(k, buf, out, sent) as u64
+    sent as u64
 }

@@ -1,4 +1,5 @@
--- `host::sofab_copy` meets its contract: a number for a verdict that is not complete, and nothing written; else the copy.
+-- `host::sofab_copy` meets its contract: the message itself, where that is its copy; else a number for a verdict that is not complete, and
+-- nothing written; else the copy.
 use mathlib.Core.Path.{_≡_, ap, _∙_}
 use lib.IntN.{ℤ}
 use mir.Syntax.{w64}
@@ -6,9 +7,22 @@ use mir.Val.{toZ, ofZ}
 use Rattle.whole.specs.declared.Verdict.the-variants.{Complete, Incomplete, Broken}
 use Rattle.exports.specs.Exports.{leftBy}
 use Rattle.host.proofs.Numbers.{copies, is-complete}
+use Rattle.host.proofs.Own.{own-copied}
 use borrow.Author.Needs.{needs}
 use Rattle.host.proofs.sofab_copy.Statement.{statement}
 use Rattle.host.proofs.sofab_copy.Tie as tie
+
+is-own-requires : tie.Need-is-own-requires
+is-own-requires c κs = search needs
+
+block-requires : tie.Need-block-requires
+block-requires c κs = search needs
+
+same-length : tie.Need-same-length
+same-length c = search needs
+
+returns : tie.Need-returns
+returns c = let f : toZ w64 (ofZ w64 (c .before .before .block .result)) ≡ c .before .before .block .result = search needs in ap (λ (x : ℤ). leftBy x (c .before .before .block .last .1 .0)) f ∙ c .before .before .block .ensures ∙ own-copied _ _ _ _ (c .before .before .before .before .before .is-own .ensures (c .before .before .before .before .if1 .taken))
 
 verdict-of-requires : tie.Need-verdict-of-requires
 verdict-of-requires c κs = search needs
@@ -25,28 +39,32 @@ enum-told-2 c = search needs
 enum-told-3 : tie.Need-enum-told-3
 enum-told-3 c = search needs
 
-same-length : tie.Need-same-length
-same-length c = search needs
-
-returns : tie.Need-returns
-returns c = let f : toZ w64 (ofZ w64 (c .before .before .copy .result)) ≡ c .before .before .copy .result = search needs in ap (λ (x : ℤ). leftBy x (c .before .before .copy .last .1 .0)) f ∙ c .before .before .copy .ensures ∙ copies _ _ Complete _ _ (c .before .before .before .before .before .before .verdict-of .ensures) (c .before .before .before .before .enum-told .given .1)
+same-length-2 : tie.Need-same-length-2
+same-length-2 c = search needs
 
 returns-2 : tie.Need-returns-2
-returns-2 c = copies _ _ Incomplete _ _ (c .before .before .verdict-of .ensures) (c .enum-told2 .given .1)
+returns-2 c = let f : toZ w64 (ofZ w64 (c .before .before .copy .result)) ≡ c .before .before .copy .result = search needs in ap (λ (x : ℤ). leftBy x (c .before .before .copy .last .1 .0)) f ∙ c .before .before .copy .ensures ∙ copies _ _ Complete _ _ (c .before .before .before .before .before .before .verdict-of .ensures) (c .before .before .before .before .enum-told .given .1)
 
 returns-3 : tie.Need-returns-3
-returns-3 c = copies _ _ (Broken _) _ _ (c .before .before .verdict-of .ensures) (c .enum-told3 .given .1)
+returns-3 c = copies _ _ Incomplete _ _ (c .before .before .verdict-of .ensures) (c .enum-told2 .given .1)
+
+returns-4 : tie.Need-returns-4
+returns-4 c = copies _ _ (Broken _) _ _ (c .before .before .verdict-of .ensures) (c .enum-told3 .given .1)
 
 pub sofab-copy-spec : {M : Type 1} → statement M
 sofab-copy-spec =
     tie.close
     (tie.spec
+    is-own-requires
+    block-requires
+    same-length
+    returns
     verdict-of-requires
     enum-told
     copy-requires
     enum-told-2
     enum-told-3
-    same-length
-    returns
+    same-length-2
     returns-2
-    returns-3)
+    returns-3
+    returns-4)

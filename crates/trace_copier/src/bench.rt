@@ -22,6 +22,22 @@ fn further(at: usize, n: usize, end: usize) -> usize {
     if n < end - at { at + n } else { end }
 }
 
+// Whether the ticket's last chunk has its verdict.
+fn is_last(answer: Answer, end: usize, len: usize) -> bool {
+    if let Answer::Full = answer {
+        return false;
+    }
+    end == len
+}
+
+// Where the next call's chunk ends.
+fn next(answer: Answer, end: usize, size: usize, len: usize) -> usize {
+    if let Answer::Full = answer {
+        return end;
+    }
+    further(end, size, len)
+}
+
 // A call after another, and a drain whenever the buffer is full: after "full" the chunk's rest, after a verdict the next chunk. Nothing here
 // says that the calls end: they are counted down from a number that no run uses up.
 pub fn chunks(ticket: &[u8], size: usize, buf: &mut [u8], out: &mut [u8]) -> u64 {
@@ -37,21 +53,16 @@ pub fn chunks(ticket: &[u8], size: usize, buf: &mut [u8], out: &mut [u8]) -> u64
         k = f.copier;
         at = further(at, f.used, end);
         turns -= 1;
-        let next = after(answer, end, size, ticket.len());
+        if is_last(answer, end, ticket.len()) {
+            return send(k, buf, out, sent) as u64;
+        }
+        end = next(answer, end, size, ticket.len());
         if position(k) == buf.len() {
             sent = send(k, buf, out, sent);
             let d = k.flush(buf);
             k = d.copier;
-            if next == at {
-                return sent as u64;
-            }
-            end = next;
             continue;
         }
-        if next == at {
-            return send(k, buf, out, sent) as u64;
-        }
-        end = next;
     }
     sent as u64
 }

@@ -1,5 +1,6 @@
 -- `trace_copier::bench::chunks` is safe and ends.
 use mathlib.Core.Path.{_≡_, _∙_}
+use native.Mathlib.Omega.{arith}
 use lib.ListN.{length}
 use borrow.Author.Needs.{needs}
 use Rattle.trace_copier.proofs.bench.chunks.Statement.{statement}
@@ -11,6 +12,9 @@ use Rattle.copier.proofs.Copier.feed.Reads as feed-reads
 use Rattle.copier.proofs.Copier.flush.Reads as flush-reads
 use Rattle.copier.proofs.Copier.new.Reads as new-reads
 use Rattle.trace_copier.proofs.bench.further.Reads as further-reads
+use Rattle.trace_copier.proofs.bench.is_last.Reads as is-last-reads
+use Rattle.trace_copier.proofs.bench.next.Reads as next-reads
+use Rattle.trace_copier.proofs.bench.position.Reads as position-reads
 use Rattle.trace_copier.proofs.bench.send.Reads as send-reads
 
 abbrev Inv-loop : tie.InvT-loop
@@ -40,23 +44,11 @@ further-requires-2 c κs = search needs
 sub-turns : tie.Need-sub-turns Inv-loop μ-loop
 sub-turns c = search needs
 
-enum-told : tie.Need-enum-told Inv-loop μ-loop
-enum-told c = search needs
+is-last-requires : tie.Need-is-last-requires Inv-loop μ-loop
+is-last-requires c κs = search needs
 
 send-requires : tie.Need-send-requires Inv-loop μ-loop
 send-requires c κs = search needs
-
-flush-requires : tie.Need-flush-requires Inv-loop μ-loop
-flush-requires c κs = search needs
-
-loop-less : tie.Need-loop-less Inv-loop μ-loop
-loop-less c = search needs
-
-loop-again : tie.Need-loop-again Inv-loop μ-loop
-loop-again c = (c .before .before .before .before .before .before .before .before .before .before .before .before .before .before .feed .kept .1 .1 .0 ∙ c .before .before .before .before .before .before .before .before .before .before .before .before .before .before .before .before .before .before .loop .inv .0, c .before .before .before .before .before .send .kept .1 .1 .0 ∙ c .before .before .before .before .before .before .before .before .before .before .before .before .before .before .before .before .before .before .loop .inv .1)
-
-send-requires-2 : tie.Need-send-requires-2 Inv-loop μ-loop
-send-requires-2 c κs = search needs
 
 same-length : tie.Need-same-length Inv-loop μ-loop
 same-length c = search needs
@@ -67,17 +59,29 @@ same-length-2 c = search needs
 returns : tie.Need-returns Inv-loop μ-loop
 returns c = search needs
 
-further-requires-3 : tie.Need-further-requires-3 Inv-loop μ-loop
-further-requires-3 c κs = search needs
+next-requires : tie.Need-next-requires Inv-loop μ-loop
+next-requires c κs = search needs
+
+position-requires : tie.Need-position-requires Inv-loop μ-loop
+position-requires c κs = search needs
+
+send-requires-2 : tie.Need-send-requires-2 Inv-loop μ-loop
+send-requires-2 c κs = search needs
+
+flush-requires : tie.Need-flush-requires Inv-loop μ-loop
+flush-requires c κs = search needs
+
+loop-less : tie.Need-loop-less Inv-loop μ-loop
+loop-less c = omega (arith, c .before .before .before .before .before .before .before .before .before .before .before .before .before .before .before .before .before .before .before .before .loop-test .taken)
+
+loop-again : tie.Need-loop-again Inv-loop μ-loop
+loop-again c = (c .before .before .before .before .before .before .before .before .before .before .before .before .before .before .before .before .before .feed .kept .1 .1 .0 ∙ c .before .before .before .before .before .before .before .before .before .before .before .before .before .before .before .before .before .before .before .before .before .loop .inv .0, c .before .before .before .before .before .send2 .kept .1 .1 .0 ∙ c .before .before .before .before .before .before .before .before .before .before .before .before .before .before .before .before .before .before .before .before .before .loop .inv .1)
 
 loop-less-2 : tie.Need-loop-less-2 Inv-loop μ-loop
 loop-less-2 c = search needs
 
 loop-again-2 : tie.Need-loop-again-2 Inv-loop μ-loop
-loop-again-2 c = (search needs, search needs)
-
-send-requires-3 : tie.Need-send-requires-3 Inv-loop μ-loop
-send-requires-3 c κs = search needs
+loop-again-2 c = search needs
 
 same-length-3 : tie.Need-same-length-3 Inv-loop μ-loop
 same-length-3 c = search needs
@@ -101,19 +105,19 @@ chunks-spec =
     feed-requires
     further-requires-2
     sub-turns
-    enum-told
+    is-last-requires
     send-requires
-    flush-requires
-    loop-less
-    loop-again
-    send-requires-2
     same-length
     same-length-2
     returns
-    further-requires-3
+    next-requires
+    position-requires
+    send-requires-2
+    flush-requires
+    loop-less
+    loop-again
     loop-less-2
     loop-again-2
-    send-requires-3
     same-length-3
     same-length-4
     returns-2)

@@ -3,3 +3,4 @@ pub mod Events
 pub mod Turns
 pub mod Tests
 pub mod Calls
+pub mod Rested

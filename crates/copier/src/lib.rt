@@ -7,6 +7,7 @@ ghost use lib.ListN.{length};
 ghost use Rattle.copying.specs.Owed.{dueIn, owesNothing};
 ghost use Rattle.istream.specs.Stream.{stateOf, soundStream};
 ghost use Rattle.phase.proofs.Phases.{Live};
+ghost use Rattle.held.specs.Places.{soundWriter as soundPlaces};
 ghost use Rattle.owed.specs.Owed.{owedOf};
 ghost use Rattle.layout.specs.Limits.{base};
 ghost use Rattle.copying.specs.Copy.{copy};
@@ -25,6 +26,7 @@ use owed::owe;
 use phase::Phase;
 use phase::idle;
 use types::Error;
+use types::MAX_DEPTH;
 use types::RawType;
 
 pub struct Copier {
@@ -99,6 +101,28 @@ fn is_nothing(owed: Owed) -> bool
         return true;
     }
     false
+}
+
+fn sum(a: u32, b: u32, c: u32, d: u32) -> u64
+    ensures { λ r. ⌜ (r ≡ a + b + c + d) × (r < 17179869184) ⌝ }
+{
+    a as u64 + b as u64 + c as u64 + d as u64
+}
+
+// Whether a writer that holds no id is sound for a buffer of this size. The places are looked at together: one by one they would be a good
+// part of a short call.
+fn is_rested(offset: usize, depth: u16, places: [u32; 8], size: usize) -> bool
+    ensures { λ r. ⌜ r ≡ soundPlaces offset depth 0 places size ⌝ }
+{
+    if size < offset {
+        return false;
+    }
+    if MAX_DEPTH < depth as u32 {
+        return false;
+    }
+    let first = sum(places[0], places[1], places[2], places[3]);
+    let last = sum(places[4], places[5], places[6], places[7]);
+    first + last == 0
 }
 
 fn least(a: usize, b: usize) -> usize
@@ -459,10 +483,11 @@ impl Copier {
         let reader = self.reader;
         let writer = self.writer;
         let owed = self.owed;
-        if !writer.sound(size) {
+        if writer.npending != 0 {
             return false;
         }
-        if writer.npending != 0 {
+        let places = writer.pending;
+        if !is_rested(writer.offset, writer.depth, places, size) {
             return false;
         }
         if is_broken(reader) {

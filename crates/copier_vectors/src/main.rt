@@ -95,23 +95,22 @@ fn agrees(buf: &[u8], n: usize, want: &[u8], at: usize) -> bool {
     equal(&buf[0..n], &want[at..at + n])
 }
 
+// The bytes that a drain sends; more than any buffer has where it is refused.
+fn count(c: Count) -> usize {
+    match c {
+        Count::Bytes(n) => n,
+        Count::Refused(_) => usize::MAX,
+    }
+}
+
 fn drain(run: Run, buf: &[u8], want: &[u8]) -> Run {
-    let copier = run.copier;
-    let sent = run.sent;
-    let d = copier.flush(buf);
+    let d = run.copier.flush(buf);
     let answer = d.answer;
-    let next = d.copier;
-    match answer {
-        Count::Bytes(n) => Run {
-            copier: next,
-            sent: std::num::wrapping_add_u64(sent as u64, n as u64) as usize,
-            good: run.good && agrees(buf, n, want, sent),
-        },
-        Count::Refused(_) => Run {
-            copier: next,
-            sent,
-            good: false,
-        },
+    let n = count(answer);
+    Run {
+        copier: d.copier,
+        sent: std::num::wrapping_add_usize(run.sent, n),
+        good: run.good && agrees(buf, n, want, run.sent),
     }
 }
 
@@ -127,46 +126,43 @@ fn filled(buf: &[u8], b: u8) -> bool {
 }
 
 // A drain and a chunk over another buffer, which ends below the position: both are refused with 6, also of a broken message.
-fn short(run: Run, other: &mut [u8], pos: usize) -> Run {
+fn short(run: Run, other: &mut [u8]) -> Run {
+    let d = run.copier.flush(other);
+    let first = d.answer;
+    let f = d.copier.feed(b"\x07", other);
+    let second = f.answer;
+    Run {
+        copier: f.copier,
+        sent: run.sent,
+        good: run.good && refusal(first) == 6 && said(second) == 16 && f.used == 0,
+    }
+}
+
+// The same, where there is a byte below the position.
+fn elsewhere(run: Run, other: &mut [u8], pos: usize) -> Run {
     if pos == 0 {
         return run;
     }
     if other.len() < pos {
         return run;
     }
-    let n = pos - 1;
-    let copier = run.copier;
-    let d = copier.flush(&other[0..n]);
-    let first = d.answer;
-    let same = d.copier;
-    let f = same.feed(b"\x07", &mut other[0..n]);
-    let second = f.answer;
-    let after = f.copier;
-    Run {
-        copier: after,
-        sent: run.sent,
-        good: run.good && refusal(first) == 6 && said(second) == 16 && f.used == 0,
-    }
+    short(run, &mut other[0..pos - 1])
 }
 
-// Calls for other buffers: those above, and a change to one with no byte free, refused with 5. The run goes on with the states that they
-// hand back.
+// Calls for other buffers: those above, which alter no byte, and a change to one with no byte free, refused with 5. The run goes on with
+// the states that they hand back.
 fn stray(run: Run, buf: &[u8]) -> Run {
-    let copier = run.copier;
-    let writer = copier.writer;
-    let d = copier.buffer_set(buf, buf, buf.len());
+    let d = run.copier.buffer_set(buf, buf, buf.len());
     let answer = d.answer;
-    let after = d.copier;
     let next = Run {
-        copier: after,
+        copier: d.copier,
         sent: run.sent,
         good: run.good && refusal(answer) == 5,
     };
     let mut other = [0x55u8; 20];
-    let last = short(next, &mut other, writer.offset);
-    let end = last.copier;
+    let last = elsewhere(next, &mut other, run.copier.writer.offset);
     Run {
-        copier: end,
+        copier: last.copier,
         sent: last.sent,
         good: last.good && filled(&other, 0x55),
     }
@@ -189,17 +185,14 @@ fn call(run: Run, chunk: &[u8], used: usize, buf: &mut [u8]) -> Heard {
             said: ASTRAY,
         };
     }
-    let copier = run.copier;
-    let f = copier.feed(&chunk[used..], buf);
+    let f = run.copier.feed(&chunk[used..], buf);
     let answer = f.answer;
-    let next = f.copier;
-    let writer = next.writer;
     let s = said(answer);
     Heard {
         run: Run {
-            copier: next,
+            copier: f.copier,
             sent: run.sent,
-            good: run.good && (s != FULL || writer.offset == buf.len()),
+            good: run.good && (s != FULL || f.copier.writer.offset == buf.len()),
         },
         used: f.used,
         said: s,
@@ -209,19 +202,15 @@ fn call(run: Run, chunk: &[u8], used: usize, buf: &mut [u8]) -> Heard {
 // The same, and at "full" the drain. The bytes used of the chunk are counted from its first.
 fn turn(run: Run, chunk: &[u8], used: usize, buf: &mut [u8], want: &[u8], extra: u32) -> Heard {
     let h = call(run, chunk, used, buf);
-    let next = h.run;
-    let total = std::num::wrapping_add_u64(used as u64, h.used as u64) as usize;
-    if h.said != FULL {
-        return Heard {
-            run: next,
-            used: total,
-            said: h.said,
-        };
-    }
+    let next = if h.said == FULL {
+        drain(between(h.run, buf, want, extra), buf, want)
+    } else {
+        h.run
+    };
     Heard {
-        run: drain(between(next, buf, want, extra), buf, want),
-        used: total,
-        said: FULL,
+        run: next,
+        used: std::num::wrapping_add_usize(used, h.used),
+        said: h.said,
     }
 }
 
@@ -261,20 +250,23 @@ fn read(plan: Plan, from: usize, to: usize) -> usize {
     if end < from { 0 } else { end - from }
 }
 
-// A chunk, which the message's bytes up to `to` end with, held to 01's answer.
-fn part(run: Run, chunk: &[u8], to: usize, buf: &mut [u8], want: &[u8], plan: Plan) -> Run {
-    let from = if to < chunk.len() {
+// Where a chunk begins, which the message's bytes up to `to` end with.
+fn begins(chunk: &[u8], to: usize) -> usize {
+    if to < chunk.len() {
         0
     } else {
         to - chunk.len()
-    };
+    }
+}
+
+// Such a chunk, held to 01's answer.
+fn part(run: Run, chunk: &[u8], to: usize, buf: &mut [u8], want: &[u8], plan: Plan) -> Run {
     let h = feed(run, chunk, buf, want, plan.extra);
-    let next = h.run;
-    let copier = next.copier;
+    let right = h.said == expected(plan, to) && h.used == read(plan, begins(chunk, to), to);
     Run {
-        copier,
-        sent: next.sent,
-        good: next.good && h.said == expected(plan, to) && h.used == read(plan, from, to),
+        copier: h.run.copier,
+        sent: h.run.sent,
+        good: h.run.good && right,
     }
 }
 
@@ -284,27 +276,25 @@ fn preceded(run: Run, chunk: &[u8], to: usize, buf: &mut [u8], want: &[u8], plan
     if plan.extra % 2 == 0 {
         return part(ready, chunk, to, buf, want, plan);
     }
-    let from = if to < chunk.len() {
-        0
-    } else {
-        to - chunk.len()
-    };
-    let after = part(ready, b"", from, buf, want, plan);
+    let after = part(ready, b"", begins(chunk, to), buf, want, plan);
     part(after, chunk, to, buf, want, plan)
+}
+
+fn taken(o: Opening) -> bool {
+    match o {
+        Opening::Open => true,
+        Opening::Refused(_) => false,
+    }
 }
 
 fn open(buf: &[u8]) -> Run {
     let o = Copier::new(buf, 0);
     let answer = o.answer;
     let copier = o.copier;
-    let good = match answer {
-        Opening::Open => true,
-        Opening::Refused(_) => false,
-    };
     Run {
         copier,
         sent: 0,
-        good,
+        good: taken(answer),
     }
 }
 

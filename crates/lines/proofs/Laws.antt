@@ -16,7 +16,7 @@ use Rattle.layout.specs.Message.{All, Bytes}
 use Rattle.emit.specs.Put.{over}
 use Rattle.emit.proofs.Writes.{put-is, reached-is}
 use Rattle.emit.proofs.Elements.{each-append}
-use Rattle.lines.specs.Lines.{decimalIn, decimal, signed, hexadecimal, parts, byteLine, linesOf}
+use Rattle.event_list.specs.Lines.{decimalIn, decimal, signed, hexadecimal, parts, byteLine, linesOf}
 use Rattle.lines.specs.Spelled.{Puts}
 use Rattle.lines.proofs.Numbers.{one-digit, more-digits}
 

@@ -9,7 +9,7 @@ use lib.Dec.{ltb, leb, lit≤}
 use borrow.Author.Tests.{leb-true, leb-false, lt-ltb, le-ltb}
 use Rattle.layout.specs.Limits.{pick}
 use Rattle.io.specs.Digits.{glyph, digits, Fewest}
-use Rattle.lines.specs.Lines.{decimalIn, decimal, hexadecimal}
+use Rattle.event_list.specs.Lines.{decimalIn, decimal, hexadecimal}
 
 next-digit : (k n : ℕ) → decimalIn (suc k) n ≡ pick (ltb n 10) (glyph n ∷ []) (decimalIn k (n / 10) ++ (glyph (n % 10) ∷ []))
 unfolding decimalIn

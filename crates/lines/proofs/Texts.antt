@@ -13,7 +13,7 @@ use Rattle.layout.specs.Field.{each}
 use Rattle.emit.proofs.Writes.{put-none, put-full, reached-is, length-put}
 use Rattle.emit.proofs.Elements.{each-append}
 use Rattle.emit.proofs.Turns.{start, followed, followed-by}
-use Rattle.lines.specs.Lines.{decimal, byteLine}
+use Rattle.event_list.specs.Lines.{decimal, byteLine}
 use Rattle.lines.specs.Spelled.{Puts}
 
 pub says : (b : List ℕ) (at : ℕ) (s t b′ : List ℕ) (r : ℕ) → s ≡ t → Puts b at s b′ r → Puts b at t b′ r

@@ -8,7 +8,7 @@ use Rattle.layout.specs.Message as layout
 use Rattle.event.specs.declared.Event.{Event}
 use Rattle.event.specs.Event.{eventOf}
 use Rattle.emit.specs.Put.{put, reached}
-use Rattle.lines.specs.Lines.{E, decimal, hexadecimal, byteLine, linesOf}
+use Rattle.event_list.specs.Lines.{E, decimal, hexadecimal, byteLine, linesOf}
 use Rattle.lines.specs.declared.Part.{Part}
 use Rattle.lines.specs.declared.Part.the-variants.{Nothing, Number, Minus, Bits32, Bits64}
 use Rattle.lines.specs.declared.Line.{Line}

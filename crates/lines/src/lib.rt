@@ -5,7 +5,7 @@ ghost use Prim.Native.Nat.{min};
 ghost use lib.Seq.{slice};
 ghost use Rattle.layout.specs.Field.{each};
 ghost use Rattle.event.specs.Event.{eventOf};
-ghost use Rattle.lines.specs.Lines.{decimal, signed, hexadecimal, byteLine, linesOf, lastLine};
+ghost use Rattle.event_list.specs.Lines.{decimal, signed, hexadecimal, byteLine, linesOf, lastLine};
 ghost use Rattle.lines.specs.Spelled.{Puts, partText, lineText, lined, closed, Shows, verdictIn};
 use emit::put_rest;
 use event::Bounds;

@@ -5,7 +5,7 @@ use Prim.Native.Nat.{ℕ, min}
 use lib.ListN.{length}
 use lib.Seq.{slice}
 use Rattle.layout.specs.Field.{each}
-use Rattle.lines.specs.Lines.{byteLine}
+use Rattle.event_list.specs.Lines.{byteLine}
 use Rattle.lines.proofs.Texts.{says, clipped, part-is}
 use borrow.Author.Needs.{needs}
 use Rattle.lines.proofs.put_piece.Statement.{statement}

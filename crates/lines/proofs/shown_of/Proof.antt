@@ -7,7 +7,7 @@ use mir.Syntax.{w64}
 use mir.Val.{ofZ, toZ}
 use Rattle.event.specs.declared.Event.{Event}
 use Rattle.event.specs.Event.{eventOf}
-use Rattle.lines.specs.Lines.{decimal, signed, linesOf}
+use Rattle.event_list.specs.Lines.{decimal, signed, linesOf}
 use Rattle.lines.specs.Spelled.{lined, shownText}
 use Rattle.lines.specs.declared.Part.the-variants.{Nothing, Number, Bits32, Bits64}
 use borrow.Author.Needs.{needs}

@@ -8,7 +8,7 @@ use mir.Syntax.{w64}
 use mir.Val.{ofZ, toZ}
 use mir.ValLaws.{toZ-ofZ}
 use Rattle.varint.proofs.Sign.{negative, natural, flipped, casts}
-use Rattle.lines.specs.Lines.{decimal, signed}
+use Rattle.event_list.specs.Lines.{decimal, signed}
 use Rattle.lines.proofs.signed_part.Statement.{statement}
 use Rattle.lines.proofs.signed_part.Tie as tie
 use Rattle.lines.proofs.signed_part.Reads as reads

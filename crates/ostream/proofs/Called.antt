@@ -25,7 +25,7 @@ use Rattle.ostream.specs.declared.Written.{Written}
 use Rattle.ostream.specs.Stream.{every, soundStream, lazyDepth, heldBytes, zeroed, committed, at}
 use Rattle.ostream.specs.Straight.{settled, unwritten}
 use Rattle.ostream.specs.Calls.{unsound, tooDeep, noneOpen, idTooLarge, payloadTooLong, fieldTests}
-use Rattle.ostream.specs.Emission.{Test, Call, Verdict, accepted, refusedWith, judged, refused, answered, left, calledBy, leavesBy, called, leaves}
+use Rattle.ostream.specs.Emission.{Test, Call, Verdict, accepted, refusedWith, judged, through, full, leftBy, refused, untouched, emitted, writtenBy, written}
 pub use Rattle.held.proofs.Places.{both}
 
 -- ---- a sound state
@@ -92,79 +92,67 @@ none-held s e = ap (λ (n : ℕ). each (λ id. header id T-begin) (take n (s .pe
 
 -- ---- how a call ends
 
--- an outcome in the state
-settled-answered : (s : OStream) (size total place : ℕ) (next : OStream) → settled s size next (reaches (s .offset) size total place) ≡ answered s size total place next
-unfolding reaches answered
-settled-answered s size total place next = go (ltb total place) (leb (total - place) (size - s .offset))
+-- an outcome in the state, and the buffer then
+settled-emitted : (s : OStream) (b o : List ℕ) (place : ℕ) (next : OStream) (out : Outcome) (b′ : List ℕ) → Ended (s .offset) b o place out b′ → leftBy (settled s (length b) next out) b′ ≡ emitted s b o place next
+unfolding reaches leftAt emitted leftBy
+settled-emitted s b o place next out b′ (e, f) =
+    ap (λ (x : Outcome). leftBy (settled s (length b) next x) b′) e
+    ∙ ap (leftBy (settled s (length b) next (reaches (s .offset) (length b) (length o) place))) f
+    ∙ go (ltb (length o) place) (leb (length o - place) (length b - s .offset))
   where
-    go : (a b : Bool)
-        → settled s size next (pick a (Refused (refusal 11)) (pick b (Through (s .offset + (total - place))) (Full (place + (size - s .offset)))))
-        ≡ pick a (refused s (refusal 11)) (pick b (record { answer = Answers.Done; stream = at next (s .offset + (total - place)) }) (record { answer = Answers.Full (place + (size - s .offset)); stream = at s size }))
-    go true b = refl
+    go : (beyond fits : Bool)
+        → leftBy (settled s (length b) next (pick beyond (Refused (refusal 11)) (pick fits (Through (s .offset + (length o - place))) (Full (place + (length b - s .offset)))))) (pick beyond b (put b (s .offset) (drop place o)))
+        ≡ pick beyond (untouched 11 s b) (pick fits (record { said = through; stream = at next (s .offset + (length o - place)); buf = put b (s .offset) (drop place o) }) (record { said = full (place + (length b - s .offset)); stream = at s (length b); buf = put b (s .offset) (drop place o) }))
+    go true fits = refl
     go false true = refl
     go false false = refl
 
 -- a call that writes nothing
-unwritten-answered : (s : OStream) (size place : ℕ) (next : OStream) → s .offset ≤ size → next .offset ≡ s .offset → unwritten s place next ≡ answered s size 0 place next
-unfolding answered
-unwritten-answered s size place next h e = go (ltb 0 place) refl
+unwritten-emitted : (s : OStream) (b : List ℕ) (place : ℕ) (next : OStream) → s .offset ≤ length b → next .offset ≡ s .offset → leftBy (unwritten s place next) b ≡ emitted s b [] place next
+unfolding emitted leftBy
+unwritten-emitted s b place next h e = go (ltb 0 place) refl
   where
-    go : (a : Bool) → ltb 0 place ≡ a
-        → pick a (refused s (refusal 11)) (record { answer = Answers.Done; stream = next })
-        ≡ pick a (refused s (refusal 11)) (pick (leb (0 - place) (size - s .offset)) (record { answer = Answers.Done; stream = at next (s .offset + (0 - place)) }) (record { answer = Answers.Full (place + (size - s .offset)); stream = at s size }))
+    go : (beyond : Bool) → ltb 0 place ≡ beyond
+        → leftBy (pick beyond (refused s (refusal 11)) (record { answer = Answers.Done; stream = next })) b
+        ≡ pick beyond (untouched 11 s b) (pick (leb (0 - place) (length b - s .offset)) (record { said = through; stream = at next (s .offset + (0 - place)); buf = put b (s .offset) (drop place []) }) (record { said = full (place + (length b - s .offset)); stream = at s (length b); buf = put b (s .offset) (drop place []) }))
     go true q = refl
     go false q =
         let z : place ≤ 0 = ltb-false 0 place q in
         let f : next .offset ≡ s .offset + (0 - place) = omega arith in
-        ap (λ (n : ℕ). record { answer = Answers.Done; stream = at next n }) f ∙ sym (simp (le-leb (0 - place) (size - s .offset) (omega arith)))
-
-left-nothing : (s : OStream) (b : List ℕ) (place : ℕ) → b ≡ left s b [] place
-unfolding left
-left-nothing s b place = go (ltb 0 place)
-  where
-    go : (t : Bool) → b ≡ pick t b (put b (s .offset) (drop place []))
-    go true = refl
-    go false = let n : length (drop place []) ≡ 0 - place = length-drop {A = ℕ} place [] in sym (put-none b (s .offset) (drop place []) (omega arith))
+        let n : length (drop place []) ≡ 0 - place = length-drop {A = ℕ} place [] in
+        ap (λ (n : ℕ). record { said = through; stream = at next n; buf = b }) f
+        ∙ ap (λ (l : List ℕ). record { said = through; stream = at next (s .offset + (0 - place)); buf = l }) (sym (put-none b (s .offset) (drop place []) (omega arith)))
+        ∙ sym (simp (le-leb (0 - place) (length b - s .offset) (omega arith)))
 
 module _ (k : Call) (s : OStream) (b : List ℕ) (place : ℕ) (r : Written) where
-  pub refuses : (e : Error) → judged (k .tests) ≡ refusedWith e → r ≡ refused s e → (r ≡ called k s b place) × (b ≡ leaves k s b place)
-  unfolding called leaves calledBy leavesBy
-  refuses e j h = (h ∙ sym (ap (λ (v : Verdict). calledBy v k s b place) j), sym (ap (λ (v : Verdict). leavesBy v k s b place) j))
+  pub refuses : (e : Error) → judged (k .tests) ≡ refusedWith e → r ≡ refused s e → leftBy r b ≡ written k s b place
+  unfolding written writtenBy leftBy
+  refuses e j h = ap (λ (x : Written). leftBy x b) h ∙ sym (ap (λ (v : Verdict). writtenBy v k s b place) j)
 
   -- an output and a state as they are spelled
-  accepts : (o : List ℕ) (next : OStream) (b′ : List ℕ) → o ≡ k .output → next ≡ k .done → judged (k .tests) ≡ accepted
-      → r ≡ answered s (length b) (length o) place next → b′ ≡ left s b o place → (r ≡ called k s b place) × (b′ ≡ leaves k s b place)
-  unfolding called leaves calledBy leavesBy
-  accepts o next b′ eo en j h e = (
-    h
-        ∙ ap (λ (x : List ℕ). answered s (length b) (length x) place next) eo
-        ∙ ap (λ (n : OStream). answered s (length b) (length (k .output)) place n) en
-        ∙ sym (ap (λ (v : Verdict). calledBy v k s b place) j),
-    e ∙ ap (λ (x : List ℕ). left s b x place) eo ∙ sym (ap (λ (v : Verdict). leavesBy v k s b place) j),
-  )
+  accepts : (o : List ℕ) (next : OStream) (b′ : List ℕ) → o ≡ k .output → next ≡ k .done → judged (k .tests) ≡ accepted → leftBy r b′ ≡ emitted s b o place next → leftBy r b′ ≡ written k s b place
+  unfolding written writtenBy
+  accepts o next b′ eo en j h =
+      h
+      ∙ ap (λ (x : List ℕ). emitted s b x place next) eo
+      ∙ ap (λ (n : OStream). emitted s b (k .output) place n) en
+      ∙ sym (ap (λ (v : Verdict). writtenBy v k s b place) j)
 
   -- the output has been put as far as there is room
   pub settles : (o : List ℕ) (next : OStream) (out : Outcome) (b′ : List ℕ) → o ≡ k .output → next ≡ k .done → judged (k .tests) ≡ accepted → Ended (s .offset) b o place out b′
-      → r ≡ settled s (length b) next out → (r ≡ called k s b place) × (b′ ≡ leaves k s b place)
-  unfolding left leftAt
-  settles o next out b′ eo en j (e, f) h =
-      accepts o next b′ eo en j (h ∙ ap (settled s (length b) next) e ∙ settled-answered s (length b) (length o) place next) f
+      → r ≡ settled s (length b) next out → leftBy r b′ ≡ written k s b place
+  settles o next out b′ eo en j f h = accepts o next b′ eo en j (ap (λ (x : Written). leftBy x b′) h ∙ settled-emitted s b o place next out b′ f)
 
   -- there is no output
   pub alters : (next : OStream) → [] ≡ k .output → next ≡ k .done → judged (k .tests) ≡ accepted → s .offset ≤ length b → next .offset ≡ s .offset → r ≡ unwritten s place next
-      → (r ≡ called k s b place) × (b ≡ leaves k s b place)
-  alters next eo en j i q h = accepts [] next b eo en j (h ∙ unwritten-answered s (length b) place next i q) (left-nothing s b place)
+      → leftBy r b ≡ written k s b place
+  alters next eo en j i q h = accepts [] next b eo en j (ap (λ (x : Written). leftBy x b) h ∙ unwritten-emitted s b place next i q)
 
 -- two calls that come to the same
-pub recalled : (k k′ : Call) (s : OStream) (b : List ℕ) (place : ℕ) → judged (k .tests) ≡ judged (k′ .tests) → k .output ≡ k′ .output → k .done ≡ k′ .done
-    → (r : Written) (b′ : List ℕ) → (r ≡ called k s b place) × (b′ ≡ leaves k s b place) → (r ≡ called k′ s b place) × (b′ ≡ leaves k′ s b place)
-unfolding called leaves calledBy leavesBy
-recalled k k′ s b place j o d r b′ (e, f) = (e ∙ ap (λ (v : Verdict). calledBy v k s b place) j ∙ answers (judged (k′ .tests)), f ∙ ap (λ (v : Verdict). leavesBy v k s b place) j ∙ buffers (judged (k′ .tests)))
+pub recalled : (k k′ : Call) (s : OStream) (b : List ℕ) (place : ℕ) → judged (k .tests) ≡ judged (k′ .tests) → k .output ≡ k′ .output → k .done ≡ k′ .done → written k s b place ≡ written k′ s b place
+unfolding written writtenBy
+recalled k k′ s b place j o d = ap (λ (v : Verdict). writtenBy v k s b place) j ∙ go (judged (k′ .tests))
   where
-    answers : (v : Verdict) → calledBy v k s b place ≡ calledBy v k′ s b place
-    answers accepted = ap (λ (l : List ℕ). answered s (length b) (length l) place (k .done)) o ∙ ap (λ (n : OStream). answered s (length b) (length (k′ .output)) place n) d
-    answers (refusedWith e) = refl
-
-    buffers : (v : Verdict) → leavesBy v k s b place ≡ leavesBy v k′ s b place
-    buffers accepted = ap (λ (l : List ℕ). left s b l place) o
-    buffers (refusedWith e) = refl
+    go : (v : Verdict) → writtenBy v k s b place ≡ writtenBy v k′ s b place
+    go accepted = ap (λ (l : List ℕ). emitted s b l place (k .done)) o ∙ ap (λ (n : OStream). emitted s b (k′ .output) place n) d
+    go (refusedWith e) = refl

@@ -56,7 +56,7 @@ ghost use Rattle.layout.specs.Limits.{pick};
 ghost use Rattle.answers.specs.Judged.{judged, checkOf};
 ghost use Rattle.ostream.specs.Stream.{soundStream, committed, holding, dropped, opened};
 ghost use Rattle.ostream.specs.Straight.{holds, settled, unwritten};
-ghost use Rattle.ostream.specs.Emission.{refused, called, leaves};
+ghost use Rattle.ostream.specs.Emission.{refused, leftBy, written};
 ghost use Rattle.ostream.specs.Buffer.{opening, draining, changing};
 ghost use Rattle.ostream.specs.Calls.{fieldTests, rawCall, fixlenCall, floatCall, payloadCall, unsignedArrayCall, signedArrayCall, floatArrayCall};
 ghost use Rattle.ostream.specs.Calls.{varintCall, unsignedCall, signedCall, booleanCall, beginCall, endCall, endKeepCall};
@@ -304,7 +304,7 @@ impl OStream {
         value: u64,
         place: usize,
     ) -> Written
-        ensures { λ r. ⌜ (r ≡ called (varintCall self (length (now (buf .entry))) id wire value) self (now (buf .entry)) place) × (now (buf .exit) ≡ leaves (varintCall self (length (now (buf .entry))) id wire value) self (now (buf .entry)) place) ⌝ }
+        ensures { λ r. ⌜ leftBy r (now (buf .exit)) ≡ written (varintCall self (length (now (buf .entry))) id wire value) self (now (buf .entry)) place ⌝ }
     {
         if 0 < place {
             return self.anew()
@@ -336,7 +336,7 @@ impl OStream {
         value: u64,
         place: usize,
     ) -> Written
-        ensures { λ r. ⌜ (r ≡ called (varintCall self (length (now (buf .entry))) id wire value) self (now (buf .entry)) place) × (now (buf .exit) ≡ leaves (varintCall self (length (now (buf .entry))) id wire value) self (now (buf .entry)) place) ⌝ }
+        ensures { λ r. ⌜ leftBy r (now (buf .exit)) ≡ written (varintCall self (length (now (buf .entry))) id wire value) self (now (buf .entry)) place ⌝ }
     {
         let s = self.anew();
         let size = buf.len();
@@ -353,21 +353,21 @@ impl OStream {
 
     // An unsigned integer.
     pub fn write_unsigned(mut self, buf: &mut [u8], id: u32, value: u64, place: usize) -> Written
-        ensures { λ r. ⌜ (r ≡ called (unsignedCall self (length (now (buf .entry))) id value) self (now (buf .entry)) place) × (now (buf .exit) ≡ leaves (unsignedCall self (length (now (buf .entry))) id value) self (now (buf .entry)) place) ⌝ }
+        ensures { λ r. ⌜ leftBy r (now (buf .exit)) ≡ written (unsignedCall self (length (now (buf .entry))) id value) self (now (buf .entry)) place ⌝ }
     {
         self.write_varint(buf, id, T_VARINT_UNSIGNED, value, place)
     }
 
     // A signed integer.
     pub fn write_signed(mut self, buf: &mut [u8], id: u32, value: i64, place: usize) -> Written
-        ensures { λ r. ⌜ (r ≡ called (signedCall self (length (now (buf .entry))) id value) self (now (buf .entry)) place) × (now (buf .exit) ≡ leaves (signedCall self (length (now (buf .entry))) id value) self (now (buf .entry)) place) ⌝ }
+        ensures { λ r. ⌜ leftBy r (now (buf .exit)) ≡ written (signedCall self (length (now (buf .entry))) id value) self (now (buf .entry)) place ⌝ }
     {
         self.write_varint(buf, id, T_VARINT_SIGNED, zigzag_encode(value), place)
     }
 
     // A boolean, as an unsigned 0 or 1.
     pub fn write_boolean(mut self, buf: &mut [u8], id: u32, value: bool, place: usize) -> Written
-        ensures { λ r. ⌜ (r ≡ called (booleanCall self (length (now (buf .entry))) id value) self (now (buf .entry)) place) × (now (buf .exit) ≡ leaves (booleanCall self (length (now (buf .entry))) id value) self (now (buf .entry)) place) ⌝ }
+        ensures { λ r. ⌜ leftBy r (now (buf .exit)) ≡ written (booleanCall self (length (now (buf .entry))) id value) self (now (buf .entry)) place ⌝ }
     {
         self.write_unsigned(buf, id, bit(value), place)
     }
@@ -381,7 +381,7 @@ impl OStream {
         subtype: FixlenType,
         place: usize,
     ) -> Written
-        ensures { λ r. ⌜ (r ≡ called (rawCall self (length (now (buf .entry))) id (now (bytes .entry)) subtype) self (now (buf .entry)) place) × (now (buf .exit) ≡ leaves (rawCall self (length (now (buf .entry))) id (now (bytes .entry)) subtype) self (now (buf .entry)) place) ⌝ }
+        ensures { λ r. ⌜ leftBy r (now (buf .exit)) ≡ written (rawCall self (length (now (buf .entry))) id (now (bytes .entry)) subtype) self (now (buf .entry)) place ⌝ }
     {
         if 0 < place {
             return self.anew()
@@ -414,7 +414,7 @@ impl OStream {
         subtype: FixlenType,
         place: usize,
     ) -> Written
-        ensures { λ r. ⌜ (r ≡ called (rawCall self (length (now (buf .entry))) id (now (bytes .entry)) subtype) self (now (buf .entry)) place) × (now (buf .exit) ≡ leaves (rawCall self (length (now (buf .entry))) id (now (bytes .entry)) subtype) self (now (buf .entry)) place) ⌝ }
+        ensures { λ r. ⌜ leftBy r (now (buf .exit)) ≡ written (rawCall self (length (now (buf .entry))) id (now (bytes .entry)) subtype) self (now (buf .entry)) place ⌝ }
     {
         let s = self.anew();
         let size = buf.len();
@@ -448,7 +448,7 @@ impl OStream {
         subtype: FixlenType,
         place: usize,
     ) -> Written
-        ensures { λ r. ⌜ (r ≡ called (fixlenCall self (length (now (buf .entry))) id (now (bytes .entry)) subtype) self (now (buf .entry)) place) × (now (buf .exit) ≡ leaves (fixlenCall self (length (now (buf .entry))) id (now (bytes .entry)) subtype) self (now (buf .entry)) place) ⌝ }
+        ensures { λ r. ⌜ leftBy r (now (buf .exit)) ≡ written (fixlenCall self (length (now (buf .entry))) id (now (bytes .entry)) subtype) self (now (buf .entry)) place ⌝ }
     {
         let check = check_fixlen(self.sound(buf.len()), subtype, id, bytes.len());
         let error = check.error;
@@ -460,21 +460,21 @@ impl OStream {
 
     // A string, as its bytes.
     pub fn write_str(mut self, buf: &mut [u8], id: u32, text: &[u8], place: usize) -> Written
-        ensures { λ r. ⌜ (r ≡ called (payloadCall self (length (now (buf .entry))) id string (now (text .entry))) self (now (buf .entry)) place) × (now (buf .exit) ≡ leaves (payloadCall self (length (now (buf .entry))) id string (now (text .entry))) self (now (buf .entry)) place) ⌝ }
+        ensures { λ r. ⌜ leftBy r (now (buf .exit)) ≡ written (payloadCall self (length (now (buf .entry))) id string (now (text .entry))) self (now (buf .entry)) place ⌝ }
     {
         self.write_fixlen_raw(buf, id, text, FixlenType::Str, place)
     }
 
     // A blob.
     pub fn write_blob(mut self, buf: &mut [u8], id: u32, bytes: &[u8], place: usize) -> Written
-        ensures { λ r. ⌜ (r ≡ called (payloadCall self (length (now (buf .entry))) id blob (now (bytes .entry))) self (now (buf .entry)) place) × (now (buf .exit) ≡ leaves (payloadCall self (length (now (buf .entry))) id blob (now (bytes .entry))) self (now (buf .entry)) place) ⌝ }
+        ensures { λ r. ⌜ leftBy r (now (buf .exit)) ≡ written (payloadCall self (length (now (buf .entry))) id blob (now (bytes .entry))) self (now (buf .entry)) place ⌝ }
     {
         self.write_fixlen_raw(buf, id, bytes, FixlenType::Blob, place)
     }
 
     // A float of 32 bits, by its bits.
     pub fn write_fp32_bits(mut self, buf: &mut [u8], id: u32, bits: u32, place: usize) -> Written
-        ensures { λ r. ⌜ (r ≡ called (floatCall self (length (now (buf .entry))) id fp32 bits) self (now (buf .entry)) place) × (now (buf .exit) ≡ leaves (floatCall self (length (now (buf .entry))) id fp32 bits) self (now (buf .entry)) place) ⌝ }
+        ensures { λ r. ⌜ leftBy r (now (buf .exit)) ≡ written (floatCall self (length (now (buf .entry))) id fp32 bits) self (now (buf .entry)) place ⌝ }
     {
         let bytes = le32(bits);
         self.write_fixlen_raw(buf, id, &bytes, FixlenType::Fp32, place)
@@ -482,7 +482,7 @@ impl OStream {
 
     // A float of 64 bits, by its bits.
     pub fn write_fp64_bits(mut self, buf: &mut [u8], id: u32, bits: u64, place: usize) -> Written
-        ensures { λ r. ⌜ (r ≡ called (floatCall self (length (now (buf .entry))) id fp64 bits) self (now (buf .entry)) place) × (now (buf .exit) ≡ leaves (floatCall self (length (now (buf .entry))) id fp64 bits) self (now (buf .entry)) place) ⌝ }
+        ensures { λ r. ⌜ leftBy r (now (buf .exit)) ≡ written (floatCall self (length (now (buf .entry))) id fp64 bits) self (now (buf .entry)) place ⌝ }
     {
         let bytes = le64(bits);
         self.write_fixlen_raw(buf, id, &bytes, FixlenType::Fp64, place)
@@ -490,14 +490,14 @@ impl OStream {
 
     // A float; a NaN's bits are 0x7fc0_0000.
     pub fn write_fp32(mut self, buf: &mut [u8], id: u32, value: f32, place: usize) -> Written
-        ensures { λ r. ⌜ (r ≡ called (floatCall self (length (now (buf .entry))) id fp32 (toBits binary32 value)) self (now (buf .entry)) place) × (now (buf .exit) ≡ leaves (floatCall self (length (now (buf .entry))) id fp32 (toBits binary32 value)) self (now (buf .entry)) place) ⌝ }
+        ensures { λ r. ⌜ leftBy r (now (buf .exit)) ≡ written (floatCall self (length (now (buf .entry))) id fp32 (toBits binary32 value)) self (now (buf .entry)) place ⌝ }
     {
         self.write_fp32_bits(buf, id, fp32_bits(value), place)
     }
 
     // A float; a NaN's bits are 0x7ff8_0000_0000_0000.
     pub fn write_fp64(mut self, buf: &mut [u8], id: u32, value: f64, place: usize) -> Written
-        ensures { λ r. ⌜ (r ≡ called (floatCall self (length (now (buf .entry))) id fp64 (toBits binary64 value)) self (now (buf .entry)) place) × (now (buf .exit) ≡ leaves (floatCall self (length (now (buf .entry))) id fp64 (toBits binary64 value)) self (now (buf .entry)) place) ⌝ }
+        ensures { λ r. ⌜ leftBy r (now (buf .exit)) ≡ written (floatCall self (length (now (buf .entry))) id fp64 (toBits binary64 value)) self (now (buf .entry)) place ⌝ }
     {
         self.write_fp64_bits(buf, id, fp64_bits(value), place)
     }
@@ -510,7 +510,7 @@ impl OStream {
         items: &[u64],
         place: usize,
     ) -> Written
-        ensures { λ r. ⌜ (r ≡ called (unsignedArrayCall self (length (now (buf .entry))) id (now (items .entry))) self (now (buf .entry)) place) × (now (buf .exit) ≡ leaves (unsignedArrayCall self (length (now (buf .entry))) id (now (items .entry))) self (now (buf .entry)) place) ⌝ }
+        ensures { λ r. ⌜ leftBy r (now (buf .exit)) ≡ written (unsignedArrayCall self (length (now (buf .entry))) id (now (items .entry))) self (now (buf .entry)) place ⌝ }
     {
         if 0 < place {
             return self.anew()
@@ -547,7 +547,7 @@ impl OStream {
         items: &[u64],
         place: usize,
     ) -> Written
-        ensures { λ r. ⌜ (r ≡ called (unsignedArrayCall self (length (now (buf .entry))) id (now (items .entry))) self (now (buf .entry)) place) × (now (buf .exit) ≡ leaves (unsignedArrayCall self (length (now (buf .entry))) id (now (items .entry))) self (now (buf .entry)) place) ⌝ }
+        ensures { λ r. ⌜ leftBy r (now (buf .exit)) ≡ written (unsignedArrayCall self (length (now (buf .entry))) id (now (items .entry))) self (now (buf .entry)) place ⌝ }
     {
         let size = buf.len();
         let check = self.check(size, id, items.len());
@@ -568,7 +568,7 @@ impl OStream {
         items: &[i64],
         place: usize,
     ) -> Written
-        ensures { λ r. ⌜ (r ≡ called (signedArrayCall self (length (now (buf .entry))) id (now (items .entry))) self (now (buf .entry)) place) × (now (buf .exit) ≡ leaves (signedArrayCall self (length (now (buf .entry))) id (now (items .entry))) self (now (buf .entry)) place) ⌝ }
+        ensures { λ r. ⌜ leftBy r (now (buf .exit)) ≡ written (signedArrayCall self (length (now (buf .entry))) id (now (items .entry))) self (now (buf .entry)) place ⌝ }
     {
         if 0 < place {
             return self.anew()
@@ -605,7 +605,7 @@ impl OStream {
         items: &[i64],
         place: usize,
     ) -> Written
-        ensures { λ r. ⌜ (r ≡ called (signedArrayCall self (length (now (buf .entry))) id (now (items .entry))) self (now (buf .entry)) place) × (now (buf .exit) ≡ leaves (signedArrayCall self (length (now (buf .entry))) id (now (items .entry))) self (now (buf .entry)) place) ⌝ }
+        ensures { λ r. ⌜ leftBy r (now (buf .exit)) ≡ written (signedArrayCall self (length (now (buf .entry))) id (now (items .entry))) self (now (buf .entry)) place ⌝ }
     {
         let size = buf.len();
         let check = self.check(size, id, items.len());
@@ -626,7 +626,7 @@ impl OStream {
         items: &[u32],
         place: usize,
     ) -> Written
-        ensures { λ r. ⌜ (r ≡ called (floatArrayCall self (length (now (buf .entry))) id fp32 (now (items .entry))) self (now (buf .entry)) place) × (now (buf .exit) ≡ leaves (floatArrayCall self (length (now (buf .entry))) id fp32 (now (items .entry))) self (now (buf .entry)) place) ⌝ }
+        ensures { λ r. ⌜ leftBy r (now (buf .exit)) ≡ written (floatArrayCall self (length (now (buf .entry))) id fp32 (now (items .entry))) self (now (buf .entry)) place ⌝ }
     {
         let size = buf.len();
         let check = self.check(size, id, items.len());
@@ -655,7 +655,7 @@ impl OStream {
         items: &[f32],
         place: usize,
     ) -> Written
-        ensures { λ r. ⌜ (r ≡ called (floatArrayCall self (length (now (buf .entry))) id fp32 (map (toBits binary32) (now (items .entry)))) self (now (buf .entry)) place) × (now (buf .exit) ≡ leaves (floatArrayCall self (length (now (buf .entry))) id fp32 (map (toBits binary32) (now (items .entry)))) self (now (buf .entry)) place) ⌝ }
+        ensures { λ r. ⌜ leftBy r (now (buf .exit)) ≡ written (floatArrayCall self (length (now (buf .entry))) id fp32 (map (toBits binary32) (now (items .entry)))) self (now (buf .entry)) place ⌝ }
     {
         let size = buf.len();
         let check = self.check(size, id, items.len());
@@ -676,7 +676,7 @@ impl OStream {
         items: &[u64],
         place: usize,
     ) -> Written
-        ensures { λ r. ⌜ (r ≡ called (floatArrayCall self (length (now (buf .entry))) id fp64 (now (items .entry))) self (now (buf .entry)) place) × (now (buf .exit) ≡ leaves (floatArrayCall self (length (now (buf .entry))) id fp64 (now (items .entry))) self (now (buf .entry)) place) ⌝ }
+        ensures { λ r. ⌜ leftBy r (now (buf .exit)) ≡ written (floatArrayCall self (length (now (buf .entry))) id fp64 (now (items .entry))) self (now (buf .entry)) place ⌝ }
     {
         let size = buf.len();
         let check = self.check(size, id, items.len());
@@ -705,7 +705,7 @@ impl OStream {
         items: &[f64],
         place: usize,
     ) -> Written
-        ensures { λ r. ⌜ (r ≡ called (floatArrayCall self (length (now (buf .entry))) id fp64 (map (toBits binary64) (now (items .entry)))) self (now (buf .entry)) place) × (now (buf .exit) ≡ leaves (floatArrayCall self (length (now (buf .entry))) id fp64 (map (toBits binary64) (now (items .entry)))) self (now (buf .entry)) place) ⌝ }
+        ensures { λ r. ⌜ leftBy r (now (buf .exit)) ≡ written (floatArrayCall self (length (now (buf .entry))) id fp64 (map (toBits binary64) (now (items .entry)))) self (now (buf .entry)) place ⌝ }
     {
         let size = buf.len();
         let check = self.check(size, id, items.len());
@@ -762,7 +762,7 @@ impl OStream {
 
     // A sequence is opened, and its header held back until it has content.
     pub fn write_sequence_begin_lazy(mut self, buf: &mut [u8], id: u32, place: usize) -> Written
-        ensures { λ r. ⌜ (r ≡ called (beginCall self (length (now (buf .entry))) id) self (now (buf .entry)) place) × (now (buf .exit) ≡ leaves (beginCall self (length (now (buf .entry))) id) self (now (buf .entry)) place) ⌝ }
+        ensures { λ r. ⌜ leftBy r (now (buf .exit)) ≡ written (beginCall self (length (now (buf .entry))) id) self (now (buf .entry)) place ⌝ }
     {
         if place == 0 && self.can_hold(buf.len(), id) {
             return Written {
@@ -775,7 +775,7 @@ impl OStream {
 
     // The same from any state and place.
     fn begin_slowly(self, buf: &mut [u8], id: u32, place: usize) -> Written
-        ensures { λ r. ⌜ (r ≡ called (beginCall self (length (now (buf .entry))) id) self (now (buf .entry)) place) × (now (buf .exit) ≡ leaves (beginCall self (length (now (buf .entry))) id) self (now (buf .entry)) place) ⌝ }
+        ensures { λ r. ⌜ leftBy r (now (buf .exit)) ≡ written (beginCall self (length (now (buf .entry))) id) self (now (buf .entry)) place ⌝ }
     {
         let size = buf.len();
         let check = check_begin(self.sound(size), self.depth, id);
@@ -794,7 +794,7 @@ impl OStream {
 
     // The last opened sequence is closed; one that is held back vanishes.
     pub fn write_sequence_end(mut self, buf: &mut [u8], place: usize) -> Written
-        ensures { λ r. ⌜ (r ≡ called (endCall self (length (now (buf .entry)))) self (now (buf .entry)) place) × (now (buf .exit) ≡ leaves (endCall self (length (now (buf .entry)))) self (now (buf .entry)) place) ⌝ }
+        ensures { λ r. ⌜ leftBy r (now (buf .exit)) ≡ written (endCall self (length (now (buf .entry)))) self (now (buf .entry)) place ⌝ }
     {
         if 0 < place {
             return self.anew().end_slowly(buf, place).anew();
@@ -816,7 +816,7 @@ impl OStream {
 
     // The same from any state and place.
     fn end_slowly(self, buf: &mut [u8], place: usize) -> Written
-        ensures { λ r. ⌜ (r ≡ called (endCall self (length (now (buf .entry)))) self (now (buf .entry)) place) × (now (buf .exit) ≡ leaves (endCall self (length (now (buf .entry)))) self (now (buf .entry)) place) ⌝ }
+        ensures { λ r. ⌜ leftBy r (now (buf .exit)) ≡ written (endCall self (length (now (buf .entry)))) self (now (buf .entry)) place ⌝ }
     {
         let check = check_end(self.sound(buf.len()), self.depth);
         let error = check.error;
@@ -832,7 +832,7 @@ impl OStream {
     // The held headers and a close.
     fn close(self, buf: &mut [u8], place: usize) -> Written
         requires { ⌜ (soundStream self (length (now buf)) ≡ true) × (0 < self .depth) ⌝ }
-        ensures { λ r. ⌜ (r ≡ called (endKeepCall self (length (now (buf .entry)))) self (now (buf .entry)) place) × (now (buf .exit) ≡ leaves (endKeepCall self (length (now (buf .entry)))) self (now (buf .entry)) place) ⌝ }
+        ensures { λ r. ⌜ leftBy r (now (buf .exit)) ≡ written (endKeepCall self (length (now (buf .entry)))) self (now (buf .entry)) place ⌝ }
     {
         let size = buf.len();
         let places = self.pending;
@@ -842,7 +842,7 @@ impl OStream {
 
     // The last opened sequence is closed, and written even where it is empty.
     pub fn write_sequence_end_keep(mut self, buf: &mut [u8], place: usize) -> Written
-        ensures { λ r. ⌜ (r ≡ called (endKeepCall self (length (now (buf .entry)))) self (now (buf .entry)) place) × (now (buf .exit) ≡ leaves (endKeepCall self (length (now (buf .entry)))) self (now (buf .entry)) place) ⌝ }
+        ensures { λ r. ⌜ leftBy r (now (buf .exit)) ≡ written (endKeepCall self (length (now (buf .entry)))) self (now (buf .entry)) place ⌝ }
     {
         let check = check_end(self.sound(buf.len()), self.depth);
         let error = check.error;

@@ -54,9 +54,10 @@ returns-2 : tie.Need-returns-2
 returns-2 c =
     let a = c .before .before .before .before .before .before .before .before .before .before .before .args in
     let n = c .before .before .before .before .if2 .taken in
-    recalled (endKeepCall (a .self) (length (a .buf .now))) (endCall (a .self) (length (a .buf .now))) _ _ _ refl
+    c .before .before .close .ensures
+    ∙ recalled (endKeepCall (a .self) (length (a .buf .now))) (endCall (a .self) (length (a .buf .now))) _ _ _ refl
     (ap (λ (l : List ℕ). l ++ fieldBytes (end 0)) (none-held (a .self) n) ∙ sym (simp (eq-eqb _ _ n)))
-    (sym (simp (eq-eqb _ _ n))) _ _ (c .before .before .close .ensures)
+    (sym (simp (eq-eqb _ _ n)))
 
 unhold-requires : tie.Need-unhold-requires
 unhold-requires c κs =

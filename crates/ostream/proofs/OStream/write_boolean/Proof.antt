@@ -3,7 +3,7 @@ use Prim.Native.Nat.{ℕ}
 use mathlib.Core.Path.{ap, _∙_}
 use borrow.Author.Needs.{needs}
 use lib.ListN.{length}
-use Rattle.ostream.specs.Emission.{called, leaves}
+use Rattle.ostream.specs.Emission.{written}
 use Rattle.ostream.specs.Calls.{unsignedCall}
 use Rattle.ostream.proofs.OStream.write_boolean.Statement.{statement}
 use Rattle.ostream.proofs.OStream.write_boolean.Tie as tie
@@ -25,10 +25,8 @@ returns : tie.Need-returns
 returns c =
     let a = c .before .before .before .before .before .before .args in
     let e = c .before .before .write-unsigned .ensures in
-    let b = c .before .before .before .bit .ensures in (
-      e .0 ∙ ap (λ (n : ℕ). called (unsignedCall (a .self) (length (a .buf .now)) (a .id) n) (a .self) (a .buf .now) (a .place)) b,
-      e .1 ∙ ap (λ (n : ℕ). leaves (unsignedCall (a .self) (length (a .buf .now)) (a .id) n) (a .self) (a .buf .now) (a .place)) b,
-    )
+    let b = c .before .before .before .bit .ensures in
+    e ∙ ap (λ (n : ℕ). written (unsignedCall (a .self) (length (a .buf .now)) (a .id) n) (a .self) (a .buf .now) (a .place)) b
 
 pub write-boolean-spec : {M : Type 1} → statement M
 write-boolean-spec = tie.close (tie.spec bit-requires write-unsigned-requires same-length returns)

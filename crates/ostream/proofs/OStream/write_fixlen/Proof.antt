@@ -42,7 +42,7 @@ returns-2 : tie.Need-returns-2
 returns-2 c =
     let a = c .before .before .before .before .before .before .before .before .before .before .args in
     let v = check-passes (judged (fixlenCall (a .self) (length (a .buf .now)) (a .id) (a .bytes .now) (a .subtype) .tests)) _ (c .before .before .before .before .before .before .check-fixlen .ensures ∙ ap (λ (t : Bool). checkOf (judged (unsoundWriter t ∷ stringSubtype (a .subtype) ∷ idTooLarge (a .id) ∷ payloadTooLong (length (a .bytes .now)) ∷ []))) (c .before .before .before .before .before .before .before .sound .ensures)) (c .before .before .before .before .if1 .left) in
-    recalled _ _ _ _ _ (without (unsound (a .self) (length (a .buf .now))) (stringSubtype (a .subtype)) (idTooLarge (a .id) ∷ payloadTooLong (length (a .bytes .now)) ∷ []) v ∙ sym v) refl refl _ _ (c .before .before .write-fixlen-raw .ensures)
+    c .before .before .write-fixlen-raw .ensures ∙ recalled _ _ _ _ _ (without (unsound (a .self) (length (a .buf .now))) (stringSubtype (a .subtype)) (idTooLarge (a .id) ∷ payloadTooLong (length (a .bytes .now)) ∷ []) v ∙ sym v) refl refl
 
 pub write-fixlen-spec : {M : Type 1} → statement M
 write-fixlen-spec =

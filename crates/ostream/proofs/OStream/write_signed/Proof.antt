@@ -7,7 +7,7 @@ use mir.Syntax.{w64}
 use mir.ValLaws.{toZ-ofZ}
 use Rattle.layout.specs.Zigzag.{zigzag}
 use Rattle.layout.specs.Copy.{fieldBytes}
-use Rattle.ostream.specs.Emission.{called, leaves}
+use Rattle.ostream.specs.Emission.{written}
 use Rattle.ostream.specs.Calls.{varintCall}
 use Rattle.ostream.proofs.OStream.write_signed.Statement.{statement}
 use Rattle.ostream.proofs.OStream.write_signed.Tie as tie
@@ -30,10 +30,8 @@ unfolding fieldBytes
 returns c =
     let a = c .before .before .before .before .before .before .args in
     let e = c .before .before .write-varint .ensures in
-    let b = c .before .before .before .zigzag-encode .ensures ∙ ap zigzag (toZ-ofZ w64 (a .value) (c .before .before .before .before .before .before .fits .value)) in (
-      e .0 ∙ ap (λ (n : ℕ). called (varintCall (a .self) (length (a .buf .now)) (a .id) 1 n) (a .self) (a .buf .now) (a .place)) b,
-      e .1 ∙ ap (λ (n : ℕ). leaves (varintCall (a .self) (length (a .buf .now)) (a .id) 1 n) (a .self) (a .buf .now) (a .place)) b,
-    )
+    let b = c .before .before .before .zigzag-encode .ensures ∙ ap zigzag (toZ-ofZ w64 (a .value) (c .before .before .before .before .before .before .fits .value)) in
+    e ∙ ap (λ (n : ℕ). written (varintCall (a .self) (length (a .buf .now)) (a .id) 1 n) (a .self) (a .buf .now) (a .place)) b
 
 pub write-signed-spec : {M : Type 1} → statement M
 write-signed-spec =

@@ -1,6 +1,6 @@
 -- What a sound state is known to be, and the ways that a call ends.
-use mathlib.Core.Path.{_≡_, refl, sym, ap, _∙_}
-use mathlib.Core.List.{List, [], _∷_}
+use mathlib.Core.Path.{_≡_, refl, sym, ap, _∙_, subst}
+use mathlib.Core.List.{List, [], _∷_, _++_}
 use mathlib.Core.Bool.{Bool, true, false}
 use Prim.Native.Nat.{ℕ, _+_, _-_, _≤_, _<_}
 use native.Mathlib.Omega.{arith}
@@ -16,14 +16,15 @@ use Rattle.emit.proofs.Writes.{put-none}
 use Rattle.answers.specs.declared.Outcome.{Outcome}
 use Rattle.answers.specs.declared.Outcome.the-variants.{Through, Full, Refused}
 use Rattle.answers.specs.Outcome.{reaches}
-use Rattle.answers.proofs.Checks.{passed, check-sound, check-short}
-use Rattle.held.specs.Headers.{leftAt}
+use Rattle.answers.proofs.Checks.{passed, check-sound}
+use Rattle.held.specs.Headers.{headersOf, leftAt}
 use Rattle.held.proofs.Ends.{Ended}
+use Rattle.checked.specs.Went.{Went, wentBy, goesBy, fieldFrom}
 use Rattle.ostream.specs.declared.OStream.{OStream}
 use Rattle.ostream.specs.declared.Answer.the-variants as Answers
 use Rattle.ostream.specs.declared.Written.{Written}
 use Rattle.ostream.specs.Stream.{every, soundStream, lazyDepth, heldBytes, zeroed, committed, at}
-use Rattle.ostream.specs.Straight.{settled, unwritten}
+use Rattle.ostream.specs.Straight.{Clears, settled, unwritten}
 use Rattle.ostream.specs.Calls.{unsound, tooDeep, noneOpen, idTooLarge, payloadTooLong, fieldTests}
 use Rattle.ostream.specs.Emission.{Test, Call, Verdict, accepted, refusedWith, judged, through, full, leftBy, refused, untouched, emitted, writtenBy, written}
 pub use Rattle.held.proofs.Places.{both}
@@ -47,14 +48,6 @@ is-sound s size e =
     let d = both _ _ (c .1) in
     let f = both _ _ (d .1) in
     record { inside = leb-true _ _ (a .0); few = leb-true _ _ (b .0); nested = leb-true _ _ (c .0); shallow = leb-true _ _ (d .0); legal = f .0; zeros = f .1 }
-
--- what a field that passes its first tests knows
-module _ (s : OStream) (size id n : ℕ) (e : judged (fieldTests s size id n) ≡ accepted) where
-  pub field-sound : Sound s size
-  field-sound = is-sound s size (check-sound (soundStream s size) (idTooLarge id ∷ payloadTooLong n ∷ []) e)
-
-  pub field-short : n ≤ base .size
-  field-short = check-short (soundStream s size) id n e
 
 -- a test that passes can be left out
 pub without : (t u : Test) (ts : List Test) → judged (t ∷ u ∷ ts) ≡ accepted → judged (t ∷ ts) ≡ accepted
@@ -147,6 +140,40 @@ module _ (k : Call) (s : OStream) (b : List ℕ) (place : ℕ) (r : Written) whe
   pub alters : (next : OStream) → [] ≡ k .output → next ≡ k .done → judged (k .tests) ≡ accepted → s .offset ≤ length b → next .offset ≡ s .offset → r ≡ unwritten s place next
       → leftBy r b ≡ written k s b place
   alters next eo en j i q h = accepts [] next b eo en j (ap (λ (x : Written). leftBy x b) h ∙ unwritten-emitted s b place next i q)
+
+-- ---- a field by the numbers of the state
+
+pub few-clears : (s : OStream) → s .npending ≤ lazyDepth → (out : Outcome) → Clears s out
+few-clears s h (Through end) = h
+few-clears s h (Full out) = tt
+few-clears s h (Refused e) = tt
+
+module _ (s : OStream) (b : List ℕ) (id n : ℕ) (bytes : List ℕ) (place : ℕ) (out : Outcome) (b′ : List ℕ) (w : wentBy out b′ ≡ fieldFrom (s .offset) (s .depth) (s .npending) (s .pending) b id n bytes place) where
+  -- where it is all out, the state was sound
+  pub field-clears : Clears s out
+  unfolding soundStream wentBy goesBy
+  field-clears = go (judged (fieldTests s (length b) id n)) refl w
+    where
+      go : (v : Verdict) → judged (fieldTests s (length b) id n) ≡ v → wentBy out b′ ≡ goesBy v (s .offset) b (headersOf (s .npending) (s .pending) ++ bytes) place → Clears s out
+      go accepted j w = few-clears s (is-sound s (length b) (check-sound (soundStream s (length b)) (idTooLarge id ∷ payloadTooLong n ∷ []) j) .few) out
+      go (refusedWith e) j w = subst (Clears s) (sym (ap (λ (g : Went). g .outcome) w)) tt
+
+  -- what it came to is what the call says and leaves
+  pub goes : (k : Call) (r : Written) → judged (fieldTests s (length b) id n) ≡ judged (k .tests) → heldBytes s ++ bytes ≡ k .output → committed s (s .depth) ≡ k .done → r ≡ settled s (length b) (committed s (s .depth)) out
+      → leftBy r b′ ≡ written k s b place
+  unfolding soundStream heldBytes wentBy goesBy written writtenBy leftBy
+  goes k r j o d h =
+      ap (λ (x : Written). leftBy x b′) h
+      ∙ go (judged (fieldTests s (length b) id n)) w
+      ∙ ap (λ (v : Verdict). writtenBy v k s b place) j
+    where
+      go : (v : Verdict) → wentBy out b′ ≡ goesBy v (s .offset) b (headersOf (s .npending) (s .pending) ++ bytes) place → leftBy (settled s (length b) (committed s (s .depth)) out) b′ ≡ writtenBy v k s b place
+      go accepted w =
+          settled-emitted s b (heldBytes s ++ bytes) place (committed s (s .depth)) out b′ (ap (λ (g : Went). g .outcome) w, ap (λ (g : Went). g .buf) w)
+          ∙ ap (λ (l : List ℕ). emitted s b l place (committed s (s .depth))) o ∙ ap (λ (next : OStream). emitted s b (k .output) place next) d
+      go (refusedWith e) w =
+          ap (λ (x : Outcome). leftBy (settled s (length b) (committed s (s .depth)) x) b′) (ap (λ (g : Went). g .outcome) w)
+          ∙ ap (leftBy (refused s e)) (ap (λ (g : Went). g .buf) w)
 
 -- two calls that come to the same
 pub recalled : (k k′ : Call) (s : OStream) (b : List ℕ) (place : ℕ) → judged (k .tests) ≡ judged (k′ .tests) → k .output ≡ k′ .output → k .done ≡ k′ .done → written k s b place ≡ written k′ s b place

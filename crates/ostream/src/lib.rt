@@ -1,28 +1,28 @@
 // The writer: fields into a lent buffer, and the caller drains it. The Rust's ostream.rs; each call takes the state and hands the new
 // one back. A call that meets the buffer's end answers "full" with how many of its bytes are out, and goes on from that place when it
 // is made again.
-use answers::Check;
 use answers::Outcome;
 use answers::check_begin;
-use answers::check_change;
 use answers::check_end;
-use answers::check_field;
 use answers::check_fixlen;
 use answers::unfit;
-use arrays::put_fp32_array;
-use arrays::put_fp32_bits_array;
-use arrays::put_fp64_array;
-use arrays::put_fp64_bits_array;
-use arrays::put_signed_array;
-use arrays::put_unsigned_array;
+use buffers::Moved;
+use buffers::change;
+use buffers::drain;
+use checked::fixlen_field;
+use checked::fp32_array;
+use checked::fp32_bits_array;
+use checked::fp64_array;
+use checked::fp64_bits_array;
+use checked::signed_array;
+use checked::unsigned_array;
+use checked::varint_field;
 use event::fp32_bits;
 use event::fp64_bits;
 use fields::le32;
 use fields::le64;
 use fields::put_close;
-use fields::put_fixlen_field;
 use fields::put_marker;
-use fields::put_varint_field;
 use held::add_id;
 use held::clear;
 use held::drop_id;
@@ -53,12 +53,11 @@ ghost use lib.ListN.{length};
 ghost use lib.Ieee.{binary32, binary64, toBits};
 ghost use Rattle.layout.specs.Field.{fp32, fp64, string, blob};
 ghost use Rattle.layout.specs.Limits.{pick};
-ghost use Rattle.answers.specs.Judged.{judged, checkOf};
 ghost use Rattle.ostream.specs.Stream.{soundStream, committed, holding, dropped, opened};
-ghost use Rattle.ostream.specs.Straight.{holds, settled, unwritten};
+ghost use Rattle.ostream.specs.Straight.{holds, Clears, settled, unwritten};
 ghost use Rattle.ostream.specs.Emission.{refused, leftBy, written};
-ghost use Rattle.ostream.specs.Buffer.{opening, draining, changing};
-ghost use Rattle.ostream.specs.Calls.{fieldTests, rawCall, fixlenCall, floatCall, payloadCall, unsignedArrayCall, signedArrayCall, floatArrayCall};
+ghost use Rattle.ostream.specs.Buffer.{opening, countedAt, draining, changing};
+ghost use Rattle.ostream.specs.Calls.{rawCall, fixlenCall, floatCall, payloadCall, unsignedArrayCall, signedArrayCall, floatArrayCall};
 ghost use Rattle.ostream.specs.Calls.{varintCall, unsignedCall, signedCall, booleanCall, beginCall, endCall, endKeepCall};
 
 // A writer's state. `offset` is where the next byte goes; `depth` counts the open sequences; `pending` has the ids of the innermost
@@ -182,41 +181,48 @@ impl OStream {
     }
 
     // The caller drains the buffer: as many bytes as answered are to be sent, and writing starts at 0.
-    pub fn flush(mut self, buf: &[u8]) -> Counted
+    pub fn flush(self, buf: &[u8]) -> Counted
         ensures { λ r. ⌜ r ≡ draining self (length (now (buf .entry))) ⌝ }
     {
-        if self.sound(buf.len()) {
-            let sent = self.offset;
-            self.offset = 0;
-            Counted {
-                answer: Count::Bytes(sent),
-                stream: self,
-            }
-        } else {
-            Counted {
-                answer: Count::Refused(Error::UnsoundWriter),
-                stream: self,
-            }
-        }
+        let places = self.pending;
+        let moved = drain(self.offset, self.depth, self.npending, places, buf.len());
+        self.count(moved)
     }
 
     // Another buffer from the offset on. The answer counts the old one's bytes, which the caller of a drained writer still sends.
-    pub fn buffer_set(mut self, old: &[u8], new: &[u8], offset: usize, drained: bool) -> Counted
+    pub fn buffer_set(self, old: &[u8], new: &[u8], offset: usize, drained: bool) -> Counted
         ensures { λ r. ⌜ r ≡ changing self (length (now (old .entry))) (length (now (new .entry))) offset drained ⌝ }
     {
-        let check = check_change(self.sound(old.len()), new.len(), offset, drained);
-        let error = check.error;
-        if !check.ok {
-            return Counted {
-                answer: Count::Refused(error),
+        let places = self.pending;
+        let moved = change(
+            self.offset,
+            self.depth,
+            self.npending,
+            places,
+            old.len(),
+            new.len(),
+            offset,
+            drained,
+        );
+        self.count(moved)
+    }
+
+    // The answer of these two, and the state at the new position.
+    fn count(mut self, moved: Moved) -> Counted
+        ensures { λ r. ⌜ r ≡ countedAt self moved ⌝ }
+    {
+        match moved {
+            Moved::To(sent, offset) => {
+                self.offset = offset;
+                Counted {
+                    answer: Count::Bytes(sent),
+                    stream: self,
+                }
+            }
+            Moved::Refused(e) => Counted {
+                answer: Count::Refused(e),
                 stream: self,
-            };
-        }
-        let used = self.offset;
-        self.offset = offset;
-        Counted {
-            answer: Count::Bytes(used),
-            stream: self,
+            },
         }
     }
 
@@ -226,13 +232,6 @@ impl OStream {
     {
         let places = self.pending;
         sound_for(self.offset, self.depth, self.npending, places, size)
-    }
-
-    // The refusals of a field, in order: the state, the id, and how long its payload or array is.
-    fn check(self, size: usize, id: u32, len: usize) -> Check
-        ensures { λ r. ⌜ r ≡ checkOf (judged (fieldTests self size id len)) ⌝ }
-    {
-        check_field(self.sound(size), id, len)
     }
 
     fn refuse(self, e: Error) -> Written
@@ -259,7 +258,7 @@ impl OStream {
 
     // The answer of a call that writes, by what it comes to: once all is out, no id is held any more.
     fn settle(mut self, size: usize, outcome: Outcome, depth: u16) -> Written
-        requires { ⌜ self .npending ≤ 8 ⌝ }
+        requires { ⌜ Clears self outcome ⌝ }
         ensures { λ r. ⌜ r ≡ settled self size (committed self depth) outcome ⌝ }
     {
         match outcome {
@@ -340,14 +339,18 @@ impl OStream {
     {
         let s = self.anew();
         let size = buf.len();
-        let check = s.check(size, id, 0);
-        let error = check.error;
-        if !check.ok {
-            return s.refuse(error);
-        }
         let places = s.pending;
-        let header = tagged(id, wire);
-        let outcome = put_varint_field(buf, s.offset, places, s.npending, header, value, place);
+        let outcome = varint_field(
+            buf,
+            s.offset,
+            s.depth,
+            s.npending,
+            places,
+            id,
+            wire,
+            value,
+            place,
+        );
         s.settle(size, outcome, s.depth)
     }
 
@@ -418,22 +421,16 @@ impl OStream {
     {
         let s = self.anew();
         let size = buf.len();
-        let check = s.check(size, id, bytes.len());
-        let error = check.error;
-        if !check.ok {
-            return s.refuse(error);
-        }
         let places = s.pending;
-        let header = tagged(id, T_FIXLEN);
-        let word = tagged(bytes.len() as u32, subtype.raw());
-        let outcome = put_fixlen_field(
+        let outcome = fixlen_field(
             buf,
             s.offset,
-            places,
+            s.depth,
             s.npending,
-            header,
-            word,
+            places,
+            id,
             bytes,
+            subtype,
             place,
         );
         s.settle(size, outcome, s.depth)
@@ -550,13 +547,17 @@ impl OStream {
         ensures { λ r. ⌜ leftBy r (now (buf .exit)) ≡ written (unsignedArrayCall self (length (now (buf .entry))) id (now (items .entry))) self (now (buf .entry)) place ⌝ }
     {
         let size = buf.len();
-        let check = self.check(size, id, items.len());
-        let error = check.error;
-        if !check.ok {
-            return self.refuse(error);
-        }
         let places = self.pending;
-        let outcome = put_unsigned_array(buf, self.offset, places, self.npending, id, items, place);
+        let outcome = unsigned_array(
+            buf,
+            self.offset,
+            self.depth,
+            self.npending,
+            places,
+            id,
+            items,
+            place,
+        );
         self.settle(size, outcome, self.depth)
     }
 
@@ -608,13 +609,17 @@ impl OStream {
         ensures { λ r. ⌜ leftBy r (now (buf .exit)) ≡ written (signedArrayCall self (length (now (buf .entry))) id (now (items .entry))) self (now (buf .entry)) place ⌝ }
     {
         let size = buf.len();
-        let check = self.check(size, id, items.len());
-        let error = check.error;
-        if !check.ok {
-            return self.refuse(error);
-        }
         let places = self.pending;
-        let outcome = put_signed_array(buf, self.offset, places, self.npending, id, items, place);
+        let outcome = signed_array(
+            buf,
+            self.offset,
+            self.depth,
+            self.npending,
+            places,
+            id,
+            items,
+            place,
+        );
         self.settle(size, outcome, self.depth)
     }
 
@@ -629,17 +634,13 @@ impl OStream {
         ensures { λ r. ⌜ leftBy r (now (buf .exit)) ≡ written (floatArrayCall self (length (now (buf .entry))) id fp32 (now (items .entry))) self (now (buf .entry)) place ⌝ }
     {
         let size = buf.len();
-        let check = self.check(size, id, items.len());
-        let error = check.error;
-        if !check.ok {
-            return self.refuse(error);
-        }
         let places = self.pending;
-        let outcome = put_fp32_bits_array(
+        let outcome = fp32_bits_array(
             buf,
             self.offset,
-            places,
+            self.depth,
             self.npending,
+            places,
             id,
             items,
             place,
@@ -658,13 +659,17 @@ impl OStream {
         ensures { λ r. ⌜ leftBy r (now (buf .exit)) ≡ written (floatArrayCall self (length (now (buf .entry))) id fp32 (map (toBits binary32) (now (items .entry)))) self (now (buf .entry)) place ⌝ }
     {
         let size = buf.len();
-        let check = self.check(size, id, items.len());
-        let error = check.error;
-        if !check.ok {
-            return self.refuse(error);
-        }
         let places = self.pending;
-        let outcome = put_fp32_array(buf, self.offset, places, self.npending, id, items, place);
+        let outcome = fp32_array(
+            buf,
+            self.offset,
+            self.depth,
+            self.npending,
+            places,
+            id,
+            items,
+            place,
+        );
         self.settle(size, outcome, self.depth)
     }
 
@@ -679,17 +684,13 @@ impl OStream {
         ensures { λ r. ⌜ leftBy r (now (buf .exit)) ≡ written (floatArrayCall self (length (now (buf .entry))) id fp64 (now (items .entry))) self (now (buf .entry)) place ⌝ }
     {
         let size = buf.len();
-        let check = self.check(size, id, items.len());
-        let error = check.error;
-        if !check.ok {
-            return self.refuse(error);
-        }
         let places = self.pending;
-        let outcome = put_fp64_bits_array(
+        let outcome = fp64_bits_array(
             buf,
             self.offset,
-            places,
+            self.depth,
             self.npending,
+            places,
             id,
             items,
             place,
@@ -708,13 +709,17 @@ impl OStream {
         ensures { λ r. ⌜ leftBy r (now (buf .exit)) ≡ written (floatArrayCall self (length (now (buf .entry))) id fp64 (map (toBits binary64) (now (items .entry)))) self (now (buf .entry)) place ⌝ }
     {
         let size = buf.len();
-        let check = self.check(size, id, items.len());
-        let error = check.error;
-        if !check.ok {
-            return self.refuse(error);
-        }
         let places = self.pending;
-        let outcome = put_fp64_array(buf, self.offset, places, self.npending, id, items, place);
+        let outcome = fp64_array(
+            buf,
+            self.offset,
+            self.depth,
+            self.npending,
+            places,
+            id,
+            items,
+            place,
+        );
         self.settle(size, outcome, self.depth)
     }
 

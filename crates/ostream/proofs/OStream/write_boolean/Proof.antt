@@ -10,7 +10,7 @@ use Rattle.ostream.proofs.OStream.write_boolean.Tie as tie
 use Rattle.ostream.proofs.OStream.write_boolean.Reads as reads
 use Rattle.ostream.proofs.OStream.write_boolean.Lts as lts
 use Rattle.ostream.proofs.OStream.write_unsigned.Reads as write-unsigned-reads
-use Rattle.ostream.proofs.bit.Reads as bit-reads
+use Rattle.ostream.proofs.scalar.bit.Reads as bit-reads
 
 bit-requires : tie.Need-bit-requires
 bit-requires c κs = search needs

@@ -1,4 +1,4 @@
--- `ostream::OStream::write_varint_slowly`: the field by the numbers of the state.
+-- `ostream::OStream::write_varint_field_slowly`: the field by the numbers of the state.
 use Prim.Native.Nat.{_+_, _*_}
 use mathlib.Core.Path.{refl}
 use mathlib.Core.List.{_++_}
@@ -8,10 +8,10 @@ use Rattle.ostream.specs.Calls.{varintCall}
 use Rattle.ostream.proofs.Called.{field-clears, goes}
 use Rattle.ostream.proofs.Straight.{left-to}
 use borrow.Author.Needs.{needs}
-use Rattle.ostream.proofs.OStream.write_varint_slowly.Statement.{statement}
-use Rattle.ostream.proofs.OStream.write_varint_slowly.Tie as tie
-use Rattle.ostream.proofs.OStream.write_varint_slowly.Reads as reads
-use Rattle.ostream.proofs.OStream.write_varint_slowly.Lts as lts
+use Rattle.ostream.proofs.OStream.write_varint_field_slowly.Statement.{statement}
+use Rattle.ostream.proofs.OStream.write_varint_field_slowly.Tie as tie
+use Rattle.ostream.proofs.OStream.write_varint_field_slowly.Reads as reads
+use Rattle.ostream.proofs.OStream.write_varint_field_slowly.Lts as lts
 use Rattle.checked.proofs.varint_field.Reads as varint-field-reads
 use Rattle.ostream.proofs.OStream.anew.Reads as anew-reads
 use Rattle.ostream.proofs.OStream.settle.Reads as settle-reads
@@ -39,5 +39,5 @@ returns c =
     left-to (λ s n. varintCall s n (a .id) (a .wire) (a .value)) (a .self) s (a .buf .now) (a .buf .now) (a .place) _ _ _ (c .before .before .before .before .before .before .anew .ensures) refl refl
     (goes s (a .buf .now) (a .id) 0 (shortest (a .id * 8 + a .wire) ++ shortest (a .value)) (a .place) _ _ (c .before .before .before .varint-field .ensures) _ _ refl refl refl (c .settle .ensures))
 
-pub write-varint-slowly-spec : {M : Type 1} → statement M
-write-varint-slowly-spec = tie.close (tie.spec anew-requires varint-field-requires settle-requires same-length returns)
+pub write-varint-field-slowly-spec : {M : Type 1} → statement M
+write-varint-field-slowly-spec = tie.close (tie.spec anew-requires varint-field-requires settle-requires same-length returns)

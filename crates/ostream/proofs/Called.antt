@@ -26,7 +26,7 @@ use Rattle.ostream.specs.declared.Written.{Written}
 use Rattle.ostream.specs.Stream.{every, soundStream, lazyDepth, heldBytes, zeroed, committed, at}
 use Rattle.ostream.specs.Straight.{Clears, settled, unwritten}
 use Rattle.ostream.specs.Calls.{unsound, tooDeep, noneOpen, idTooLarge, payloadTooLong, fieldTests}
-use Rattle.ostream.specs.Emission.{Test, Call, Verdict, accepted, refusedWith, judged, through, full, leftBy, refused, untouched, emitted, writtenBy, written}
+use Rattle.ostream.specs.Emission.{Test, Call, Verdict, accepted, refusedWith, judged, through, leftBy, refused, emittedBy, emitted, writtenBy, written}
 pub use Rattle.held.proofs.Places.{both}
 
 -- ---- a sound state
@@ -95,7 +95,7 @@ settled-emitted s b o place next out b′ (e, f) =
   where
     go : (beyond fits : Bool)
         → leftBy (settled s (length b) next (pick beyond (Refused (refusal 11)) (pick fits (Through (s .offset + (length o - place))) (Full (place + (length b - s .offset)))))) (pick beyond b (put b (s .offset) (drop place o)))
-        ≡ pick beyond (untouched 11 s b) (pick fits (record { said = through; stream = at next (s .offset + (length o - place)); buf = put b (s .offset) (drop place o) }) (record { said = full (place + (length b - s .offset)); stream = at s (length b); buf = put b (s .offset) (drop place o) }))
+        ≡ emittedBy beyond fits s b o place next
     go true fits = refl
     go false true = refl
     go false false = refl
@@ -107,7 +107,7 @@ unwritten-emitted s b place next h e = go (ltb 0 place) refl
   where
     go : (beyond : Bool) → ltb 0 place ≡ beyond
         → leftBy (pick beyond (refused s (refusal 11)) (record { answer = Answers.Done; stream = next })) b
-        ≡ pick beyond (untouched 11 s b) (pick (leb (0 - place) (length b - s .offset)) (record { said = through; stream = at next (s .offset + (0 - place)); buf = put b (s .offset) (drop place []) }) (record { said = full (place + (length b - s .offset)); stream = at s (length b); buf = put b (s .offset) (drop place []) }))
+        ≡ emittedBy beyond (leb (0 - place) (length b - s .offset)) s b [] place next
     go true q = refl
     go false q =
         let z : place ≤ 0 = ltb-false 0 place q in

@@ -1,5 +1,6 @@
 -- One call of the writer: its refusals in order, its whole output, and the state that it leaves once all of that is out.
 -- Every writing call is these three and a place in the output to go on from.
+use mathlib.Core.Bool.{Bool}
 use mathlib.Core.List.{List}
 use Prim.Native.Nat.{ℕ, _+_, _-_}
 use lib.Dec.{leb, ltb}
@@ -55,12 +56,16 @@ untouched n s b = record { said = number n; stream = s; buf = b }
 -- An output, gone on with from a place: as many of the bytes still to go as there is room for, from the position on.
 -- "Number 11: the place to go on from exceeds the call's whole output." "Full": "the buffer is then written to its end, a writer's state
 -- differs only in position, and the answer is the count of this call's bytes (held headers included) now out, counted from its first byte".
-unfoldable pub emitted : OStream → List ℕ → List ℕ → ℕ → OStream → Left
-emitted s b o place next =
-    pick (ltb (length o) place) (untouched 11 s b)
-    (pick (leb (length o - place) (length b - s .offset))
+-- It is told whether the place lies beyond the output, and whether there is room for the rest.
+abbrev pub emittedBy : Bool → Bool → OStream → List ℕ → List ℕ → ℕ → OStream → Left
+emittedBy beyond fits s b o place next =
+    pick beyond (untouched 11 s b)
+    (pick fits
     (record { said = through; stream = at next (s .offset + (length o - place)); buf = put b (s .offset) (drop place o) })
     (record { said = full (place + (length b - s .offset)); stream = at s (length b); buf = put b (s .offset) (drop place o) }))
+
+unfoldable pub emitted : OStream → List ℕ → List ℕ → ℕ → OStream → Left
+emitted s b o place next = emittedBy (ltb (length o) place) (leb (length o - place) (length b - s .offset)) s b o place next
 
 unfoldable pub writtenBy : Verdict → Call → OStream → List ℕ → ℕ → Left
 writtenBy accepted c s b place = emitted s b (c .output) place (c .done)

@@ -10,7 +10,6 @@ use lib.Dec.{ltb, leb}
 use borrow.Author.Tests.{leb-true, leb-false}
 use lib.ListN.{length, take, drop, length-take, length-drop, take-append-drop, drop-of-length-le}
 use lib.Seq.{take-all, take-take, take-append-le, length-take-le, drop-append-le, drop-drop}
-use Rattle.layout.specs.Limits.{pick}
 use Rattle.layout.specs.Message.{All}
 use Rattle.types.specs.declared.Error.{Error}
 use Rattle.types.specs.Types.{numberOf}
@@ -20,7 +19,7 @@ use Rattle.ostream.specs.declared.OStream.{OStream}
 use Rattle.ostream.specs.declared.Count.the-variants as Counts
 use Rattle.ostream.specs.declared.Counted.{Counted}
 use Rattle.ostream.specs.Stream.{at}
-use Rattle.ostream.specs.Emission.{Verdict, accepted, refusedWith, judged, Call, Left, through, full, number, untouched, emitted, writtenBy, written}
+use Rattle.ostream.specs.Emission.{Verdict, accepted, refusedWith, judged, Call, Left, through, full, number, untouched, emittedBy, emitted, writtenBy, written}
 use Rattle.ostream.specs.Calls.{unsound}
 use Rattle.ostream.specs.Buffer.{badBuffer, countedBy, draining, changing}
 use Rattle.ostream.proofs.Called.{is-sound}
@@ -374,14 +373,7 @@ emitted-unaltered : (s : OStream) (b o : List ℕ) (place : ℕ) (z : OStream) �
 unfolding emitted
 emitted-unaltered s b o place z = go (ltb (length o) place) (leb (length o - place) (length b - s .offset))
   where
-    left : Bool → Bool → Left
-    left beyond fits =
-        pick beyond (untouched 11 s b)
-        (pick fits
-        (record { said = through; stream = at z (s .offset + (length o - place)); buf = put b (s .offset) (drop place o) })
-        (record { said = full (place + (length b - s .offset)); stream = at s (length b); buf = put b (s .offset) (drop place o) }))
-
-    go : (beyond fits : Bool) → Refusal (numbersIn (left beyond fits .said)) → (left beyond fits .stream ≡ s) × (left beyond fits .buf ≡ b)
+    go : (beyond fits : Bool) → let r = emittedBy beyond fits s b o place z in Refusal (numbersIn (r .said)) → (r .stream ≡ s) × (r .buf ≡ b)
     go true y n = (refl, refl)
     go false true n = absurd (no-number (n .0) (n .1))
     go false false n = absurd (no-number (n .0) (n .1))

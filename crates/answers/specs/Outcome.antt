@@ -6,8 +6,8 @@ use Rattle.types.specs.Types.{refusal}
 use Rattle.answers.specs.declared.Outcome.{Outcome}
 use Rattle.answers.specs.declared.Outcome.the-variants.{Through, Full, Refused}
 
--- "Number 11: the place to go on from exceeds the call's whole output." "Full": "the answer is the count of this call's bytes now out,
--- counted from its first byte".
+-- "Number 11: the place to go on from exceeds the call's whole output." "Full": "the answer is the count of this call's bytes (held
+-- headers included) now out, counted from its first byte".
 unfoldable pub reaches : ℕ → ℕ → ℕ → ℕ → Outcome
 reaches pos size total place =
     pick (ltb total place) (Refused (refusal 11))

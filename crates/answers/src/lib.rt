@@ -142,7 +142,8 @@ fn least(a: usize, b: usize) -> usize
     if a < b { a } else { b }
 }
 
-// What a call comes to whose output has `total` bytes, those from the place on being out as far as there is room.
+// What a call comes to whose output has `total` bytes, those from the place on being out as far as there is room. (`fields` and
+// `arrays` call it with the position that they require themselves.)
 pub fn finish(pos: usize, size: usize, total: usize, place: usize) -> Outcome
     requires { ⌜ pos ≤ size ⌝ }
     ensures { λ r. ⌜ r ≡ reaches pos size total place ⌝ }

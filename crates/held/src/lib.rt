@@ -13,7 +13,7 @@ ghost use Rattle.emit.specs.Cursor.{placed, moved};
 ghost use Rattle.held.specs.Places.{every, zeroed, soundWriter};
 ghost use Rattle.held.specs.Headers.{headersOf, headOf, startAt};
 
-// Whether the first n ids are legal.
+// Whether the first n ids are legal. (`sound_for` has tested n.)
 fn ids_legal(pending: [u32; 8], n: usize) -> bool
     requires { ⌜ n ≤ 8 ⌝ }
     ensures { λ r. ⌜ r ≡ every (λ x. leb x (base .id)) (take n pending) ⌝ }
@@ -28,7 +28,7 @@ fn ids_legal(pending: [u32; 8], n: usize) -> bool
     true
 }
 
-// Whether the places from n on are zero.
+// Whether the places from n on are zero. (`sound_for` has tested n; `straight` asks from 0 on.)
 pub fn unused_zero(pending: [u32; 8], n: usize) -> bool
     requires { ⌜ n ≤ 8 ⌝ }
     ensures { λ r. ⌜ r ≡ every (λ x. eqb x 0) (drop n pending) ⌝ }
@@ -43,7 +43,7 @@ pub fn unused_zero(pending: [u32; 8], n: usize) -> bool
     true
 }
 
-// The first n of some places zeroed.
+// The first n of some places zeroed. (n is how many a sound state holds.)
 pub fn clear(places: [u32; 8], n: usize) -> [u32; 8]
     requires { ⌜ n ≤ 8 ⌝ }
     ensures { λ r. ⌜ r ≡ zeroed n places ⌝ }
@@ -57,7 +57,7 @@ pub fn clear(places: [u32; 8], n: usize) -> [u32; 8]
     cleared
 }
 
-// The places with one more id behind the first n.
+// The places with one more id behind the first n. (The writer holds one more only where fewer than eight are held.)
 pub fn add_id(places: [u32; 8], n: u16, id: u32) -> [u32; 8]
     requires { ⌜ n < 8 ⌝ }
     ensures { λ r. ⌜ r ≡ set places n id ⌝ }
@@ -67,7 +67,7 @@ pub fn add_id(places: [u32; 8], n: u16, id: u32) -> [u32; 8]
     more
 }
 
-// The places without the last of the first n: zero.
+// The places without the last of the first n: zero. (The writer drops one only where one is held, in a sound state.)
 pub fn drop_id(places: [u32; 8], n: u16) -> [u32; 8]
     requires { ⌜ (0 < n) × (n ≤ 8) ⌝ }
     ensures { λ r. ⌜ r ≡ set places (n - 1) 0 ⌝ }
@@ -108,7 +108,8 @@ pub fn tagged(n: u32, tag: u8) -> u64
     (n as u64) * 8 + (tag as u64)
 }
 
-// How many bytes the headers that are held back take.
+// How many bytes the headers that are held back take. (Here and below, `fields` and `arrays` hand on what they require: the numbers of
+// a state that was tested.)
 pub fn held_len(places: [u32; 8], held: u16) -> usize
     requires { ⌜ held ≤ 8 ⌝ }
     ensures { λ r. ⌜ (r ≡ length (headersOf held places)) × (r ≤ 80) ⌝ }

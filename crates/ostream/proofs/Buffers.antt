@@ -11,12 +11,13 @@ use borrow.Author.Tests.{leb-false, ltb-false, eqb-true, le-leb, lt-leb, le-ltb}
 use Rattle.types.specs.Types.{refusal}
 use Rattle.held.specs.Places.{clean}
 use Rattle.straight.proofs.Straight.{clean-zeros}
+use Rattle.buffers.specs.Moved.{movedBy}
 use Rattle.ostream.specs.declared.OStream.{OStream}
 use Rattle.ostream.specs.declared.Answer.the-variants.{Done}
 use Rattle.ostream.specs.declared.Count.the-variants.{Bytes, Refused}
 use Rattle.ostream.specs.Stream.{every, lazyDepth, soundStream, at, opened}
-use Rattle.ostream.specs.Emission.{refused}
-use Rattle.ostream.specs.Buffer.{badBuffer, opening, draining, changing}
+use Rattle.ostream.specs.Emission.{Verdict, accepted, refusedWith, refused}
+use Rattle.ostream.specs.Buffer.{badBuffer, countedAt, countedBy, opening, draining, changing}
 use Rattle.ostream.proofs.Called.{both, is-sound}
 use Rattle.ostream.proofs.Straight.{quiet}
 
@@ -51,6 +52,13 @@ pub unheld-is : (s : OStream) (size : ℕ) → soundStream s size ≡ true → s
 unheld-is s size h e n =
     ap (λ (l : List ℕ). record { offset = s .offset; depth = s .depth; pending = l; npending = s .npending }) (unheld-zeros s size h e n)
     ∙ ap (λ (k : ℕ). record { offset = s .offset; depth = s .depth; pending = replicate lazyDepth 0; npending = k }) e
+
+-- ---- by numbers
+
+-- where a call about buffers goes on, in the state
+pub counted-at : (v : Verdict) (s : OStream) (pos : ℕ) → countedAt s (movedBy v (s .offset) pos) ≡ countedBy v s pos
+counted-at accepted s pos = refl
+counted-at (refusedWith e) s pos = refl
 
 -- ---- a drain
 

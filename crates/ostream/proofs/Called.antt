@@ -1,6 +1,6 @@
 -- What a sound state is known to be, and the ways that a call ends.
-use mathlib.Core.Path.{_≡_, refl, sym, ap, _∙_}
-use mathlib.Core.List.{List, [], _∷_}
+use mathlib.Core.Path.{_≡_, refl, sym, ap, _∙_, subst}
+use mathlib.Core.List.{List, [], _∷_, _++_}
 use mathlib.Core.Bool.{Bool, true, false}
 use Prim.Native.Nat.{ℕ, _+_, _-_, _≤_, _<_}
 use native.Mathlib.Omega.{arith}
@@ -16,16 +16,17 @@ use Rattle.emit.proofs.Writes.{put-none}
 use Rattle.answers.specs.declared.Outcome.{Outcome}
 use Rattle.answers.specs.declared.Outcome.the-variants.{Through, Full, Refused}
 use Rattle.answers.specs.Outcome.{reaches}
-use Rattle.answers.proofs.Checks.{passed, check-sound, check-short}
-use Rattle.held.specs.Headers.{leftAt}
+use Rattle.answers.proofs.Checks.{passed, check-sound}
+use Rattle.held.specs.Headers.{headersOf, leftAt}
 use Rattle.held.proofs.Ends.{Ended}
+use Rattle.checked.specs.Went.{Went, wentBy, goesBy, fieldFrom}
 use Rattle.ostream.specs.declared.OStream.{OStream}
 use Rattle.ostream.specs.declared.Answer.the-variants as Answers
 use Rattle.ostream.specs.declared.Written.{Written}
 use Rattle.ostream.specs.Stream.{every, soundStream, lazyDepth, heldBytes, zeroed, committed, at}
-use Rattle.ostream.specs.Straight.{settled, unwritten}
+use Rattle.ostream.specs.Straight.{Clears, settled, unwritten}
 use Rattle.ostream.specs.Calls.{unsound, tooDeep, noneOpen, idTooLarge, payloadTooLong, fieldTests}
-use Rattle.ostream.specs.Emission.{Test, Call, Verdict, accepted, refusedWith, judged, refused, answered, left, calledBy, leavesBy, called, leaves}
+use Rattle.ostream.specs.Emission.{Test, Call, Verdict, accepted, refusedWith, judged, through, leftBy, refused, emittedBy, emitted, writtenBy, written}
 pub use Rattle.held.proofs.Places.{both}
 
 -- ---- a sound state
@@ -47,14 +48,6 @@ is-sound s size e =
     let d = both _ _ (c .1) in
     let f = both _ _ (d .1) in
     record { inside = leb-true _ _ (a .0); few = leb-true _ _ (b .0); nested = leb-true _ _ (c .0); shallow = leb-true _ _ (d .0); legal = f .0; zeros = f .1 }
-
--- what a field that passes its first tests knows
-module _ (s : OStream) (size id n : ℕ) (e : judged (fieldTests s size id n) ≡ accepted) where
-  pub field-sound : Sound s size
-  field-sound = is-sound s size (check-sound (soundStream s size) (idTooLarge id ∷ payloadTooLong n ∷ []) e)
-
-  pub field-short : n ≤ base .size
-  field-short = check-short (soundStream s size) id n e
 
 -- a test that passes can be left out
 pub without : (t u : Test) (ts : List Test) → judged (t ∷ u ∷ ts) ≡ accepted → judged (t ∷ ts) ≡ accepted
@@ -92,79 +85,101 @@ none-held s e = ap (λ (n : ℕ). each (λ id. header id T-begin) (take n (s .pe
 
 -- ---- how a call ends
 
--- an outcome in the state
-settled-answered : (s : OStream) (size total place : ℕ) (next : OStream) → settled s size next (reaches (s .offset) size total place) ≡ answered s size total place next
-unfolding reaches answered
-settled-answered s size total place next = go (ltb total place) (leb (total - place) (size - s .offset))
+-- an outcome in the state, and the buffer then
+settled-emitted : (s : OStream) (b o : List ℕ) (place : ℕ) (next : OStream) (out : Outcome) (b′ : List ℕ) → Ended (s .offset) b o place out b′ → leftBy (settled s (length b) next out) b′ ≡ emitted s b o place next
+unfolding reaches leftAt emitted leftBy
+settled-emitted s b o place next out b′ (e, f) =
+    ap (λ (x : Outcome). leftBy (settled s (length b) next x) b′) e
+    ∙ ap (leftBy (settled s (length b) next (reaches (s .offset) (length b) (length o) place))) f
+    ∙ go (ltb (length o) place) (leb (length o - place) (length b - s .offset))
   where
-    go : (a b : Bool)
-        → settled s size next (pick a (Refused (refusal 11)) (pick b (Through (s .offset + (total - place))) (Full (place + (size - s .offset)))))
-        ≡ pick a (refused s (refusal 11)) (pick b (record { answer = Answers.Done; stream = at next (s .offset + (total - place)) }) (record { answer = Answers.Full (place + (size - s .offset)); stream = at s size }))
-    go true b = refl
+    go : (beyond fits : Bool)
+        → leftBy (settled s (length b) next (pick beyond (Refused (refusal 11)) (pick fits (Through (s .offset + (length o - place))) (Full (place + (length b - s .offset)))))) (pick beyond b (put b (s .offset) (drop place o)))
+        ≡ emittedBy beyond fits s b o place next
+    go true fits = refl
     go false true = refl
     go false false = refl
 
 -- a call that writes nothing
-unwritten-answered : (s : OStream) (size place : ℕ) (next : OStream) → s .offset ≤ size → next .offset ≡ s .offset → unwritten s place next ≡ answered s size 0 place next
-unfolding answered
-unwritten-answered s size place next h e = go (ltb 0 place) refl
+unwritten-emitted : (s : OStream) (b : List ℕ) (place : ℕ) (next : OStream) → s .offset ≤ length b → next .offset ≡ s .offset → leftBy (unwritten s place next) b ≡ emitted s b [] place next
+unfolding emitted leftBy
+unwritten-emitted s b place next h e = go (ltb 0 place) refl
   where
-    go : (a : Bool) → ltb 0 place ≡ a
-        → pick a (refused s (refusal 11)) (record { answer = Answers.Done; stream = next })
-        ≡ pick a (refused s (refusal 11)) (pick (leb (0 - place) (size - s .offset)) (record { answer = Answers.Done; stream = at next (s .offset + (0 - place)) }) (record { answer = Answers.Full (place + (size - s .offset)); stream = at s size }))
+    go : (beyond : Bool) → ltb 0 place ≡ beyond
+        → leftBy (pick beyond (refused s (refusal 11)) (record { answer = Answers.Done; stream = next })) b
+        ≡ emittedBy beyond (leb (0 - place) (length b - s .offset)) s b [] place next
     go true q = refl
     go false q =
         let z : place ≤ 0 = ltb-false 0 place q in
         let f : next .offset ≡ s .offset + (0 - place) = omega arith in
-        ap (λ (n : ℕ). record { answer = Answers.Done; stream = at next n }) f ∙ sym (simp (le-leb (0 - place) (size - s .offset) (omega arith)))
-
-left-nothing : (s : OStream) (b : List ℕ) (place : ℕ) → b ≡ left s b [] place
-unfolding left
-left-nothing s b place = go (ltb 0 place)
-  where
-    go : (t : Bool) → b ≡ pick t b (put b (s .offset) (drop place []))
-    go true = refl
-    go false = let n : length (drop place []) ≡ 0 - place = length-drop {A = ℕ} place [] in sym (put-none b (s .offset) (drop place []) (omega arith))
+        let n : length (drop place []) ≡ 0 - place = length-drop {A = ℕ} place [] in
+        ap (λ (n : ℕ). record { said = through; stream = at next n; buf = b }) f
+        ∙ ap (λ (l : List ℕ). record { said = through; stream = at next (s .offset + (0 - place)); buf = l }) (sym (put-none b (s .offset) (drop place []) (omega arith)))
+        ∙ sym (simp (le-leb (0 - place) (length b - s .offset) (omega arith)))
 
 module _ (k : Call) (s : OStream) (b : List ℕ) (place : ℕ) (r : Written) where
-  pub refuses : (e : Error) → judged (k .tests) ≡ refusedWith e → r ≡ refused s e → (r ≡ called k s b place) × (b ≡ leaves k s b place)
-  unfolding called leaves calledBy leavesBy
-  refuses e j h = (h ∙ sym (ap (λ (v : Verdict). calledBy v k s b place) j), sym (ap (λ (v : Verdict). leavesBy v k s b place) j))
+  pub refuses : (e : Error) → judged (k .tests) ≡ refusedWith e → r ≡ refused s e → leftBy r b ≡ written k s b place
+  unfolding written writtenBy leftBy
+  refuses e j h = ap (λ (x : Written). leftBy x b) h ∙ sym (ap (λ (v : Verdict). writtenBy v k s b place) j)
 
   -- an output and a state as they are spelled
-  accepts : (o : List ℕ) (next : OStream) (b′ : List ℕ) → o ≡ k .output → next ≡ k .done → judged (k .tests) ≡ accepted
-      → r ≡ answered s (length b) (length o) place next → b′ ≡ left s b o place → (r ≡ called k s b place) × (b′ ≡ leaves k s b place)
-  unfolding called leaves calledBy leavesBy
-  accepts o next b′ eo en j h e = (
-    h
-        ∙ ap (λ (x : List ℕ). answered s (length b) (length x) place next) eo
-        ∙ ap (λ (n : OStream). answered s (length b) (length (k .output)) place n) en
-        ∙ sym (ap (λ (v : Verdict). calledBy v k s b place) j),
-    e ∙ ap (λ (x : List ℕ). left s b x place) eo ∙ sym (ap (λ (v : Verdict). leavesBy v k s b place) j),
-  )
+  accepts : (o : List ℕ) (next : OStream) (b′ : List ℕ) → o ≡ k .output → next ≡ k .done → judged (k .tests) ≡ accepted → leftBy r b′ ≡ emitted s b o place next → leftBy r b′ ≡ written k s b place
+  unfolding written writtenBy
+  accepts o next b′ eo en j h =
+      h
+      ∙ ap (λ (x : List ℕ). emitted s b x place next) eo
+      ∙ ap (λ (n : OStream). emitted s b (k .output) place n) en
+      ∙ sym (ap (λ (v : Verdict). writtenBy v k s b place) j)
 
   -- the output has been put as far as there is room
   pub settles : (o : List ℕ) (next : OStream) (out : Outcome) (b′ : List ℕ) → o ≡ k .output → next ≡ k .done → judged (k .tests) ≡ accepted → Ended (s .offset) b o place out b′
-      → r ≡ settled s (length b) next out → (r ≡ called k s b place) × (b′ ≡ leaves k s b place)
-  unfolding left leftAt
-  settles o next out b′ eo en j (e, f) h =
-      accepts o next b′ eo en j (h ∙ ap (settled s (length b) next) e ∙ settled-answered s (length b) (length o) place next) f
+      → r ≡ settled s (length b) next out → leftBy r b′ ≡ written k s b place
+  settles o next out b′ eo en j f h = accepts o next b′ eo en j (ap (λ (x : Written). leftBy x b′) h ∙ settled-emitted s b o place next out b′ f)
 
   -- there is no output
   pub alters : (next : OStream) → [] ≡ k .output → next ≡ k .done → judged (k .tests) ≡ accepted → s .offset ≤ length b → next .offset ≡ s .offset → r ≡ unwritten s place next
-      → (r ≡ called k s b place) × (b ≡ leaves k s b place)
-  alters next eo en j i q h = accepts [] next b eo en j (h ∙ unwritten-answered s (length b) place next i q) (left-nothing s b place)
+      → leftBy r b ≡ written k s b place
+  alters next eo en j i q h = accepts [] next b eo en j (ap (λ (x : Written). leftBy x b) h ∙ unwritten-emitted s b place next i q)
+
+-- ---- a field by the numbers of the state
+
+pub few-clears : (s : OStream) → s .npending ≤ lazyDepth → (out : Outcome) → Clears s out
+few-clears s h (Through end) = h
+few-clears s h (Full out) = tt
+few-clears s h (Refused e) = tt
+
+module _ (s : OStream) (b : List ℕ) (id n : ℕ) (bytes : List ℕ) (place : ℕ) (out : Outcome) (b′ : List ℕ) (w : wentBy out b′ ≡ fieldFrom (s .offset) (s .depth) (s .npending) (s .pending) b id n bytes place) where
+  -- where it is all out, the state was sound
+  pub field-clears : Clears s out
+  unfolding soundStream wentBy goesBy
+  field-clears = go (judged (fieldTests s (length b) id n)) refl w
+    where
+      go : (v : Verdict) → judged (fieldTests s (length b) id n) ≡ v → wentBy out b′ ≡ goesBy v (s .offset) b (headersOf (s .npending) (s .pending) ++ bytes) place → Clears s out
+      go accepted j w = few-clears s (is-sound s (length b) (check-sound (soundStream s (length b)) (idTooLarge id ∷ payloadTooLong n ∷ []) j) .few) out
+      go (refusedWith e) j w = subst (Clears s) (sym (ap (λ (g : Went). g .outcome) w)) tt
+
+  -- what it came to is what the call says and leaves
+  pub goes : (k : Call) (r : Written) → judged (fieldTests s (length b) id n) ≡ judged (k .tests) → heldBytes s ++ bytes ≡ k .output → committed s (s .depth) ≡ k .done → r ≡ settled s (length b) (committed s (s .depth)) out
+      → leftBy r b′ ≡ written k s b place
+  unfolding soundStream heldBytes wentBy goesBy written writtenBy leftBy
+  goes k r j o d h =
+      ap (λ (x : Written). leftBy x b′) h
+      ∙ go (judged (fieldTests s (length b) id n)) w
+      ∙ ap (λ (v : Verdict). writtenBy v k s b place) j
+    where
+      go : (v : Verdict) → wentBy out b′ ≡ goesBy v (s .offset) b (headersOf (s .npending) (s .pending) ++ bytes) place → leftBy (settled s (length b) (committed s (s .depth)) out) b′ ≡ writtenBy v k s b place
+      go accepted w =
+          settled-emitted s b (heldBytes s ++ bytes) place (committed s (s .depth)) out b′ (ap (λ (g : Went). g .outcome) w, ap (λ (g : Went). g .buf) w)
+          ∙ ap (λ (l : List ℕ). emitted s b l place (committed s (s .depth))) o ∙ ap (λ (next : OStream). emitted s b (k .output) place next) d
+      go (refusedWith e) w =
+          ap (λ (x : Outcome). leftBy (settled s (length b) (committed s (s .depth)) x) b′) (ap (λ (g : Went). g .outcome) w)
+          ∙ ap (leftBy (refused s e)) (ap (λ (g : Went). g .buf) w)
 
 -- two calls that come to the same
-pub recalled : (k k′ : Call) (s : OStream) (b : List ℕ) (place : ℕ) → judged (k .tests) ≡ judged (k′ .tests) → k .output ≡ k′ .output → k .done ≡ k′ .done
-    → (r : Written) (b′ : List ℕ) → (r ≡ called k s b place) × (b′ ≡ leaves k s b place) → (r ≡ called k′ s b place) × (b′ ≡ leaves k′ s b place)
-unfolding called leaves calledBy leavesBy
-recalled k k′ s b place j o d r b′ (e, f) = (e ∙ ap (λ (v : Verdict). calledBy v k s b place) j ∙ answers (judged (k′ .tests)), f ∙ ap (λ (v : Verdict). leavesBy v k s b place) j ∙ buffers (judged (k′ .tests)))
+pub recalled : (k k′ : Call) (s : OStream) (b : List ℕ) (place : ℕ) → judged (k .tests) ≡ judged (k′ .tests) → k .output ≡ k′ .output → k .done ≡ k′ .done → written k s b place ≡ written k′ s b place
+unfolding written writtenBy
+recalled k k′ s b place j o d = ap (λ (v : Verdict). writtenBy v k s b place) j ∙ go (judged (k′ .tests))
   where
-    answers : (v : Verdict) → calledBy v k s b place ≡ calledBy v k′ s b place
-    answers accepted = ap (λ (l : List ℕ). answered s (length b) (length l) place (k .done)) o ∙ ap (λ (n : OStream). answered s (length b) (length (k′ .output)) place n) d
-    answers (refusedWith e) = refl
-
-    buffers : (v : Verdict) → leavesBy v k s b place ≡ leavesBy v k′ s b place
-    buffers accepted = ap (λ (l : List ℕ). left s b l place) o
-    buffers (refusedWith e) = refl
+    go : (v : Verdict) → writtenBy v k s b place ≡ writtenBy v k′ s b place
+    go accepted = ap (λ (l : List ℕ). emitted s b l place (k .done)) o ∙ ap (λ (n : OStream). emitted s b (k′ .output) place n) d
+    go (refusedWith e) = refl

@@ -8,9 +8,8 @@ use Rattle.layout.specs.Copy.{fieldBytes}
 use Rattle.types.specs.Types.{fixlenType}
 use Rattle.emit.proofs.Low.{length-low}
 use Rattle.ostream.specs.declared.OStream.{OStream}
-use Rattle.ostream.specs.declared.Written.{Written}
 use Rattle.ostream.specs.Stream.{heldBytes}
-use Rattle.ostream.specs.Emission.{judged, called, leaves}
+use Rattle.ostream.specs.Emission.{judged, written}
 use Rattle.ostream.specs.Calls.{rawCall, floatCall, fixlenBytes}
 use Rattle.ostream.proofs.Called.{recalled}
 
@@ -29,8 +28,6 @@ output fp64 s size id x bytes e =
     ap (λ (l : List ℕ). heldBytes s ++ (header id T-fixlen ++ (word (length l) (float fp64) ++ l))) e
     ∙ ap (λ (n : ℕ). heldBytes s ++ (header id T-fixlen ++ (word n (float fp64) ++ lowBytes 8 x))) (length-low 8 x)
 
-pub float-call : (w : Width) (s : OStream) (b : List ℕ) (size place id x : ℕ) (bytes : List ℕ) → bytes ≡ lowBytes (bytesOf w) x → (r : Written) (b′ : List ℕ)
-    → (r ≡ called (rawCall s size id bytes (fixlenType (float w))) s b place) × (b′ ≡ leaves (rawCall s size id bytes (fixlenType (float w))) s b place)
-    → (r ≡ called (floatCall s size id w x) s b place) × (b′ ≡ leaves (floatCall s size id w x) s b place)
-float-call w s b size place id x bytes e r b′ h =
-    recalled _ _ s b place (verdict w s size id x bytes (ap length e ∙ length-low (bytesOf w) x)) (output w s size id x bytes e) refl r b′ h
+pub float-call : (w : Width) (s : OStream) (b : List ℕ) (size place id x : ℕ) (bytes : List ℕ) → bytes ≡ lowBytes (bytesOf w) x
+    → written (rawCall s size id bytes (fixlenType (float w))) s b place ≡ written (floatCall s size id w x) s b place
+float-call w s b size place id x bytes e = recalled _ _ s b place (verdict w s size id x bytes (ap length e ∙ length-low (bytesOf w) x)) (output w s size id x bytes e) refl

@@ -1,5 +1,5 @@
 -- Writing straight away: what the tests of a field that holds nothing say of the state, and a call that is made so.
-use mathlib.Core.Path.{_≡_, refl, sym, ap, _∙_, subst}
+use mathlib.Core.Path.{_≡_, refl, sym, ap, _∙_}
 use mathlib.Core.List.{List, [], _∷_, _++_}
 use mathlib.Core.Bool.{true, _&&_}
 use Prim.Native.Nat.{ℕ, _+_, _≤_, _<_}
@@ -20,7 +20,7 @@ use Rattle.ostream.specs.declared.Written.{Written}
 use Rattle.ostream.specs.Stream.{every, soundStream, lazyDepth, heldBytes, at}
 use Rattle.ostream.specs.Straight.{holds}
 use Rattle.ostream.specs.Calls.{unsound, idTooLarge, arrayTooLong, fieldTests}
-use Rattle.ostream.specs.Emission.{Call, accepted, judged, called, leaves}
+use Rattle.ostream.specs.Emission.{Call, accepted, judged, leftBy, written}
 use Rattle.ostream.proofs.Called.{both, none-held, settles}
 
 -- ---- the state
@@ -100,14 +100,13 @@ spelled s e h n l q = ap (λ (x : ℕ). shortest x ++ l) q ∙ ap (λ (x : List 
 -- a call whose output goes straight away
 pub straight : (k : Call) (s : OStream) (b o : List ℕ) (place end : ℕ) (b′ : List ℕ) (next : OStream) → judged (k .tests) ≡ accepted → o ≡ k .output → next ≡ k .done → place ≡ 0
     → s .offset + length o ≤ length b → Whole b (s .offset) o b′ end
-    → (record { answer = Done; stream = at next end } ≡ called k s b place) × (b′ ≡ leaves k s b place)
+    → leftBy (record { answer = Done; stream = at next end }) b′ ≡ written k s b place
 straight k s b o place end b′ next j eo en z h w = settles k s b place _ o next _ b′ eo en j (at-once (s .offset) b o place end b′ z h w) refl
 
 -- a call that is left to another of the same statement, with the state made anew and the buffer unaltered
 pub left-to : (k : OStream → ℕ → Call) (s s′ : OStream) (b b0 : List ℕ) (place : ℕ) (r r′ : Written) (b′ : List ℕ) → s′ ≡ s → b0 ≡ b → r′ ≡ r
-    → (r ≡ called (k s′ (length b0)) s′ b0 place) × (b′ ≡ leaves (k s′ (length b0)) s′ b0 place)
-    → (r′ ≡ called (k s (length b)) s b place) × (b′ ≡ leaves (k s (length b)) s b place)
+    → leftBy r b′ ≡ written (k s′ (length b0)) s′ b0 place → leftBy r′ b′ ≡ written (k s (length b)) s b place
 left-to k s s′ b b0 place r r′ b′ es eb er h =
-    let g = subst (λ (x : OStream). (r ≡ called (k x (length b0)) x b0 place) × (b′ ≡ leaves (k x (length b0)) x b0 place)) es h in
-    let f = subst (λ (x : List ℕ). (r ≡ called (k s (length x)) s x place) × (b′ ≡ leaves (k s (length x)) s x place)) eb g in
-    (er ∙ f .0, f .1)
+    ap (λ (x : Written). leftBy x b′) er ∙ h
+    ∙ ap (λ (x : OStream). written (k x (length b0)) x b0 place) es
+    ∙ ap (λ (l : List ℕ). written (k s (length l)) s l place) eb

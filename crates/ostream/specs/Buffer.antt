@@ -3,6 +3,8 @@ use mathlib.Core.Bool.{Bool}
 use mathlib.Core.List.{List, [], _∷_}
 use Prim.Native.Nat.{ℕ}
 use lib.ListN.{take}
+use Rattle.buffers.specs.declared.Moved.{Moved}
+use Rattle.buffers.specs.declared.Moved.the-variants as moved
 use Rattle.ostream.specs.declared.OStream.{OStream}
 use Rattle.ostream.specs.declared.Answer.the-variants.{Done}
 use Rattle.ostream.specs.declared.Written.{Written}
@@ -21,6 +23,11 @@ openedBy (refusedWith e) offset = refused (opened 0) e
 unfoldable pub opening : ℕ → ℕ → Bool → Written
 opening size offset drained = openedBy (judged (badBuffer size offset drained ∷ [])) offset
 
+-- by where a call about buffers goes on: the old position is answered, and the state is at the new one
+abbrev pub countedAt : OStream → Moved → Counted
+countedAt s (moved.To sent pos) = record { answer = Bytes sent; stream = at s pos }
+countedAt s (moved.Refused e) = record { answer = Refused e; stream = s }
+
 -- The old position is answered, and the state is at another.
 abbrev pub countedBy : Verdict → OStream → ℕ → Counted
 countedBy accepted s pos = record { answer = Bytes (s .offset); stream = at s pos }
@@ -33,7 +40,7 @@ draining s size = countedBy (judged (unsound s size ∷ [])) s 0
 abbrev pub sent : OStream → List ℕ → List ℕ
 sent s b = take (s .offset) b
 
--- "Changing the buffer keeps depth and held ids, sets the position to the new offset, and answers the old position. Number 5 judges
+-- "Changing the buffer keeps depth and held ids, sets the position to the new offset, and answers the old position"; "Number 5 judges
 -- the new buffer there, then number 6 the state by the old one."
 unfoldable pub changing : OStream → ℕ → ℕ → ℕ → Bool → Counted
 changing s old new offset drained = countedBy (judged (badBuffer new offset drained ∷ unsound s old ∷ [])) s offset

@@ -7,7 +7,7 @@ use lib.ListN.{length}
 use lib.IntN.{ℤ}
 use Rattle.layout.specs.Limits.{pick}
 use Rattle.layout.specs.Varint.{shortest}
-use Rattle.layout.specs.Field.{Width, Raw, Subtype, header, word, float, unsigned, signed, payload, unsignedArray, signedArray, floatArray, begin, end, T-fixlen}
+use Rattle.layout.specs.Field.{Width, Raw, float, unsigned, signed, payload, unsignedArray, signedArray, floatArray, begin, end}
 use Rattle.layout.specs.Copy.{fieldBytes}
 use Rattle.types.specs.declared.FixlenType.{FixlenType}
 use Rattle.types.specs.Types.{subtype}
@@ -16,6 +16,7 @@ use Rattle.ostream.specs.declared.OStream.{OStream}
 use Rattle.ostream.specs.Stream.{soundStream, lazyDepth, heldBytes, committed, holding, dropped}
 use Rattle.ostream.specs.Emission.{Test, Call}
 pub use Rattle.answers.specs.Tests.{stringSubtype, idTooLarge, payloadTooLong, arrayTooLong}
+unfoldable pub use Rattle.checked.specs.Went.{fixlenBytes}
 
 -- ---- the refusals that look at the state; the others are `Tests` of `answers`
 
@@ -30,7 +31,7 @@ tooDeep s = deepest (s .depth)
 abbrev pub noneOpen : OStream → Test
 noneOpen s = outermost (s .depth)
 
--- the tests that a field with a payload or array of n begins with
+-- the tests of a field with a payload of n bytes
 abbrev pub fieldTests : OStream → ℕ → ℕ → ℕ → List Test
 fieldTests s size id n = unsound s size ∷ idTooLarge id ∷ payloadTooLong n ∷ []
 
@@ -59,13 +60,9 @@ booleanCall s size id b = unsignedCall s size id (pick b 1 0)
 
 -- ---- fixed-length fields
 
--- "A float subtype is written at any data length": the bytes are given, not the float.
-unfoldable pub fixlenBytes : ℕ → Subtype → List ℕ → List ℕ
-fixlenBytes id t bytes = header id T-fixlen ++ (word (length bytes) t ++ bytes)
-
 -- `write_fixlen_raw`, and the general writer above it, which "refuses the string subtype"
 abbrev pub rawCall : OStream → ℕ → ℕ → List ℕ → FixlenType → Call
-rawCall s size id bytes t = content (unsound s size ∷ idTooLarge id ∷ payloadTooLong (length bytes) ∷ []) s (fixlenBytes id (subtype t) bytes)
+rawCall s size id bytes t = content (fieldTests s size id (length bytes)) s (fixlenBytes id (subtype t) bytes)
 
 abbrev pub fixlenCall : OStream → ℕ → ℕ → List ℕ → FixlenType → Call
 fixlenCall s size id bytes t =
@@ -75,8 +72,7 @@ abbrev pub floatCall : OStream → ℕ → ℕ → Width → ℕ → Call
 floatCall s size id w bits = scalar s size id (fieldBytes (float id w bits))
 
 abbrev pub payloadCall : OStream → ℕ → ℕ → Raw → List ℕ → Call
-payloadCall s size id r bytes =
-    content (unsound s size ∷ idTooLarge id ∷ payloadTooLong (length bytes) ∷ []) s (fieldBytes (payload id r bytes))
+payloadCall s size id r bytes = content (fieldTests s size id (length bytes)) s (fieldBytes (payload id r bytes))
 
 -- ---- arrays
 

@@ -1,5 +1,6 @@
 -- One call of the writer: its refusals in order, its whole output, and the state that it leaves once all of that is out.
 -- Every writing call is these three and a place in the output to go on from.
+use mathlib.Core.Bool.{Bool}
 use mathlib.Core.List.{List}
 use Prim.Native.Nat.{ℕ, _+_, _-_}
 use lib.Dec.{leb, ltb}
@@ -7,8 +8,9 @@ use lib.ListN.{length, drop}
 use Rattle.layout.specs.Limits.{pick}
 use Rattle.emit.specs.Put.{put}
 use Rattle.types.specs.declared.Error.{Error}
-use Rattle.types.specs.Types.{refusal}
+use Rattle.types.specs.Types.{numberOf}
 use Rattle.ostream.specs.declared.OStream.{OStream}
+use Rattle.ostream.specs.declared.Answer.{Answer}
 use Rattle.ostream.specs.declared.Answer.the-variants.{Done, Full, Refused}
 use Rattle.ostream.specs.declared.Written.{Written}
 use Rattle.ostream.specs.Stream.{at}
@@ -19,37 +21,56 @@ pub record Call : Type 0 where
   pub output : List ℕ
   pub done : OStream
 
+-- ---- what a call says and leaves
+
+-- All its bytes are out; "full", with how many of them are; or a refusal's number.
+pub data Said : Type 0 where
+  through : Said
+  full : ℕ → Said
+  number : ℕ → Said
+
+abbrev pub saidOf : Answer → Said
+saidOf Done = through
+saidOf (Full n) = full n
+saidOf (Refused e) = number (numberOf e)
+
+-- What it says, the state, and the lent buffer.
+pub record Left : Type 0 where
+  pub said : Said
+  pub stream : OStream
+  pub buf : List ℕ
+
+-- the same of the code's result, and of the buffer as the call leaves it
+unfoldable pub leftBy : Written → List ℕ → Left
+leftBy r b = record { said = saidOf (r .answer); stream = r .stream; buf = b }
+
 abbrev pub refused : OStream → Error → Written
 refused s e = record { answer = Refused e; stream = s }
 
--- The answer and the state, where `total` bytes of output are gone on with from a place, in a buffer of `size` bytes.
--- "Number 11: the place to go on from exceeds the call's whole output." "`Full`: the buffer is then written to its end, a writer's
--- state differs only in position, and the answer is the count of this call's bytes now out, counted from its first byte."
-unfoldable pub answered : OStream → ℕ → ℕ → ℕ → OStream → Written
-answered s size total place next =
-    pick (ltb total place) (refused s (refusal 11))
-    (pick (leb (total - place) (size - s .offset))
-    (record { answer = Done; stream = at next (s .offset + (total - place)) })
-    (record { answer = Full (place + (size - s .offset)); stream = at s size }))
+-- a refusal: "state and buffer unaltered"
+abbrev pub untouched : ℕ → OStream → List ℕ → Left
+untouched n s b = record { said = number n; stream = s; buf = b }
 
--- the buffer then: as many of the bytes still to go as there is room for, from the position on
-unfoldable pub left : OStream → List ℕ → List ℕ → ℕ → List ℕ
-left s b o place = pick (ltb (length o) place) b (put b (s .offset) (drop place o))
+-- ---- a call
 
--- ---- a call: the answer and the state, and the buffer
+-- An output, gone on with from a place: as many of the bytes still to go as there is room for, from the position on.
+-- "Number 11: the place to go on from exceeds the call's whole output." "Full": "the buffer is then written to its end, a writer's state
+-- differs only in position, and the answer is the count of this call's bytes (held headers included) now out, counted from its first byte".
+-- It is told whether the place lies beyond the output, and whether there is room for the rest.
+abbrev pub emittedBy : Bool → Bool → OStream → List ℕ → List ℕ → ℕ → OStream → Left
+emittedBy beyond fits s b o place next =
+    pick beyond (untouched 11 s b)
+    (pick fits
+    (record { said = through; stream = at next (s .offset + (length o - place)); buf = put b (s .offset) (drop place o) })
+    (record { said = full (place + (length b - s .offset)); stream = at s (length b); buf = put b (s .offset) (drop place o) }))
 
-unfoldable pub calledBy : Verdict → Call → OStream → List ℕ → ℕ → Written
-calledBy accepted c s b place = answered s (length b) (length (c .output)) place (c .done)
-calledBy (refusedWith e) c s b place = refused s e
+unfoldable pub emitted : OStream → List ℕ → List ℕ → ℕ → OStream → Left
+emitted s b o place next = emittedBy (ltb (length o) place) (leb (length o - place) (length b - s .offset)) s b o place next
 
-unfoldable pub leavesBy : Verdict → Call → OStream → List ℕ → ℕ → List ℕ
-leavesBy accepted c s b place = left s b (c .output) place
-leavesBy (refusedWith e) c s b place = b
+unfoldable pub writtenBy : Verdict → Call → OStream → List ℕ → ℕ → Left
+writtenBy accepted c s b place = emitted s b (c .output) place (c .done)
+writtenBy (refusedWith e) c s b place = untouched (numberOf e) s b
 
-unfoldable pub called : Call → OStream → List ℕ → ℕ → Written
-unfolding calledBy
-called c s b place = calledBy (judged (c .tests)) c s b place
-
-unfoldable pub leaves : Call → OStream → List ℕ → ℕ → List ℕ
-unfolding leavesBy
-leaves c s b place = leavesBy (judged (c .tests)) c s b place
+unfoldable pub written : Call → OStream → List ℕ → ℕ → Left
+unfolding writtenBy
+written c s b place = writtenBy (judged (c .tests)) c s b place

@@ -1,6 +1,6 @@
 -- What private functions come to: no public call cites these.
 use mathlib.Core.Bool.{Bool, _&&_}
-use Prim.Native.Nat.{ℕ}
+use Prim.Native.Nat.{ℕ, _≤_}
 use lib.Dec.{leb, ltb}
 use Rattle.layout.specs.Limits.{base, pick}
 use Rattle.types.specs.Types.{refusal}
@@ -15,6 +15,12 @@ use Rattle.ostream.specs.Emission.{refused}
 -- whether a sequence can be opened and held back
 unfoldable pub holds : OStream → ℕ → ℕ → Bool
 holds s size id = ltb (s .npending) lazyDepth && (ltb (s .depth) (base .depth) && (leb id (base .id) && soundStream s size))
+
+-- what the answer asks of the state: once all is out the places in use are cleared, of which there are eight
+abbrev pub Clears : OStream → Outcome → Type 0
+Clears s (Through end) = s .npending ≤ lazyDepth
+Clears s (Full out) = Unit {0}
+Clears s (Refused e) = Unit {0}
 
 -- the answer and the state by what a call comes to, where `next` is the state once all is out
 abbrev pub settled : OStream → ℕ → OStream → Outcome → Written

@@ -10,7 +10,7 @@ use Rattle.layout.specs.Limits.{pick}
 use Rattle.types.specs.Types.{refusal}
 use Rattle.ostream.specs.declared.OStream.{OStream}
 use Rattle.ostream.specs.Stream.{at, soundStream}
-use Rattle.ostream.specs.Emission.{Test, Verdict, accepted, refusedWith, judged, Call, called, calledBy}
+use Rattle.ostream.specs.Emission.{Test, Verdict, accepted, refusedWith, judged, Call, writtenBy, written}
 use Rattle.ostream.specs.Calls.{unsound, idTooLarge, tooDeep, noneOpen}
 use Rattle.ostream.specs.Buffer.{badBuffer, countedBy, draining, changing}
 use Rattle.writes.specs.Series.{callOf, numbersIn, numbersOf, writes, drains, changes, said}
@@ -58,8 +58,8 @@ short-verdict keeps s size h = short-tests s size (noneOpen s ∷ []) h
 
 -- "Number 6: the writer state isn't sound for the lent buffer", so such calls may stand anywhere in a series.
 pub short-write : (w : Write) (s : OStream) (b : List ℕ) (place : ℕ) → length b < s .offset → said (writes (op w) b place) s .numbers ≡ 6 ∷ []
-unfolding called calledBy
-short-write w s b place h = ap (λ (v : Verdict). numbersIn (calledBy v (callOf (op w) s (length b)) s b place .answer)) (short-verdict w s (length b) h)
+unfolding written writtenBy
+short-write w s b place h = ap (λ (v : Verdict). numbersIn (writtenBy v (callOf (op w) s (length b)) s b place .said)) (short-verdict w s (length b) h)
 
 pub short-drain : (s : OStream) (b : List ℕ) → length b < s .offset → said (drains b) s .numbers ≡ 6 ∷ []
 unfolding draining

@@ -7,8 +7,6 @@ use mathlib.Core.Path.{_≡_, refl, sym, ap, _∙_, subst}
 use mathlib.Core.Bool.{Bool, true, false}
 use mathlib.Core.List.{List, [], _∷_, _++_}
 use mathlib.Core.Logic.{_⊎_, inl, inr}
-use lib.Dec.{ltb, leb}
-use borrow.Author.Tests.{le-ltb, lt-leb}
 use lib.ListN.{take, length, drop, length-append, length-drop}
 use Rattle.layout.specs.Limits.{pick}
 use Rattle.layout.specs.Message.{All}
@@ -20,8 +18,9 @@ use Rattle.ostream.specs.declared.Counted.{Counted}
 use Rattle.ostream.specs.Stream.{at}
 use Rattle.ostream.specs.Emission.{Verdict, accepted, refusedWith}
 use Rattle.ostream.proofs.Called.{is-sound}
+use Rattle.ostream.proofs.Buffers.{fits, change-taken}
 use Rattle.writes.specs.Series.{Op, verdict, outputBy, doneBy, Steady, outputs, Desk, Act, write, drain, change, aside, other, sending, writing, act, acts, none, Allowed, Lawful, Plain, Frees, next, Outcome, ended, underway, carried, Ends}
-use Rattle.writes.proofs.Runs.{Placed, Fine, outputs-at, outputs-first, placed-in, kept-all, kept-part, kept-none, by-write, change-taken, drained-desk, keeps}
+use Rattle.writes.proofs.Runs.{Placed, Fine, outputs-at, outputs-first, placed-in, kept-all, kept-part, kept-none, by-write, drained-desk, keeps}
 
 -- Only an end is told as one: where the turns run out, none is.
 pub carried-ended : (sink : Desk → Act) (n : ℕ) (d e : Desk) → carried sink n d ≡ ended e → e .ops ≡ []
@@ -53,11 +52,7 @@ record Ready (d : Desk) : Type 0 where
 changed-desk : (d : Desk) (b : List ℕ) (o : ℕ) (drained : Bool) → Fine d → o < length b
     → act (change b o drained) d ≡ sending d (Counts.Bytes (d .stream .offset)) (at (d .stream) o) b (take o b)
 unfolding act
-changed-desk d b o drained f h = ap (λ (r : Counted). sending d (r .answer) (r .stream) b (take o b)) (change-taken d b o drained f (fits drained))
-  where
-    fits : (t : Bool) → pick t (leb (length b) o) (ltb (length b) o) ≡ false
-    fits true = lt-leb (length b) o h
-    fits false = le-ltb (length b) o (omega arith)
+changed-desk d b o drained f h = ap (λ (r : Counted). sending d (r .answer) (r .stream) b (take o b)) (change-taken (d .stream) (length (d .buf)) (length b) o drained (fits (length b) o drained h) (f .sound .0))
 
 -- At "full" a byte is freed, and what is to be done stays.
 record Freed (d x : Desk) : Type 0 where

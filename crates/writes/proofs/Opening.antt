@@ -5,30 +5,20 @@ use native.Mathlib.Omega.{arith}
 use mathlib.Core.Path.{_≡_, refl, sym, ap, _∙_, subst}
 use mathlib.Core.Bool.{Bool, true, false}
 use mathlib.Core.List.{List, [], _∷_, _++_}
-use lib.Dec.{ltb, leb}
-use borrow.Author.Tests.{leb-false, ltb-false, le-ltb}
+use borrow.Author.Tests.{le-ltb}
 use lib.ListN.{length, take, drop-of-length-le}
 use lib.Seq.{length-take-le}
-use Rattle.layout.specs.Limits.{pick}
-use Rattle.types.specs.Types.{refusal}
 use Rattle.ostream.specs.declared.Answer.the-variants.{Done}
 use Rattle.ostream.specs.declared.Written.{Written}
 use Rattle.ostream.specs.Stream.{every, opened}
-use Rattle.ostream.specs.Emission.{refused}
-use Rattle.ostream.specs.Buffer.{opening}
+use Rattle.ostream.specs.Emission.{saidOf}
+use Rattle.ostream.specs.Buffer.{badBuffer, opening}
+use Rattle.ostream.proofs.Buffers.{fit, open-taken, open-refused}
 use Rattle.writes.specs.Series.{Able, Op, outputs, Desk, numbersIn, reservedBy, fresh, begun}
 use Rattle.writes.specs.Written.{Write, opsOf, series, messageOf, refusedOf, stateOf}
 use Rattle.writes.proofs.Runs.{whole, wholeRefused, lastState, Fine, at-start, outputs-at, refusals-at, finally-at}
 use Rattle.writes.proofs.Drains.{Lean}
 use Rattle.writes.proofs.Written.{make-sound, steady, outputs-written}
-
-opening-refused : (b : List ℕ) (o : ℕ) (drained : Bool) → pick drained (leb (length b) o) (ltb (length b) o) ≡ true → opening (length b) o drained ≡ refused (opened 0) (refusal 5)
-unfolding opening
-opening-refused b o drained t = simp t
-
-opening-taken : (b : List ℕ) (o : ℕ) (drained : Bool) → pick drained (leb (length b) o) (ltb (length b) o) ≡ false → opening (length b) o drained ≡ record { answer = Done; stream = opened o }
-unfolding opening
-opening-taken b o drained t = simp t
 
 -- `OStream::new` is an opening at 0 that is taken over every buffer.
 pub opening-new : (size : ℕ) → opening size 0 false ≡ record { answer = Done; stream = opened 0 }
@@ -39,16 +29,12 @@ opening-new size = simp (le-ltb size 0 (omega arith))
 by-opening : (P : Desk → Type 0) (b : List ℕ) (o : ℕ) (drained : Bool) (ops : List Op) → (o ≤ length b → P (fresh (opened o) b (take o b) ops [])) → P (fresh (opened 0) b [] ops (5 ∷ []))
     → P (begun b o drained ops)
 unfolding begun
-by-opening P b o drained ops opens stays = go (pick drained (leb (length b) o) (ltb (length b) o)) refl
+by-opening P b o drained ops opens stays = go (badBuffer (length b) o drained .fails) refl
   where
-    fit : (drained : Bool) → pick drained (leb (length b) o) (ltb (length b) o) ≡ false → o ≤ length b
-    fit true h = omega (arith, leb-false (length b) o h)
-    fit false h = ltb-false (length b) o h
-
-    go : (t : Bool) → pick drained (leb (length b) o) (ltb (length b) o) ≡ t
-        → P (fresh (opening (length b) o drained .stream) b (reservedBy (opening (length b) o drained .answer) b o) ops (numbersIn (opening (length b) o drained .answer)))
-    go true t = subst (λ (r : Written). P (fresh (r .stream) b (reservedBy (r .answer) b o) ops (numbersIn (r .answer)))) (sym (opening-refused b o drained t)) stays
-    go false t = subst (λ (r : Written). P (fresh (r .stream) b (reservedBy (r .answer) b o) ops (numbersIn (r .answer)))) (sym (opening-taken b o drained t)) (opens (fit drained t))
+    go : (t : Bool) → badBuffer (length b) o drained .fails ≡ t
+        → P (fresh (opening (length b) o drained .stream) b (reservedBy (opening (length b) o drained .answer) b o) ops (numbersIn (saidOf (opening (length b) o drained .answer))))
+    go true t = subst (λ (r : Written). P (fresh (r .stream) b (reservedBy (r .answer) b o) ops (numbersIn (saidOf (r .answer))))) (sym (open-refused (length b) o drained t)) stays
+    go false t = subst (λ (r : Written). P (fresh (r .stream) b (reservedBy (r .answer) b o) ops (numbersIn (saidOf (r .answer))))) (sym (open-taken (length b) o drained t)) (opens (fit (length b) o drained t))
 
 pub fresh-able : (o size : ℕ) → o ≤ size → Able (opened o) size
 unfolding opened every

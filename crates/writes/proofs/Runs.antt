@@ -7,25 +7,24 @@ use mathlib.Core.Path.{_≡_, refl, sym, ap, _∙_, subst}
 use mathlib.Core.Bool.{Bool, true, false}
 use mathlib.Core.List.{List, [], _∷_, _++_, append-assoc, append-nil}
 use lib.Dec.{ltb, leb}
-use borrow.Author.Tests.{ltb-false, leb-true, leb-false, le-ltb, le-leb, lt-leb}
+use borrow.Author.Tests.{leb-true, leb-false}
 use lib.ListN.{length, take, drop, length-take, length-drop, take-append-drop, drop-of-length-le}
 use lib.Seq.{take-all, take-take, take-append-le, length-take-le, drop-append-le, drop-drop}
-use Rattle.layout.specs.Limits.{pick}
 use Rattle.layout.specs.Message.{All}
 use Rattle.types.specs.declared.Error.{Error}
-use Rattle.types.specs.Types.{numberOf, refusal}
+use Rattle.types.specs.Types.{numberOf}
 use Rattle.emit.specs.Put.{put}
 use Rattle.emit.proofs.Writes.{put-is, take-over, length-put}
 use Rattle.ostream.specs.declared.OStream.{OStream}
-use Rattle.ostream.specs.declared.Answer.the-variants.{Done, Full, Refused}
-use Rattle.ostream.specs.declared.Written.{Written}
 use Rattle.ostream.specs.declared.Count.the-variants as Counts
 use Rattle.ostream.specs.declared.Counted.{Counted}
-use Rattle.ostream.specs.Stream.{at, soundStream}
-use Rattle.ostream.specs.Emission.{Verdict, accepted, refusedWith, judged, refused, Call, answered, left, called, leaves, calledBy, leavesBy}
+use Rattle.ostream.specs.Stream.{at}
+use Rattle.ostream.specs.Emission.{Verdict, accepted, refusedWith, judged, Call, Left, through, full, number, untouched, emittedBy, emitted, writtenBy, written}
 use Rattle.ostream.specs.Calls.{unsound}
 use Rattle.ostream.specs.Buffer.{badBuffer, countedBy, draining, changing}
-use Rattle.ostream.proofs.Called.{is-sound, both}
+use Rattle.ostream.proofs.Called.{is-sound}
+use Rattle.ostream.proofs.Buffers.{sound-at, drained-is, fit, change-refused, change-taken}
+use Rattle.ostream.proofs.Answers.{written-refused, written-through, written-full}
 use Rattle.writes.specs.Series.{Able, Op, callOf, verdict, outputBy, doneBy, numbersBy, Steady, outputs, refusals, finally, Desk, numbersIn, numbersOf, Other, writes, drains, changes}
 use Rattle.writes.specs.Series.{Act, write, drain, change, aside, other, wrote, beside, sending, writing, said, act, acts, Refusal, Allowed, Lawful}
 
@@ -127,9 +126,8 @@ at-start s [] = refl
 at-start s (op ∷ ops) = omega arith
 
 -- a sound state at another position
-pub sound-at : (s : OStream) (size p q : ℕ) → Able s size → p ≤ q → Able (at s p) q
-unfolding soundStream
-sound-at s size p q h l = let r = both (leb (s .offset) size) _ (h .0) in (simp (le-leb p q l) (r .1), h .1)
+able-at : (s : OStream) (size p q : ℕ) → Able s size → p ≤ q → Able (at s p) q
+able-at s size p q h l = (sound-at s size p q (h .0) l, h .1)
 
 module _ (d : Desk) (op : Op) (rest : List Op) (f : Fine d) (e : d .ops ≡ op ∷ rest) where
   abbrev s : OStream
@@ -186,29 +184,20 @@ module _ (d : Desk) (op : Op) (rest : List Op) (f : Fine d) (e : d .ops ≡ op �
 
   -- all of it goes
   all-goes : verdict op s ≡ accepted → length o - d .place ≤ length b - s .offset
-      → (called k s b (d .place) ≡ record { answer = Done; stream = at (op .done s) (s .offset + (length o - d .place)) }) × (leaves k s b (d .place) ≡ put b (s .offset) (drop (d .place) o))
-  unfolding called leaves calledBy leavesBy answered left
-  all-goes a g =
-      let t : ltb (length o) (d .place) ≡ false = le-ltb _ _ (placed-in a) in
-      let u : leb (length o - d .place) (length b - s .offset) ≡ true = le-leb _ _ g in
-      (ap (λ (v : Verdict). calledBy v k s b (d .place)) (here ∙ a) ∙ simp (t, u), ap (λ (v : Verdict). leavesBy v k s b (d .place)) (here ∙ a) ∙ simp t)
+      → written k s b (d .place) ≡ record { said = through; stream = at (op .done s) (s .offset + (length o - d .place)); buf = put b (s .offset) (drop (d .place) o) }
+  all-goes a g = written-through k s b (d .place) (here ∙ a) (placed-in a) g
 
   -- as much as there is room for
   part-goes : verdict op s ≡ accepted → length b - s .offset < length o - d .place
-      → (called k s b (d .place) ≡ record { answer = Full (d .place + (length b - s .offset)); stream = at s (length b) }) × (leaves k s b (d .place) ≡ put b (s .offset) (drop (d .place) o))
-  unfolding called leaves calledBy leavesBy answered left
-  part-goes a g =
-      let t : ltb (length o) (d .place) ≡ false = le-ltb _ _ (placed-in a) in
-      let u : leb (length o - d .place) (length b - s .offset) ≡ false = lt-leb _ _ g in
-      (ap (λ (v : Verdict). calledBy v k s b (d .place)) (here ∙ a) ∙ simp (t, u), ap (λ (v : Verdict). leavesBy v k s b (d .place)) (here ∙ a) ∙ simp t)
+      → written k s b (d .place) ≡ record { said = full (d .place + (length b - s .offset)); stream = at s (length b); buf = put b (s .offset) (drop (d .place) o) }
+  part-goes a g = written-full k s b (d .place) (here ∙ a) (placed-in a) g
 
   -- nothing goes
-  none-goes : (x : Error) → verdict op s ≡ refusedWith x → (called k s b (d .place) ≡ refused s x) × (leaves k s b (d .place) ≡ b)
-  unfolding called leaves calledBy leavesBy
-  none-goes x a = (ap (λ (v : Verdict). calledBy v k s b (d .place)) (here ∙ a), ap (λ (v : Verdict). leavesBy v k s b (d .place)) (here ∙ a))
+  none-goes : (x : Error) → verdict op s ≡ refusedWith x → written k s b (d .place) ≡ untouched (numberOf x) s b
+  none-goes x a = written-refused k s b (d .place) x (here ∙ a)
 
   pub kept-all : verdict op s ≡ accepted → length o - d .place ≤ length b - s .offset
-      → Kept d (wrote d rest Done (at (op .done s) (s .offset + (length o - d .place))) (put b (s .offset) (drop (d .place) o)))
+      → Kept d (wrote d rest through (at (op .done s) (s .offset + (length o - d .place))) (put b (s .offset) (drop (d .place) o)))
   unfolding whole wholeRefused lastState
   kept-all a g =
       let X : List ℕ = drop (d .place) o in
@@ -244,7 +233,7 @@ module _ (d : Desk) (op : Op) (rest : List Op) (f : Fine d) (e : d .ops ≡ op �
       }
 
   pub kept-part : verdict op s ≡ accepted → length b - s .offset < length o - d .place
-      → Kept d (wrote d rest (Full (d .place + (length b - s .offset))) (at s (length b)) (put b (s .offset) (drop (d .place) o)))
+      → Kept d (wrote d rest (full (d .place + (length b - s .offset))) (at s (length b)) (put b (s .offset) (drop (d .place) o)))
   unfolding whole wholeRefused lastState
   kept-part a g =
       let X : List ℕ = drop (d .place) o in
@@ -261,7 +250,7 @@ module _ (d : Desk) (op : Op) (rest : List Op) (f : Fine d) (e : d .ops ≡ op �
       record {
         fine =
             record {
-              sound = sound-at s (length b) (length b) (length (put b (s .offset) X)) (f .sound) (omega (arith, l));
+              sound = able-at s (length b) (length b) (length (put b (s .offset) X)) (f .sound) (omega (arith, l));
               reserved = omega (arith, f .reserved, inside);
               as-came = below-stays b (s .offset) X r inside (f .reserved) ∙ f .as-came;
               steady = f .steady;
@@ -285,7 +274,7 @@ module _ (d : Desk) (op : Op) (rest : List Op) (f : Fine d) (e : d .ops ≡ op �
       least x y h = omega arith
 
   -- a refused one is passed over: it has written nothing, and its number is kept
-  pub kept-none : (x : Error) → verdict op s ≡ refusedWith x → Kept d (wrote d rest (Refused x) s b)
+  pub kept-none : (x : Error) → verdict op s ≡ refusedWith x → Kept d (wrote d rest (number (numberOf x)) s b)
   unfolding whole wholeRefused lastState
   kept-none x a =
       let z : d .place ≤ 0 = subst (λ (v : Verdict). d .place ≤ length (outputBy v op s)) a placed in
@@ -300,32 +289,23 @@ module _ (d : Desk) (op : Op) (rest : List Op) (f : Fine d) (e : d .ops ≡ op �
 -- a write, by its answer
 pub by-write : (P : Desk → Type 0) (d : Desk) (op : Op) (rest : List Op) (f : Fine d) (e : d .ops ≡ op ∷ rest)
     → (verdict op (d .stream) ≡ accepted → length (op .output (d .stream)) - d .place ≤ length (d .buf) - d .stream .offset
-    → P (wrote d rest Done (at (op .done (d .stream)) (d .stream .offset + (length (op .output (d .stream)) - d .place))) (put (d .buf) (d .stream .offset) (drop (d .place) (op .output (d .stream))))))
+    → P (wrote d rest through (at (op .done (d .stream)) (d .stream .offset + (length (op .output (d .stream)) - d .place))) (put (d .buf) (d .stream .offset) (drop (d .place) (op .output (d .stream))))))
     → (verdict op (d .stream) ≡ accepted → length (d .buf) - d .stream .offset < length (op .output (d .stream)) - d .place
-    → P (wrote d rest (Full (d .place + (length (d .buf) - d .stream .offset))) (at (d .stream) (length (d .buf))) (put (d .buf) (d .stream .offset) (drop (d .place) (op .output (d .stream))))))
-    → ((x : Error) → verdict op (d .stream) ≡ refusedWith x → P (wrote d rest (Refused x) (d .stream) (d .buf)))
+    → P (wrote d rest (full (d .place + (length (d .buf) - d .stream .offset))) (at (d .stream) (length (d .buf))) (put (d .buf) (d .stream .offset) (drop (d .place) (op .output (d .stream))))))
+    → ((x : Error) → verdict op (d .stream) ≡ refusedWith x → P (wrote d rest (number (numberOf x)) (d .stream) (d .buf)))
     → P (writing d (op ∷ rest))
 unfolding writing
 by-write P d op rest f e done part none =
     go (verdict op (d .stream)) refl (leb (length (op .output (d .stream)) - d .place) (length (d .buf) - d .stream .offset)) refl
   where
-    c : Call
-    c = callOf op (d .stream) (length (d .buf))
+    next : Left → Desk
+    next r = wrote d rest (r .said) (r .stream) (r .buf)
 
     go : (v : Verdict) → verdict op (d .stream) ≡ v → (t : Bool) → leb (length (op .output (d .stream)) - d .place) (length (d .buf) - d .stream .offset) ≡ t
-        → P (wrote d rest (called c (d .stream) (d .buf) (d .place) .answer) (called c (d .stream) (d .buf) (d .place) .stream) (leaves c (d .stream) (d .buf) (d .place)))
-    go accepted a true t =
-        let q = all-goes d op rest f e a (leb-true _ _ t) in
-        subst (λ (r : Written). P (wrote d rest (r .answer) (r .stream) (leaves c (d .stream) (d .buf) (d .place)))) (sym (q .0))
-        (subst (λ (l : List ℕ). P (wrote d rest Done (at (op .done (d .stream)) (d .stream .offset + (length (op .output (d .stream)) - d .place))) l)) (sym (q .1)) (done a (leb-true _ _ t)))
-    go accepted a false t =
-        let q = part-goes d op rest f e a (leb-false _ _ t) in
-        subst (λ (r : Written). P (wrote d rest (r .answer) (r .stream) (leaves c (d .stream) (d .buf) (d .place)))) (sym (q .0))
-        (subst (λ (l : List ℕ). P (wrote d rest (Full (d .place + (length (d .buf) - d .stream .offset))) (at (d .stream) (length (d .buf))) l)) (sym (q .1)) (part a (leb-false _ _ t)))
-    go (refusedWith x) a t u =
-        let q = none-goes d op rest f e x a in
-        subst (λ (r : Written). P (wrote d rest (r .answer) (r .stream) (leaves c (d .stream) (d .buf) (d .place)))) (sym (q .0))
-        (subst (λ (l : List ℕ). P (wrote d rest (Refused x) (d .stream) l)) (sym (q .1)) (none x a))
+        → P (next (written (callOf op (d .stream) (length (d .buf))) (d .stream) (d .buf) (d .place)))
+    go accepted a true t = subst (λ (r : Left). P (next r)) (sym (all-goes d op rest f e a (leb-true _ _ t))) (done a (leb-true _ _ t))
+    go accepted a false t = subst (λ (r : Left). P (next r)) (sym (part-goes d op rest f e a (leb-false _ _ t))) (part a (leb-false _ _ t))
+    go (refusedWith x) a t u = subst (λ (r : Left). P (next r)) (sym (none-goes d op rest f e x a)) (none x a)
 
 kept-writing : (d : Desk) (ops : List Op) (f : Fine d) → d .ops ≡ ops → Kept d (writing d ops)
 unfolding writing
@@ -348,7 +328,7 @@ kept-sending d b o f h =
     record {
       fine =
           record {
-            sound = sound-at (d .stream) (length (d .buf)) o (length b) (f .sound) h;
+            sound = able-at (d .stream) (length (d .buf)) o (length b) (f .sound) h;
             reserved = omega (arith, n);
             as-came = ap (λ (m : ℕ). take m b) n;
             steady = f .steady;
@@ -362,24 +342,6 @@ kept-sending d b o f h =
       left = λ q. finally-at (d .stream) o (d .ops) q (f .steady);
     }
 
-pub drained-is : (d : Desk) → Fine d → draining (d .stream) (length (d .buf)) ≡ record { answer = Counts.Bytes (d .stream .offset); stream = at (d .stream) 0 }
-unfolding draining
-drained-is d f = simp (f .sound .0)
-
-fit : (size o : ℕ) (drained : Bool) → pick drained (leb size o) (ltb size o) ≡ false → o ≤ size
-fit size o true h = omega (arith, leb-false size o h)
-fit size o false h = ltb-false size o h
-
-pub change-refused : (d : Desk) (b : List ℕ) (o : ℕ) (drained : Bool) → pick drained (leb (length b) o) (ltb (length b) o) ≡ true
-    → changing (d .stream) (length (d .buf)) (length b) o drained ≡ record { answer = Counts.Refused (refusal 5); stream = d .stream }
-unfolding changing
-change-refused d b o drained t = simp t
-
-pub change-taken : (d : Desk) (b : List ℕ) (o : ℕ) (drained : Bool) → Fine d → pick drained (leb (length b) o) (ltb (length b) o) ≡ false
-    → changing (d .stream) (length (d .buf)) (length b) o drained ≡ record { answer = Counts.Bytes (d .stream .offset); stream = at (d .stream) o }
-unfolding changing
-change-taken d b o drained f t = simp (t, f .sound .0)
-
 -- a call beside the series leaves all but its number
 kept-beside : (d : Desk) (numbers : List ℕ) → Fine d → Kept d (beside d (d .stream) (d .buf) numbers)
 unfolding whole wholeRefused lastState
@@ -391,42 +353,37 @@ pub by-change : (P : Desk → Type 0) (d : Desk) (b : List ℕ) (o : ℕ) (drain
     → P (beside d (d .stream) (d .buf) (5 ∷ []))
     → P (act (change b o drained) d)
 unfolding act
-by-change P d b o drained f goes stays = go (pick drained (leb (length b) o) (ltb (length b) o)) refl
+by-change P d b o drained f goes stays = go (badBuffer (length b) o drained .fails) refl
   where
-    go : (t : Bool) → pick drained (leb (length b) o) (ltb (length b) o) ≡ t
+    go : (t : Bool) → badBuffer (length b) o drained .fails ≡ t
         → P (sending d (changing (d .stream) (length (d .buf)) (length b) o drained .answer) (changing (d .stream) (length (d .buf)) (length b) o drained .stream) b (take o b))
-    go true t = subst (λ (r : Counted). P (sending d (r .answer) (r .stream) b (take o b))) (sym (change-refused d b o drained t)) stays
-    go false t = subst (λ (r : Counted). P (sending d (r .answer) (r .stream) b (take o b))) (sym (change-taken d b o drained f t)) (goes (fit (length b) o drained t))
+    go true t = subst (λ (r : Counted). P (sending d (r .answer) (r .stream) b (take o b))) (sym (change-refused (d .stream) (length (d .buf)) (length b) o drained t)) stays
+    go false t = subst (λ (r : Counted). P (sending d (r .answer) (r .stream) b (take o b))) (sym (change-taken (d .stream) (length (d .buf)) (length b) o drained t (f .sound .0))) (goes (fit (length b) o drained t))
 
 pub drained-desk : (d : Desk) → Fine d → act drain d ≡ sending d (Counts.Bytes (d .stream .offset)) (at (d .stream) 0) (d .buf) []
 unfolding act
-drained-desk d f = ap (λ (r : Counted). sending d (r .answer) (r .stream) (d .buf) []) (drained-is d f)
+drained-desk d f = ap (λ (r : Counted). sending d (r .answer) (r .stream) (d .buf) []) (drained-is (d .stream) (length (d .buf)) (f .sound .0))
 
 -- ---- a refused call: "state and buffer unaltered"
 
 no-number : (n : ℕ) → [] ≡ n ∷ [] → ⊥
 no-number n e = let z : _≡_ {A = ℕ} 0 1 = cc in omega arith
 
-answered-unaltered : (s : OStream) (size total place : ℕ) (z : OStream) → Refusal (numbersIn (answered s size total place z .answer)) → (answered s size total place z .stream ≡ s) × (ltb total place ≡ true)
-unfolding answered
-answered-unaltered s size total place z = go (ltb total place) (leb (total - place) (size - s .offset)) refl
+emitted-unaltered : (s : OStream) (b o : List ℕ) (place : ℕ) (z : OStream) → Refusal (numbersIn (emitted s b o place z .said)) → (emitted s b o place z .stream ≡ s) × (emitted s b o place z .buf ≡ b)
+unfolding emitted
+emitted-unaltered s b o place z = go (ltb (length o) place) (leb (length o - place) (length b - s .offset))
   where
-    answer : Bool → Bool → Written
-    answer beyond fits =
-        pick beyond (refused s (refusal 11))
-        (pick fits (record { answer = Done; stream = at z (s .offset + (total - place)) }) (record { answer = Full (place + (size - s .offset)); stream = at s size }))
+    go : (beyond fits : Bool) → let r = emittedBy beyond fits s b o place z in Refusal (numbersIn (r .said)) → (r .stream ≡ s) × (r .buf ≡ b)
+    go true y n = (refl, refl)
+    go false true n = absurd (no-number (n .0) (n .1))
+    go false false n = absurd (no-number (n .0) (n .1))
 
-    go : (beyond fits : Bool) → ltb total place ≡ beyond → Refusal (numbersIn (answer beyond fits .answer)) → (answer beyond fits .stream ≡ s) × (ltb total place ≡ true)
-    go true y e n = (refl, e)
-    go false true e n = absurd (no-number (n .0) (n .1))
-    go false false e n = absurd (no-number (n .0) (n .1))
-
-pub unaltered : (c : Call) (s : OStream) (b : List ℕ) (place : ℕ) → Refusal (numbersIn (called c s b place .answer)) → (called c s b place .stream ≡ s) × (leaves c s b place ≡ b)
-unfolding called leaves calledBy leavesBy left
+pub unaltered : (c : Call) (s : OStream) (b : List ℕ) (place : ℕ) → Refusal (numbersIn (written c s b place .said)) → (written c s b place .stream ≡ s) × (written c s b place .buf ≡ b)
+unfolding written writtenBy
 unaltered c s b place = go (judged (c .tests))
   where
-    go : (v : Verdict) → Refusal (numbersIn (calledBy v c s b place .answer)) → (calledBy v c s b place .stream ≡ s) × (leavesBy v c s b place ≡ b)
-    go accepted n = let u = answered-unaltered s (length b) (length (c .output)) place (c .done) n in (u .0, simp (u .1))
+    go : (v : Verdict) → Refusal (numbersIn (writtenBy v c s b place .said)) → (writtenBy v c s b place .stream ≡ s) × (writtenBy v c s b place .buf ≡ b)
+    go accepted n = emitted-unaltered s b (c .output) place (c .done) n
     go (refusedWith e) n = (refl, refl)
 
 counted-unaltered : (v : Verdict) (s : OStream) (p : ℕ) → Refusal (numbersOf (countedBy v s p .answer)) → countedBy v s p .stream ≡ s
@@ -445,8 +402,9 @@ unfolding act Allowed
 by-aside P d op place h p =
     let c : Call = callOf op (d .stream) (length (d .buf)) in
     let u = unaltered c (d .stream) (d .buf) place h in
-    let ns : List ℕ = numbersIn (called c (d .stream) (d .buf) place .answer) in
-    subst (λ (s : OStream). P (beside d s (leaves c (d .stream) (d .buf) place) ns)) (sym (u .0)) (subst (λ (b : List ℕ). P (beside d (d .stream) b ns)) (sym (u .1)) (p ns))
+    let r : Left = written c (d .stream) (d .buf) place in
+    let ns : List ℕ = numbersIn (r .said) in
+    subst (λ (s : OStream). P (beside d s (r .buf) ns)) (sym (u .0)) (subst (λ (b : List ℕ). P (beside d (d .stream) b ns)) (sym (u .1)) (p ns))
 
 pub by-other : (P : Desk → Type 0) (d : Desk) (x : Other) → Allowed (other x) d → ((numbers : List ℕ) → P (beside d (d .stream) (d .buf) numbers)) → P (act (other x) d)
 unfolding act Allowed

@@ -11,7 +11,8 @@ use Rattle.ostream.specs.declared.Count.the-variants as Counts
 use Rattle.ostream.specs.declared.Counted.{Counted}
 use Rattle.ostream.specs.Buffer.{badBuffer, sent}
 use Rattle.writes.specs.Series.{Op, Desk, Act, write, drain, change, aside, other, sending, writing, act, acts, Allowed, Lawful, Stays, join}
-use Rattle.writes.proofs.Runs.{Fine, by-write, by-aside, by-other, drained-desk, change-taken, keeps, kept}
+use Rattle.ostream.proofs.Buffers.{change-taken}
+use Rattle.writes.proofs.Runs.{Fine, by-write, by-aside, by-other, drained-desk, keeps, kept}
 
 -- A drain sends the bytes below the position, and what follows it has none reserved.
 pub sends : (d : Desk) → Fine d → (act drain d .transfers ≡ d .transfers ++ (sent (d .stream) (d .buf) ∷ [])) × (act drain d .reserved ≡ [])
@@ -22,7 +23,7 @@ pub change-sends : (d : Desk) (b : List ℕ) (o : ℕ) (drained : Bool) → Fine
     → (act (change b o drained) d .transfers ≡ d .transfers ++ (sent (d .stream) (d .buf) ∷ [])) × (act (change b o drained) d .reserved ≡ take o b)
 unfolding act
 change-sends d b o drained f t =
-    let e = change-taken d b o drained f t in
+    let e = change-taken (d .stream) (length (d .buf)) (length b) o drained t (f .sound .0) in
     (ap (λ (r : Counted). sending d (r .answer) (r .stream) b (take o b) .transfers) e, ap (λ (r : Counted). sending d (r .answer) (r .stream) b (take o b) .reserved) e)
 
 -- These are the reserved bytes as they came, and then the message's.

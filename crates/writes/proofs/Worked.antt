@@ -8,7 +8,8 @@ use Rattle.layout.specs.Copy.{fieldBytes}
 use Rattle.types.specs.declared.FixlenType.the-variants as Fix
 use Rattle.emit.specs.Put.{put, over}
 use Rattle.ostream.specs.Stream.{every, soundStream, heldBytes, committed, holding, dropped, opened}
-use Rattle.ostream.specs.Emission.{answered, left, called, calledBy, leaves, leavesBy}
+use Rattle.ostream.specs.Emission as calls
+use Rattle.ostream.specs.Emission.{emitted, writtenBy}
 use Rattle.ostream.specs.Calls.{idTooLarge, payloadTooLong, stringSubtype}
 use Rattle.ostream.specs.Buffer.{opening, draining, changing}
 use Rattle.writes.specs.Series.{Desk, write, drain, change, aside, other, drains, writing, act, acts, begun, refusals}
@@ -61,7 +62,7 @@ small =
     (series (0xAA ∷ 0xBB ∷ []) 1 true (puts (idTooLarge 1 ∷ []) (field (unsigned 1 300)) ∷ closes ∷ []))
 
 pub small-run : (small .transfers ≡ (0xAA ∷ 0x08 ∷ []) ∷ (0xAC ∷ 0x02 ∷ []) ∷ []) × (small .sent ≡ 0x08 ∷ 0xAC ∷ 0x02 ∷ []) × (small .refused ≡ 8 ∷ []) × (small .others ≡ 6 ∷ 9 ∷ 5 ∷ []) × (small .drains ≡ 2)
-unfolding acts act begun opening writing draining changing called calledBy leaves leavesBy answered left put over soundStream opened every holding committed dropped heldBytes fieldBytes shortest shortestIn each
+unfolding acts act begun opening writing draining changing calls.written writtenBy emitted put over soundStream opened every holding committed dropped heldBytes fieldBytes shortest shortestIn each
 small-run = (refl, refl, refl, refl, refl)
 
 -- an opening with no byte free

@@ -14,7 +14,8 @@ use Rattle.ostream.specs.declared.Answer.the-variants.{Done, Full, Refused}
 use Rattle.ostream.specs.declared.Count.{Count}
 use Rattle.ostream.specs.declared.Count.the-variants as Counts
 use Rattle.ostream.specs.Stream.{at, soundStream, lazyDepth}
-use Rattle.ostream.specs.Emission.{Test, Verdict, accepted, refusedWith, judged, Call, called, leaves}
+use Rattle.ostream.specs.Emission as calls
+use Rattle.ostream.specs.Emission.{Test, Verdict, accepted, refusedWith, judged, Call, through, full, number, saidOf, written}
 use Rattle.ostream.specs.Buffer.{opening, draining, changing}
 
 -- ---- a write
@@ -88,11 +89,11 @@ pub record Desk : Type 0 where
   pub refused : List ℕ
   pub others : List ℕ
 
--- the number that an answer refuses with
-abbrev pub numbersIn : Answer → List ℕ
-numbersIn Done = []
-numbersIn (Full p) = []
-numbersIn (Refused e) = numberOf e ∷ []
+-- the number that a call refuses with
+abbrev pub numbersIn : calls.Said → List ℕ
+numbersIn through = []
+numbersIn (full p) = []
+numbersIn (number n) = n ∷ []
 
 abbrev pub numbersOf : Count → List ℕ
 numbersOf (Counts.Bytes n) = []
@@ -115,7 +116,7 @@ pub data Act : Type 0 where
 
 -- after a call of the series: the state and the buffer that it returns, the writes left, the place, whether it is full, its number
 abbrev pub after : Desk → OStream → List ℕ → List Op → ℕ → Bool → List ℕ → Desk
-after d s b ops place full numbers =
+after d s b ops place isFull numbers =
     record {
       stream = s;
       buf = b;
@@ -124,16 +125,16 @@ after d s b ops place full numbers =
       transfers = d .transfers;
       ops = ops;
       place = place;
-      full = full;
+      full = isFull;
       drains = d .drains;
       refused = d .refused ++ numbers;
       others = d .others;
     }
 
-abbrev pub wrote : Desk → List Op → Answer → OStream → List ℕ → Desk
-wrote d rest Done s b = after d s b rest 0 false []
-wrote d rest (Full p) s b = after d s b (d .ops) p true []
-wrote d rest (Refused e) s b = after d s b rest 0 false (numberOf e ∷ [])
+abbrev pub wrote : Desk → List Op → calls.Said → OStream → List ℕ → Desk
+wrote d rest through s b = after d s b rest 0 false []
+wrote d rest (full p) s b = after d s b (d .ops) p true []
+wrote d rest (number n) s b = after d s b rest 0 false (n ∷ [])
 
 -- after a call beside the series: the state and the buffer that it returns, and its number
 abbrev pub beside : Desk → OStream → List ℕ → List ℕ → Desk
@@ -183,9 +184,8 @@ sending d (Counts.Refused e) s b reserved = beside d s (d .buf) (numberOf e ∷ 
 unfoldable pub writing : Desk → List Op → Desk
 writing d [] = d
 writing d (op ∷ rest) =
-    let c = callOf op (d .stream) (length (d .buf)) in
-    let r = called c (d .stream) (d .buf) (d .place) in
-    wrote d rest (r .answer) (r .stream) (leaves c (d .stream) (d .buf) (d .place))
+    let r = written (callOf op (d .stream) (length (d .buf))) (d .stream) (d .buf) (d .place) in
+    wrote d rest (r .said) (r .stream) (r .buf)
 
 -- what a call with another buffer answers, as far as it is a refusal, and the state that it returns
 pub record Said : Type 0 where
@@ -193,7 +193,7 @@ pub record Said : Type 0 where
   pub stream : OStream
 
 abbrev pub said : Other → OStream → Said
-said (writes op b place) s = let r = called (callOf op s (length b)) s b place in record { numbers = numbersIn (r .answer); stream = r .stream }
+said (writes op b place) s = let r = written (callOf op s (length b)) s b place in record { numbers = numbersIn (r .said); stream = r .stream }
 said (drains b) s = let r = draining s (length b) in record { numbers = numbersOf (r .answer); stream = r .stream }
 said (changes old new o drained) s = let r = changing s (length old) (length new) o drained in record { numbers = numbersOf (r .answer); stream = r .stream }
 
@@ -202,9 +202,8 @@ act write d = writing d (d .ops)
 act drain d = let r = draining (d .stream) (length (d .buf)) in sending d (r .answer) (r .stream) (d .buf) []
 act (change b o drained) d = let r = changing (d .stream) (length (d .buf)) (length b) o drained in sending d (r .answer) (r .stream) b (take o b)
 act (aside op place) d =
-    let c = callOf op (d .stream) (length (d .buf)) in
-    let r = called c (d .stream) (d .buf) place in
-    beside d (r .stream) (leaves c (d .stream) (d .buf) place) (numbersIn (r .answer))
+    let r = written (callOf op (d .stream) (length (d .buf))) (d .stream) (d .buf) place in
+    beside d (r .stream) (r .buf) (numbersIn (r .said))
 act (other x) d = let r = said x (d .stream) in beside d (r .stream) (d .buf) (r .numbers)
 
 unfoldable pub acts : List Act → Desk → Desk
@@ -220,7 +219,7 @@ unfoldable pub Allowed : Act → Desk → Type 0
 Allowed write d = Unit {0}
 Allowed drain d = Unit {0}
 Allowed (change b o drained) d = Unit {0}
-Allowed (aside op place) d = Refusal (numbersIn (called (callOf op (d .stream) (length (d .buf))) (d .stream) (d .buf) place .answer))
+Allowed (aside op place) d = Refusal (numbersIn (written (callOf op (d .stream) (length (d .buf))) (d .stream) (d .buf) place .said))
 Allowed (other x) d = Refusal (said x (d .stream) .numbers)
 
 unfoldable pub Lawful : List Act → Desk → Type 0
@@ -270,7 +269,7 @@ fresh s b reserved ops numbers =
 
 -- A series begins with an opening, taken or refused with 5; of one refused, the state that it returns is stored as well.
 unfoldable pub begun : List ℕ → ℕ → Bool → List Op → Desk
-begun b o drained ops = let r = opening (length b) o drained in fresh (r .stream) b (reservedBy (r .answer) b o) ops (numbersIn (r .answer))
+begun b o drained ops = let r = opening (length b) o drained in fresh (r .stream) b (reservedBy (r .answer) b o) ops (numbersIn (saidOf (r .answer)))
 
 -- What a caller may do at "full": a drain, or another buffer lent with a byte free.
 abbrev pub Frees : Act → Type 0

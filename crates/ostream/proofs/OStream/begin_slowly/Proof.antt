@@ -1,16 +1,17 @@
 -- `ostream::OStream::begin_slowly`: the refusals; then one more is held, or all that are held go out.
-use Prim.Native.Nat.{ℕ}
+use Prim.Native.Nat.{ℕ, _<_}
 use mathlib.Core.Bool.{Bool}
 use mathlib.Core.List.{[], _∷_, _++_}
-use mathlib.Core.Path.{refl, ap, _∙_}
+use mathlib.Core.Path.{_≡_, refl, ap, _∙_}
 use native.Mathlib.Omega.{arith}
 use lib.ListN.{length}
+use Rattle.layout.specs.Limits.{base}
 use Rattle.layout.specs.Varint.{shortest}
 use Rattle.layout.specs.Copy.{fieldBytes}
-use Rattle.answers.specs.Judged.{judged, checkOf}
+use Rattle.answers.specs.Judged.{Verdict, accepted, judged, checkOf}
 use Rattle.answers.specs.Tests.{unsoundWriter, deepest, idTooLarge}
 use Rattle.answers.proofs.Checks.{check-passes, check-fails}
-use Rattle.ostream.proofs.Called.{refuses, settles, alters, begin-knows}
+use Rattle.ostream.proofs.Called.{Sound, refuses, settles, alters, begin-knows, few-clears}
 use borrow.Author.Tests.{lt-ltb, le-ltb}
 use Rattle.ostream.specs.declared.OStream.{OStream}
 use Rattle.ostream.specs.Stream.{heldBytes, holding}
@@ -39,16 +40,24 @@ check-begin-requires c κs = search needs
 refuse-requires : tie.Need-refuse-requires
 refuse-requires c κs = search needs
 
+abbrev verdict : tie.After-check-begin → Verdict
+verdict c = let a = c .before .before .before .args in judged (beginCall (a .self) (length (a .buf .now)) (a .id) .tests)
+
+judges : (c : tie.After-check-begin) → c .check-begin .result ≡ checkOf (verdict c)
+judges c = let a = c .before .before .before .args in c .check-begin .ensures ∙ ap (λ (sound : Bool). checkOf (judged (unsoundWriter sound ∷ deepest (a .self .depth) ∷ idTooLarge (a .id) ∷ []))) (c .before .sound .ensures)
+
+passes : (c : tie.Else1) → verdict (c .before .before) ≡ accepted
+passes c = check-passes (verdict (c .before .before)) _ (judges (c .before .before)) (c .if1 .left)
+
+-- the state is sound, and not too deep
+knows : (c : tie.Else1) → let a = c .before .before .before .before .before .args in Sound (a .self) (length (a .buf .now)) × (a .self .depth < base .depth)
+knows c = let a = c .before .before .before .before .before .args in begin-knows (a .self) (length (a .buf .now)) (a .id) (passes c)
+
 returns : tie.Need-returns
-returns c =
-    let a = c .before .before .before .before .before .before .args in
-    refuses _ _ _ _ _ _ (check-fails _ _ (c .before .before .before .check-begin .ensures ∙ ap (λ (t : Bool). checkOf (judged (unsoundWriter t ∷ deepest (a .self .depth) ∷ idTooLarge (a .id) ∷ []))) (c .before .before .before .before .sound .ensures)) (c .before .if1 .taken)) (c .refuse .ensures)
+returns c = refuses _ _ _ _ _ _ (check-fails (verdict (c .before .before .before)) _ (judges (c .before .before .before)) (c .before .if1 .taken)) (c .refuse .ensures)
 
 hold-requires : tie.Need-hold-requires
-hold-requires c κs =
-    let a = c .before .before .before .before .before .before .before .args in
-    let k = begin-knows (a .self) (length (a .buf .now)) (a .id) (check-passes (judged (beginCall (a .self) (length (a .buf .now)) (a .id) .tests)) _ (c .before .before .before .before .check-begin .ensures ∙ ap (λ (t : Bool). checkOf (judged (unsoundWriter t ∷ deepest (a .self .depth) ∷ idTooLarge (a .id) ∷ []))) (c .before .before .before .before .before .sound .ensures)) (c .before .before .if1 .left)) in
-    (c .if2 .taken, k .1)
+hold-requires c κs = (c .if2 .taken, knows (c .before .before) .1)
 
 alter-requires : tie.Need-alter-requires
 alter-requires c κs = search needs
@@ -57,30 +66,20 @@ returns-2 : tie.Need-returns-2
 unfolding holding
 returns-2 c =
     let a = c .before .before .before .before .before .before .before .before .before .args in
-    let v = check-passes (judged (beginCall (a .self) (length (a .buf .now)) (a .id) .tests)) _ (c .before .before .before .before .before .before .check-begin .ensures ∙ ap (λ (t : Bool). checkOf (judged (unsoundWriter t ∷ deepest (a .self .depth) ∷ idTooLarge (a .id) ∷ []))) (c .before .before .before .before .before .before .before .sound .ensures)) (c .before .before .before .before .if1 .left) in
-    let k = begin-knows (a .self) (length (a .buf .now)) (a .id) v in
     let n = lt-ltb (a .self .npending) 8 (c .before .before .if2 .taken) in
-    alters (beginCall (a .self) (length (a .buf .now)) (a .id)) _ _ _ _ (holding (a .self) (a .id)) (simp n) (simp n) v (k .0 .inside) refl (c .alter .ensures ∙ ap (λ (x : OStream). unwritten (a .self) (a .place) x) (c .before .hold .ensures))
+    alters (beginCall (a .self) (length (a .buf .now)) (a .id)) _ _ _ _ (holding (a .self) (a .id)) (simp n) (simp n) (passes (c .before .before .before .before)) (knows (c .before .before .before .before) .0 .inside) refl (c .alter .ensures ∙ ap (λ (x : OStream). unwritten (a .self) (a .place) x) (c .before .hold .ensures))
 
 tagged-requires : tie.Need-tagged-requires
 tagged-requires c κs = search needs
 
 put-marker-requires : tie.Need-put-marker-requires
-put-marker-requires c κs =
-    let a = c .before .before .before .before .before .before .before .before .before .before .args in
-    let k = begin-knows (a .self) (length (a .buf .now)) (a .id) (check-passes (judged (beginCall (a .self) (length (a .buf .now)) (a .id) .tests)) _ (c .before .before .before .before .before .before .before .check-begin .ensures ∙ ap (λ (t : Bool). checkOf (judged (unsoundWriter t ∷ deepest (a .self .depth) ∷ idTooLarge (a .id) ∷ []))) (c .before .before .before .before .before .before .before .before .sound .ensures)) (c .before .before .before .before .before .if1 .left)) in
-    (k .0 .few, k .0 .inside)
+put-marker-requires c κs = let k = knows (c .before .before .before .before .before) .0 in (k .few, k .inside)
 
 add-settle : tie.Need-add-settle
-add-settle c =
-    let a = c .before .before .before .before .before .before .before .before .before .before .before .before .before .before .args in
-    let k = begin-knows (a .self) (length (a .buf .now)) (a .id) (check-passes (judged (beginCall (a .self) (length (a .buf .now)) (a .id) .tests)) _ (c .before .before .before .before .before .before .before .before .before .before .before .check-begin .ensures ∙ ap (λ (t : Bool). checkOf (judged (unsoundWriter t ∷ deepest (a .self .depth) ∷ idTooLarge (a .id) ∷ []))) (c .before .before .before .before .before .before .before .before .before .before .before .before .sound .ensures)) (c .before .before .before .before .before .before .before .before .before .if1 .left)) .1 in
-    record { fits = omega arith }
+add-settle c = let k = knows (c .before .before .before .before .before .before .before .before .before) .1 in record { fits = omega arith }
 
 settle-requires : tie.Need-settle-requires
-settle-requires c κs =
-    let a = c .before .before .before .before .before .before .before .before .before .before .before .before .before .before .args in
-    begin-knows (a .self) (length (a .buf .now)) (a .id) (check-passes (judged (beginCall (a .self) (length (a .buf .now)) (a .id) .tests)) _ (c .before .before .before .before .before .before .before .before .before .before .before .check-begin .ensures ∙ ap (λ (t : Bool). checkOf (judged (unsoundWriter t ∷ deepest (a .self .depth) ∷ idTooLarge (a .id) ∷ []))) (c .before .before .before .before .before .before .before .before .before .before .before .before .sound .ensures)) (c .before .before .before .before .before .before .before .before .before .if1 .left)) .0 .few
+settle-requires c κs = few-clears (c .before .before .before .before .before .before .before .before .before .before .before .before .before .before .args .self) (knows (c .before .before .before .before .before .before .before .before .before) .0 .few) (c .before .before .before .put-marker .result)
 
 same-length : tie.Need-same-length
 same-length c = search needs
@@ -89,9 +88,8 @@ returns-3 : tie.Need-returns-3
 unfolding heldBytes fieldBytes
 returns-3 c =
     let a = c .before .before .before .before .before .before .before .before .before .before .before .before .before .before .before .args in
-    let v = check-passes (judged (beginCall (a .self) (length (a .buf .now)) (a .id) .tests)) _ (c .before .before .before .before .before .before .before .before .before .before .before .before .check-begin .ensures ∙ ap (λ (t : Bool). checkOf (judged (unsoundWriter t ∷ deepest (a .self .depth) ∷ idTooLarge (a .id) ∷ []))) (c .before .before .before .before .before .before .before .before .before .before .before .before .before .sound .ensures)) (c .before .before .before .before .before .before .before .before .before .before .if1 .left) in
     let n = le-ltb (a .self .npending) 8 (c .before .before .before .before .before .before .before .before .if2 .left) in
-    settles (beginCall (a .self) (length (a .buf .now)) (a .id)) _ _ _ _ _ _ _ _ (simp n (ap (λ (h : ℕ). heldBytes (a .self) ++ shortest h) (c .before .before .before .before .before .before .tagged .ensures))) (simp n) v (c .before .before .before .before .put-marker .ensures) (c .settle .ensures)
+    settles (beginCall (a .self) (length (a .buf .now)) (a .id)) _ _ _ _ _ _ _ _ (simp n (ap (λ (h : ℕ). heldBytes (a .self) ++ shortest h) (c .before .before .before .before .before .before .tagged .ensures))) (simp n) (passes (c .before .before .before .before .before .before .before .before .before .before)) (c .before .before .before .before .put-marker .ensures) (c .settle .ensures)
 
 pub begin-slowly-spec : {M : Type 1} → statement M
 begin-slowly-spec =

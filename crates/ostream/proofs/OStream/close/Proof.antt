@@ -4,7 +4,7 @@ use native.Mathlib.Omega.{arith}
 use lib.ListN.{length}
 use borrow.Author.Tests.{ne-eqb}
 use Rattle.ostream.specs.Stream.{heldBytes}
-use Rattle.ostream.proofs.Called.{is-sound, settles}
+use Rattle.ostream.proofs.Called.{is-sound, few-clears, settles}
 use borrow.Author.Needs.{needs}
 use Rattle.ostream.proofs.OStream.close.Statement.{statement}
 use Rattle.ostream.proofs.OStream.close.Tie as tie
@@ -20,7 +20,7 @@ sub-settle : tie.Need-sub-settle
 sub-settle c = search needs
 
 settle-requires : tie.Need-settle-requires
-settle-requires c κs = let z = c .before .before .before .before .before .before .before in is-sound (z .args .self) (length (z .args .buf .now)) (z .pre .0) .few
+settle-requires c κs = let z = c .before .before .before .before .before .before .before in few-clears (z .args .self) (is-sound (z .args .self) (length (z .args .buf .now)) (z .pre .0) .few) (c .before .before .before .put-close .result)
 
 same-length : tie.Need-same-length
 same-length c = search needs

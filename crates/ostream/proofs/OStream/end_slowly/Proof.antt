@@ -2,11 +2,11 @@
 use Prim.Native.Nat.{ℕ}
 use mathlib.Core.Bool.{Bool}
 use mathlib.Core.List.{List, [], _∷_, _++_}
-use mathlib.Core.Path.{refl, sym, ap, _∙_}
+use mathlib.Core.Path.{_≡_, refl, sym, ap, _∙_}
 use native.Mathlib.Omega.{arith}
 use lib.ListN.{length}
 use Rattle.layout.specs.Copy.{fieldBytes}
-use Rattle.answers.specs.Judged.{judged, checkOf}
+use Rattle.answers.specs.Judged.{Verdict, accepted, judged, checkOf}
 use Rattle.answers.specs.Tests.{unsoundWriter, outermost}
 use Rattle.answers.proofs.Checks.{check-passes, check-fails}
 use Rattle.ostream.proofs.Called.{refuses, alters, recalled, none-held, is-sound, end-knows}
@@ -37,15 +37,20 @@ check-end-requires c κs = search needs
 refuse-requires : tie.Need-refuse-requires
 refuse-requires c κs = search needs
 
+abbrev verdict : tie.After-check-end → Verdict
+verdict c = let a = c .before .before .before .args in judged (endCall (a .self) (length (a .buf .now)) .tests)
+
+judges : (c : tie.After-check-end) → c .check-end .result ≡ checkOf (verdict c)
+judges c = let a = c .before .before .before .args in c .check-end .ensures ∙ ap (λ (sound : Bool). checkOf (judged (unsoundWriter sound ∷ outermost (a .self .depth) ∷ []))) (c .before .sound .ensures)
+
+passes : (c : tie.Else1) → verdict (c .before .before) ≡ accepted
+passes c = check-passes (verdict (c .before .before)) _ (judges (c .before .before)) (c .if1 .left)
+
 returns : tie.Need-returns
-returns c =
-    let a = c .before .before .before .before .before .before .args in
-    refuses _ _ _ _ _ _ (check-fails _ _ (c .before .before .before .check-end .ensures ∙ ap (λ (t : Bool). checkOf (judged (unsoundWriter t ∷ outermost (a .self .depth) ∷ []))) (c .before .before .before .before .sound .ensures)) (c .before .if1 .taken)) (c .refuse .ensures)
+returns c = refuses _ _ _ _ _ _ (check-fails (verdict (c .before .before .before)) _ (judges (c .before .before .before)) (c .before .if1 .taken)) (c .refuse .ensures)
 
 close-requires : tie.Need-close-requires
-close-requires c κs =
-    let a = c .before .before .before .before .before .before .before .before .args in
-    end-knows (a .self) (length (a .buf .now)) (check-passes (judged (endCall (a .self) (length (a .buf .now)) .tests)) _ (c .before .before .before .before .before .check-end .ensures ∙ ap (λ (t : Bool). checkOf (judged (unsoundWriter t ∷ outermost (a .self .depth) ∷ []))) (c .before .before .before .before .before .before .sound .ensures)) (c .before .before .before .if1 .left))
+close-requires c κs = let a = c .before .before .before .before .before .before .before .before .args in end-knows (a .self) (length (a .buf .now)) (passes (c .before .before .before))
 
 same-length : tie.Need-same-length
 same-length c = search needs
@@ -54,14 +59,15 @@ returns-2 : tie.Need-returns-2
 returns-2 c =
     let a = c .before .before .before .before .before .before .before .before .before .before .before .args in
     let n = c .before .before .before .before .if2 .taken in
-    recalled (endKeepCall (a .self) (length (a .buf .now))) (endCall (a .self) (length (a .buf .now))) _ _ _ refl
+    c .before .before .close .ensures
+    ∙ recalled (endKeepCall (a .self) (length (a .buf .now))) (endCall (a .self) (length (a .buf .now))) _ _ _ refl
     (ap (λ (l : List ℕ). l ++ fieldBytes (end 0)) (none-held (a .self) n) ∙ sym (simp (eq-eqb _ _ n)))
-    (sym (simp (eq-eqb _ _ n))) _ _ (c .before .before .close .ensures)
+    (sym (simp (eq-eqb _ _ n)))
 
 unhold-requires : tie.Need-unhold-requires
 unhold-requires c κs =
     let a = c .before .before .before .before .before .before .before .args in
-    let h = is-sound (a .self) (length (a .buf .now)) (end-knows (a .self) (length (a .buf .now)) (check-passes (judged (endCall (a .self) (length (a .buf .now)) .tests)) _ (c .before .before .before .before .check-end .ensures ∙ ap (λ (t : Bool). checkOf (judged (unsoundWriter t ∷ outermost (a .self .depth) ∷ []))) (c .before .before .before .before .before .sound .ensures)) (c .before .before .if1 .left)) .0) in
+    let h = is-sound (a .self) (length (a .buf .now)) (end-knows (a .self) (length (a .buf .now)) (passes (c .before .before)) .0) in
     let n = c .if2 .left in
     (omega arith, h .few, h .nested)
 
@@ -72,7 +78,7 @@ returns-3 : tie.Need-returns-3
 unfolding dropped
 returns-3 c =
     let a = c .before .before .before .before .before .before .before .before .before .args in
-    let v = check-passes (judged (endCall (a .self) (length (a .buf .now)) .tests)) _ (c .before .before .before .before .before .before .check-end .ensures ∙ ap (λ (t : Bool). checkOf (judged (unsoundWriter t ∷ outermost (a .self .depth) ∷ []))) (c .before .before .before .before .before .before .before .sound .ensures)) (c .before .before .before .before .if1 .left) in
+    let v = passes (c .before .before .before .before) in
     let h = is-sound (a .self) (length (a .buf .now)) (end-knows (a .self) (length (a .buf .now)) v .0) in
     let n = ne-eqb _ _ (c .before .before .if2 .left) in
     alters (endCall (a .self) (length (a .buf .now))) _ _ _ _ (dropped (a .self)) (simp n) (simp n) v (h .inside) refl (c .alter .ensures ∙ ap (λ (x : OStream). unwritten (a .self) (a .place) x) (c .before .unhold .ensures))

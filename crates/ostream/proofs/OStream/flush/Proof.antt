@@ -1,23 +1,31 @@
 -- `ostream::OStream::flush`: the old position is answered, and the new one is 0.
-use mathlib.Core.Path.{sym, _∙_}
+use mathlib.Core.Path.{ap, _∙_}
+use mathlib.Core.List.{[], _∷_}
+use lib.ListN.{length}
+use Rattle.ostream.specs.Stream.{soundStream}
+use Rattle.ostream.specs.Emission.{judged}
+use Rattle.ostream.specs.Calls.{unsound}
+use Rattle.ostream.specs.Buffer.{countedAt, draining}
+use Rattle.ostream.proofs.Buffers.{counted-at}
 use borrow.Author.Needs.{needs}
-use Rattle.ostream.specs.Buffer.{draining}
 use Rattle.ostream.proofs.OStream.flush.Statement.{statement}
 use Rattle.ostream.proofs.OStream.flush.Tie as tie
 use Rattle.ostream.proofs.OStream.flush.Reads as reads
 use Rattle.ostream.proofs.OStream.flush.Lts as lts
-use Rattle.ostream.proofs.OStream.sound.Reads as sound-reads
+use Rattle.buffers.proofs.drain.Reads as drain-reads
+use Rattle.ostream.proofs.OStream.count.Reads as count-reads
 
-sound-requires : tie.Need-sound-requires
-sound-requires c κs = search needs
+drain-requires : tie.Need-drain-requires
+drain-requires c κs = search needs
+
+count-requires : tie.Need-count-requires
+count-requires c κs = search needs
 
 returns : tie.Need-returns
-unfolding draining
-returns c = simp (sym (c .before .sound .ensures) ∙ c .if1 .taken)
-
-returns-2 : tie.Need-returns-2
-unfolding draining
-returns-2 c = simp (sym (c .before .sound .ensures) ∙ c .if1 .left)
+unfolding soundStream draining
+returns c =
+    let a = c .before .before .before .before .args in
+    c .count .ensures ∙ ap (countedAt (a .self)) (c .before .drain .ensures) ∙ counted-at (judged (unsound (a .self) (length (a .buf .now)) ∷ [])) (a .self) 0
 
 pub flush-spec : {M : Type 1} → statement M
-flush-spec = tie.close (tie.spec sound-requires returns returns-2)
+flush-spec = tie.close (tie.spec drain-requires count-requires returns)

@@ -1,10 +1,10 @@
 -- `ostream::OStream::settle`: the three outcomes.
-use mathlib.Core.Path.{sym, ap, _∙_}
+use mathlib.Core.Path.{sym, ap, _∙_, subst}
 use Rattle.answers.specs.declared.Outcome.{Outcome}
 use Rattle.ostream.specs.declared.OStream.{OStream}
 use Rattle.ostream.specs.declared.Answer.the-variants.{Done}
 use Rattle.ostream.specs.Stream.{at, committed}
-use Rattle.ostream.specs.Straight.{settled}
+use Rattle.ostream.specs.Straight.{Clears, settled}
 use borrow.Author.Needs.{needs}
 use Rattle.ostream.proofs.OStream.settle.Statement.{statement}
 use Rattle.ostream.proofs.OStream.settle.Tie as tie
@@ -17,7 +17,7 @@ enum-known-outcome : tie.Need-enum-known-outcome
 enum-known-outcome c = search needs
 
 commit-requires : tie.Need-commit-requires
-commit-requires c κs = search needs
+commit-requires c κs = let z = c .before .before .before in subst (Clears (z .args .self)) (c .before .outcome .given .1) (z .pre)
 
 enum-known-outcome-2 : tie.Need-enum-known-outcome-2
 enum-known-outcome-2 c = search needs

@@ -1,9 +1,9 @@
 -- `ostream::OStream::write_fixlen`: the string subtype is refused, any other goes on.
 use mathlib.Core.Bool.{Bool}
 use mathlib.Core.List.{[], _∷_}
-use mathlib.Core.Path.{refl, sym, ap, _∙_}
+use mathlib.Core.Path.{_≡_, refl, sym, ap, _∙_}
 use lib.ListN.{length}
-use Rattle.answers.specs.Judged.{judged, checkOf}
+use Rattle.answers.specs.Judged.{Verdict, judged, checkOf}
 use Rattle.answers.specs.Tests.{unsoundWriter, stringSubtype, idTooLarge, payloadTooLong}
 use Rattle.answers.proofs.Checks.{check-passes, check-fails}
 use Rattle.ostream.proofs.Called.{refuses, recalled, without}
@@ -27,10 +27,14 @@ check-fixlen-requires c κs = search needs
 refuse-requires : tie.Need-refuse-requires
 refuse-requires c κs = search needs
 
+abbrev verdict : tie.After-check-fixlen → Verdict
+verdict c = let a = c .before .before .before .before .args in judged (fixlenCall (a .self) (length (a .buf .now)) (a .id) (a .bytes .now) (a .subtype) .tests)
+
+judges : (c : tie.After-check-fixlen) → c .check-fixlen .result ≡ checkOf (verdict c)
+judges c = let a = c .before .before .before .before .args in c .check-fixlen .ensures ∙ ap (λ (sound : Bool). checkOf (judged (unsoundWriter sound ∷ stringSubtype (a .subtype) ∷ idTooLarge (a .id) ∷ payloadTooLong (length (a .bytes .now)) ∷ []))) (c .before .sound .ensures)
+
 returns : tie.Need-returns
-returns c =
-    let a = c .before .before .before .before .before .before .before .args in
-    refuses _ _ _ _ _ _ (check-fails _ _ (c .before .before .before .check-fixlen .ensures ∙ ap (λ (t : Bool). checkOf (judged (unsoundWriter t ∷ stringSubtype (a .subtype) ∷ idTooLarge (a .id) ∷ payloadTooLong (length (a .bytes .now)) ∷ []))) (c .before .before .before .before .sound .ensures)) (c .before .if1 .taken)) (c .refuse .ensures)
+returns c = refuses _ _ _ _ _ _ (check-fails (verdict (c .before .before .before)) _ (judges (c .before .before .before)) (c .before .if1 .taken)) (c .refuse .ensures)
 
 write-fixlen-raw-requires : tie.Need-write-fixlen-raw-requires
 write-fixlen-raw-requires c κs = search needs
@@ -41,8 +45,9 @@ same-length c = search needs
 returns-2 : tie.Need-returns-2
 returns-2 c =
     let a = c .before .before .before .before .before .before .before .before .before .before .args in
-    let v = check-passes (judged (fixlenCall (a .self) (length (a .buf .now)) (a .id) (a .bytes .now) (a .subtype) .tests)) _ (c .before .before .before .before .before .before .check-fixlen .ensures ∙ ap (λ (t : Bool). checkOf (judged (unsoundWriter t ∷ stringSubtype (a .subtype) ∷ idTooLarge (a .id) ∷ payloadTooLong (length (a .bytes .now)) ∷ []))) (c .before .before .before .before .before .before .before .sound .ensures)) (c .before .before .before .before .if1 .left) in
-    recalled _ _ _ _ _ (without (unsound (a .self) (length (a .buf .now))) (stringSubtype (a .subtype)) (idTooLarge (a .id) ∷ payloadTooLong (length (a .bytes .now)) ∷ []) v ∙ sym v) refl refl _ _ (c .before .before .write-fixlen-raw .ensures)
+    let v = check-passes (verdict (c .before .before .before .before .before .before)) _ (judges (c .before .before .before .before .before .before)) (c .before .before .before .before .if1 .left) in
+    c .before .before .write-fixlen-raw .ensures
+    ∙ recalled _ _ _ _ _ (without (unsound (a .self) (length (a .buf .now))) (stringSubtype (a .subtype)) (idTooLarge (a .id) ∷ payloadTooLong (length (a .bytes .now)) ∷ []) v ∙ sym v) refl refl
 
 pub write-fixlen-spec : {M : Type 1} → statement M
 write-fixlen-spec =

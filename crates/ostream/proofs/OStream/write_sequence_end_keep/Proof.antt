@@ -1,13 +1,13 @@
 -- `ostream::OStream::write_sequence_end_keep`: the refusals, then the close, behind what is held.
 use mathlib.Core.Bool.{Bool}
 use mathlib.Core.List.{[], _∷_}
-use mathlib.Core.Path.{ap, _∙_}
+use mathlib.Core.Path.{_≡_, ap, _∙_}
 use lib.ListN.{length}
-use Rattle.answers.specs.Judged.{judged, checkOf}
+use Rattle.answers.specs.Judged.{Verdict, accepted, judged, checkOf}
 use Rattle.answers.specs.Tests.{unsoundWriter, outermost}
 use Rattle.answers.proofs.Checks.{check-passes, check-fails}
 use Rattle.ostream.proofs.Called.{refuses, end-knows}
-use Rattle.ostream.specs.Calls.{endCall}
+use Rattle.ostream.specs.Calls.{endKeepCall}
 use borrow.Author.Needs.{needs}
 use Rattle.ostream.proofs.OStream.write_sequence_end_keep.Statement.{statement}
 use Rattle.ostream.proofs.OStream.write_sequence_end_keep.Tie as tie
@@ -27,15 +27,20 @@ check-end-requires c κs = search needs
 refuse-requires : tie.Need-refuse-requires
 refuse-requires c κs = search needs
 
+abbrev verdict : tie.After-check-end → Verdict
+verdict c = let a = c .before .before .before .args in judged (endKeepCall (a .self) (length (a .buf .now)) .tests)
+
+judges : (c : tie.After-check-end) → c .check-end .result ≡ checkOf (verdict c)
+judges c = let a = c .before .before .before .args in c .check-end .ensures ∙ ap (λ (sound : Bool). checkOf (judged (unsoundWriter sound ∷ outermost (a .self .depth) ∷ []))) (c .before .sound .ensures)
+
+passes : (c : tie.Else1) → verdict (c .before .before) ≡ accepted
+passes c = check-passes (verdict (c .before .before)) _ (judges (c .before .before)) (c .if1 .left)
+
 returns : tie.Need-returns
-returns c =
-    let a = c .before .before .before .before .before .before .args in
-    refuses _ _ _ _ _ _ (check-fails _ _ (c .before .before .before .check-end .ensures ∙ ap (λ (t : Bool). checkOf (judged (unsoundWriter t ∷ outermost (a .self .depth) ∷ []))) (c .before .before .before .before .sound .ensures)) (c .before .if1 .taken)) (c .refuse .ensures)
+returns c = refuses _ _ _ _ _ _ (check-fails (verdict (c .before .before .before)) _ (judges (c .before .before .before)) (c .before .if1 .taken)) (c .refuse .ensures)
 
 close-requires : tie.Need-close-requires
-close-requires c κs =
-    let a = c .before .before .before .before .before .before .args in
-    end-knows (a .self) (length (a .buf .now)) (check-passes (judged (endCall (a .self) (length (a .buf .now)) .tests)) _ (c .before .before .before .check-end .ensures ∙ ap (λ (t : Bool). checkOf (judged (unsoundWriter t ∷ outermost (a .self .depth) ∷ []))) (c .before .before .before .before .sound .ensures)) (c .before .if1 .left))
+close-requires c κs = let a = c .before .before .before .before .before .before .args in end-knows (a .self) (length (a .buf .now)) (passes (c .before))
 
 same-length : tie.Need-same-length
 same-length c = search needs

@@ -7,20 +7,20 @@ use mir.Syntax.{w64}
 use mir.ValLaws.{toZ-ofZ}
 use Rattle.layout.specs.Zigzag.{zigzag}
 use Rattle.layout.specs.Copy.{fieldBytes}
-use Rattle.ostream.specs.Emission.{called, leaves}
+use Rattle.ostream.specs.Emission.{written}
 use Rattle.ostream.specs.Calls.{varintCall}
 use Rattle.ostream.proofs.OStream.write_signed.Statement.{statement}
 use Rattle.ostream.proofs.OStream.write_signed.Tie as tie
 use Rattle.ostream.proofs.OStream.write_signed.Reads as reads
 use Rattle.ostream.proofs.OStream.write_signed.Lts as lts
-use Rattle.ostream.proofs.OStream.write_varint.Reads as write-varint-reads
+use Rattle.ostream.proofs.OStream.write_varint_field.Reads as write-varint-field-reads
 use Rattle.varint.proofs.zigzag_encode.Reads as zigzag-encode-reads
 
 zigzag-encode-requires : tie.Need-zigzag-encode-requires
 zigzag-encode-requires c κs = search needs
 
-write-varint-requires : tie.Need-write-varint-requires
-write-varint-requires c κs = search needs
+write-varint-field-requires : tie.Need-write-varint-field-requires
+write-varint-field-requires c κs = search needs
 
 same-length : tie.Need-same-length
 same-length c = search needs
@@ -29,12 +29,10 @@ returns : tie.Need-returns
 unfolding fieldBytes
 returns c =
     let a = c .before .before .before .before .before .before .args in
-    let e = c .before .before .write-varint .ensures in
-    let b = c .before .before .before .zigzag-encode .ensures ∙ ap zigzag (toZ-ofZ w64 (a .value) (c .before .before .before .before .before .before .fits .value)) in (
-      e .0 ∙ ap (λ (n : ℕ). called (varintCall (a .self) (length (a .buf .now)) (a .id) 1 n) (a .self) (a .buf .now) (a .place)) b,
-      e .1 ∙ ap (λ (n : ℕ). leaves (varintCall (a .self) (length (a .buf .now)) (a .id) 1 n) (a .self) (a .buf .now) (a .place)) b,
-    )
+    let e = c .before .before .write-varint-field .ensures in
+    let b = c .before .before .before .zigzag-encode .ensures ∙ ap zigzag (toZ-ofZ w64 (a .value) (c .before .before .before .before .before .before .fits .value)) in
+    e ∙ ap (λ (n : ℕ). written (varintCall (a .self) (length (a .buf .now)) (a .id) 1 n) (a .self) (a .buf .now) (a .place)) b
 
 pub write-signed-spec : {M : Type 1} → statement M
 write-signed-spec =
-    tie.close (tie.spec zigzag-encode-requires write-varint-requires same-length returns)
+    tie.close (tie.spec zigzag-encode-requires write-varint-field-requires same-length returns)

@@ -1,4 +1,4 @@
--- `ostream::OStream::write_varint`: straight away from a state that holds nothing, and otherwise left to the slow form.
+-- `ostream::OStream::write_varint_field`: straight away from a state that holds nothing, and otherwise left to the slow form.
 use Prim.Native.Nat.{_+_, _*_}
 use mathlib.Core.Path.{_≡_, refl, sym, ap, _∙_}
 use mathlib.Core.List.{_++_}
@@ -12,13 +12,13 @@ use Rattle.ostream.proofs.Called.{committed-none}
 use Rattle.ostream.specs.Calls.{varintCall}
 use Rattle.ostream.proofs.Straight.{is-ready, is-easy, ready-scalar, spelled, straight, left-to}
 use borrow.Author.Needs.{needs}
-use Rattle.ostream.proofs.OStream.write_varint.Statement.{statement}
-use Rattle.ostream.proofs.OStream.write_varint.Tie as tie
-use Rattle.ostream.proofs.OStream.write_varint.Reads as reads
-use Rattle.ostream.proofs.OStream.write_varint.Lts as lts
+use Rattle.ostream.proofs.OStream.write_varint_field.Statement.{statement}
+use Rattle.ostream.proofs.OStream.write_varint_field.Tie as tie
+use Rattle.ostream.proofs.OStream.write_varint_field.Reads as reads
+use Rattle.ostream.proofs.OStream.write_varint_field.Lts as lts
 use Rattle.held.proofs.tagged.Reads as tagged-reads
 use Rattle.ostream.proofs.OStream.anew.Reads as OStream-anew-reads
-use Rattle.ostream.proofs.OStream.write_varint_slowly.Reads as write-varint-slowly-reads
+use Rattle.ostream.proofs.OStream.write_varint_field_slowly.Reads as write-varint-field-slowly-reads
 use Rattle.ostream.proofs.Written.anew.Reads as Written-anew-reads
 use Rattle.straight.proofs.at_ease.Reads as at-ease-reads
 use Rattle.straight.proofs.put_pair.Reads as put-pair-reads
@@ -39,8 +39,8 @@ unaltered c =
 anew-requires : tie.Need-anew-requires
 anew-requires c κs = search needs
 
-write-varint-slowly-requires : tie.Need-write-varint-slowly-requires
-write-varint-slowly-requires c κs = search needs
+write-varint-field-slowly-requires : tie.Need-write-varint-field-slowly-requires
+write-varint-field-slowly-requires c κs = search needs
 
 anew-requires-2 : tie.Need-anew-requires-2
 anew-requires-2 c κs = search needs
@@ -51,7 +51,7 @@ same-length c = search needs
 returns : tie.Need-returns
 returns c =
     let a = c .before .before .before .before .before .before .before .before .args in
-    left-to (λ s n. varintCall s n (a .id) (a .wire) (a .value)) (a .self) _ (a .buf .now) (a .buf .now) (a .place) _ _ _ (c .before .before .before .before .before .anew .ensures) refl (c .anew2 .ensures) (c .before .before .before .write-varint-slowly .ensures)
+    left-to (λ s n. varintCall s n (a .id) (a .wire) (a .value)) (a .self) _ (a .buf .now) (a .buf .now) (a .place) _ _ _ (c .before .before .before .before .before .anew .ensures) refl (c .anew2 .ensures) (c .before .before .before .write-varint-field-slowly .ensures)
 
 at-ease-requires : tie.Need-at-ease-requires
 at-ease-requires c κs = search needs
@@ -88,8 +88,8 @@ returns-2 c =
 anew-requires-3 : tie.Need-anew-requires-3
 anew-requires-3 c κs = search needs
 
-write-varint-slowly-requires-2 : tie.Need-write-varint-slowly-requires-2
-write-varint-slowly-requires-2 c κs = search needs
+write-varint-field-slowly-requires-2 : tie.Need-write-varint-field-slowly-requires-2
+write-varint-field-slowly-requires-2 c κs = search needs
 
 anew-requires-4 : tie.Need-anew-requires-4
 anew-requires-4 c κs = search needs
@@ -100,14 +100,14 @@ same-length-3 c = search (needs, ap length (unaltered (c .before .before .before
 returns-3 : tie.Need-returns-3
 returns-3 c =
     let a = c .before .before .before .before .before .before .before .before .before .before .args in
-    left-to (λ s n. varintCall s n (a .id) (a .wire) (a .value)) (a .self) _ (a .buf .now) (c .before .before .before .before .before .before .if2 .buf) (a .place) _ _ _ (c .before .before .before .before .before .anew3 .ensures) (unaltered (c .before .before .before .before .before .before)) (c .anew4 .ensures) (c .before .before .before .write-varint-slowly2 .ensures)
+    left-to (λ s n. varintCall s n (a .id) (a .wire) (a .value)) (a .self) _ (a .buf .now) (c .before .before .before .before .before .before .if2 .buf) (a .place) _ _ _ (c .before .before .before .before .before .anew3 .ensures) (unaltered (c .before .before .before .before .before .before)) (c .anew4 .ensures) (c .before .before .before .write-varint-field-slowly2 .ensures)
 
-pub write-varint-spec : {M : Type 1} → statement M
-write-varint-spec =
+pub write-varint-field-spec : {M : Type 1} → statement M
+write-varint-field-spec =
     tie.close
     (tie.spec
     anew-requires
-    write-varint-slowly-requires
+    write-varint-field-slowly-requires
     anew-requires-2
     same-length
     returns
@@ -117,7 +117,7 @@ write-varint-spec =
     same-length-2
     returns-2
     anew-requires-3
-    write-varint-slowly-requires-2
+    write-varint-field-slowly-requires-2
     anew-requires-4
     same-length-3
     returns-3)

@@ -1,0 +1,42 @@
+-- A field or an array by the numbers of a writer's state: its refusals in order, else its bytes behind the held headers, from a place on.
+use mathlib.Core.Bool.{Bool}
+use mathlib.Core.List.{List, [], _∷_, _++_}
+use Prim.Native.Nat.{ℕ}
+use lib.ListN.{length}
+use Rattle.layout.specs.Field.{Subtype, header, word, T-fixlen}
+use Rattle.answers.specs.declared.Outcome.{Outcome}
+use Rattle.answers.specs.declared.Outcome.the-variants.{Refused}
+use Rattle.answers.specs.Judged.{Test, Verdict, accepted, refusedWith, judged}
+use Rattle.answers.specs.Tests.{unsoundWriter, idTooLarge, payloadTooLong}
+use Rattle.answers.specs.Outcome.{reaches}
+use Rattle.held.specs.Places.{soundWriter}
+use Rattle.held.specs.Headers.{headersOf, leftAt}
+
+-- what the call comes to, and the buffer as it leaves it
+pub record Went : Type 0 where
+  pub outcome : Outcome
+  pub buf : List ℕ
+
+-- the same of the code's result
+unfoldable pub wentBy : Outcome → List ℕ → Went
+wentBy r b = record { outcome = r; buf = b }
+
+-- an output gone on with from a place, at a position in the buffer; where it is refused, the buffer is unaltered
+unfoldable pub goesBy : Verdict → ℕ → List ℕ → List ℕ → ℕ → Went
+goesBy accepted pos b o place = record { outcome = reaches pos (length b) (length o) place; buf = leftAt pos b o place }
+goesBy (refusedWith e) pos b o place = record { outcome = Refused e; buf = b }
+
+-- A fixed-length field's bytes: "a float subtype is written at any data length", so that the bytes are given, not the float.
+unfoldable pub fixlenBytes : ℕ → Subtype → List ℕ → List ℕ
+fixlenBytes id t bytes = header id T-fixlen ++ (word (length bytes) t ++ bytes)
+
+-- the tests of a field with a payload or array of n: the state, the id, the length
+abbrev pub tests : Bool → ℕ → ℕ → List Test
+tests sound id n = unsoundWriter sound ∷ idTooLarge id ∷ payloadTooLong n ∷ []
+
+abbrev pub verdictOf : ℕ → ℕ → ℕ → List ℕ → ℕ → ℕ → ℕ → Verdict
+verdictOf pos depth held places size id n = judged (tests (soundWriter pos depth held places size) id n)
+
+-- a field of these bytes
+abbrev pub fieldFrom : ℕ → ℕ → ℕ → List ℕ → List ℕ → ℕ → ℕ → List ℕ → ℕ → Went
+fieldFrom pos depth held places b id n bytes place = goesBy (verdictOf pos depth held places (length b) id n) pos b (headersOf held places ++ bytes) place

@@ -27,17 +27,8 @@ use Rattle.held.proofs.head_len.Reads as head-len-reads
 use Rattle.held.proofs.put_head.Reads as put-head-reads
 use Rattle.held.proofs.tagged.Reads as tagged-reads
 
-tagged-requires : tie.Need-tagged-requires
-tagged-requires c κs = search needs
-
-put-head-requires : tie.Need-put-head-requires
-put-head-requires c κs = search needs
-
 put-zigzags-requires : tie.Need-put-zigzags-requires
 put-zigzags-requires c κs = stays-in _ _ _ _ _ (c .before .before .before .before .before .before .before .pre .1) (c .before .before .before .put-head .ensures) .0
-
-same-length : tie.Need-same-length
-same-length c = search needs
 
 returns : tie.Need-returns
 unfolding fieldBytes
@@ -46,23 +37,11 @@ returns c =
     let a = z .args in
     ended-as (a .pos) (a .buf .now) (headOf (a .held) (a .places) (c .before .before .before .before .before .before .before .before .before .before .before .before .tagged .result) (length (a .items .now)) ++ each (λ z. shortest (zigzag z)) (a .items .now)) _ (a .place) _ _ (ap (λ (h : ℕ). headOf (a .held) (a .places) h (length (a .items .now)) ++ each (λ z. shortest (zigzag z)) (a .items .now)) (c .before .before .before .before .before .before .before .before .before .before .before .before .tagged .ensures) ∙ grouped (headersOf (a .held) (a .places)) (shortest (a .id * 8 + 4)) (shortest (length (a .items .now))) (each (λ z. shortest (zigzag z)) (a .items .now))) (stops-short (a .pos) (a .buf .now) _ (a .place) _ _ (joined _ _ _ _ _ _ _ _ (z .pre .1) (c .before .before .before .before .before .before .before .before .before .before .put-head .ensures) (c .before .before .before .before .before .before .put-zigzags .ensures)) (z .pre .1) (c .before .before .if1 .taken) (ltb-true _ _ (c .if2 .taken)))
 
-head-len-requires : tie.Need-head-len-requires
-head-len-requires c κs = search needs
-
-sub-room : tie.Need-sub-room
-sub-room c = search needs
-
-zigzags-go-on-requires : tie.Need-zigzags-go-on-requires
-zigzags-go-on-requires c κs = search needs
-
 add-t23 : tie.Need-add-t23
 add-t23 c =
     let a = c .before .before .before .before .before .before .before .before .before .before .before .before .before .before .before .args in
     let g : a .place + (length (a .buf .now) - a .pos) < 18446744073709551616 = ltb-true _ _ (both _ (ltb (a .place + (length (a .buf .now) - a .pos)) (c .before .before .head-len .result + length (each (λ z. shortest (zigzag z)) (a .items .now)))) (sym (c .before .zigzags-go-on .ensures) ∙ c .if3 .taken) .0) in
     record { fits = g }
-
-same-length-2 : tie.Need-same-length-2
-same-length-2 c = search needs
 
 returns-2 : tie.Need-returns-2
 unfolding fieldBytes
@@ -73,18 +52,6 @@ returns-2 c =
     let l = c .before .before .head-len .ensures .0 in
     let m = length-append (headOf (a .held) (a .places) (c .before .before .before .before .before .before .before .before .before .before .before .before .before .tagged .result) (length (a .items .now))) (each (λ z. shortest (zigzag z)) (a .items .now)) in
     ended-as (a .pos) (a .buf .now) (headOf (a .held) (a .places) (c .before .before .before .before .before .before .before .before .before .before .before .before .before .tagged .result) (length (a .items .now)) ++ each (λ z. shortest (zigzag z)) (a .items .now)) _ (a .place) _ _ (ap (λ (h : ℕ). headOf (a .held) (a .places) h (length (a .items .now)) ++ each (λ z. shortest (zigzag z)) (a .items .now)) (c .before .before .before .before .before .before .before .before .before .before .before .before .before .tagged .ensures) ∙ grouped (headersOf (a .held) (a .places)) (shortest (a .id * 8 + 4)) (shortest (length (a .items .now))) (each (λ z. shortest (zigzag z)) (a .items .now))) (goes-on (a .pos) (a .buf .now) _ (a .place) _ _ (joined _ _ _ _ _ _ _ _ (z .pre .1) (c .before .before .before .before .before .before .before .before .before .before .before .put-head .ensures) (c .before .before .before .before .before .before .before .put-zigzags .ensures)) _ refl (omega arith))
-
-zigzags-len-requires : tie.Need-zigzags-len-requires
-zigzags-len-requires c κs = search needs
-
-add-finish : tie.Need-add-finish
-add-finish c = search needs
-
-finish-requires : tie.Need-finish-requires
-finish-requires c κs = search needs
-
-same-length-3 : tie.Need-same-length-3
-same-length-3 c = search needs
 
 returns-3 : tie.Need-returns-3
 unfolding fieldBytes
@@ -100,19 +67,6 @@ pub put-signed-array-spec : {M : Type 1} → statement M
 put-signed-array-spec =
     tie.close
     (tie.spec
-    tagged-requires
-    put-head-requires
-    put-zigzags-requires
-    same-length
-    returns
-    head-len-requires
-    sub-room
-    zigzags-go-on-requires
-    add-t23
-    same-length-2
-    returns-2
-    zigzags-len-requires
-    add-finish
-    finish-requires
-    same-length-3
-    returns-3)
+    (λ c κs. search needs) (λ c κs. search needs) put-zigzags-requires (λ c. search needs) returns
+    (λ c κs. search needs) (λ c. search needs) (λ c κs. search needs) add-t23 (λ c. search needs) returns-2
+    (λ c κs. search needs) (λ c. search needs) (λ c κs. search needs) (λ c. search needs) returns-3)

@@ -26,17 +26,8 @@ use Rattle.held.proofs.head_len.Reads as head-len-reads
 use Rattle.held.proofs.put_head.Reads as put-head-reads
 use Rattle.held.proofs.tagged.Reads as tagged-reads
 
-tagged-requires : tie.Need-tagged-requires
-tagged-requires c κs = search needs
-
-put-head-requires : tie.Need-put-head-requires
-put-head-requires c κs = search needs
-
 put-varints-requires : tie.Need-put-varints-requires
 put-varints-requires c κs = stays-in _ _ _ _ _ (c .before .before .before .before .before .before .before .before .pre .1) (c .before .before .before .put-head .ensures) .0
-
-same-length : tie.Need-same-length
-same-length c = search needs
 
 returns : tie.Need-returns
 unfolding fieldBytes
@@ -45,23 +36,11 @@ returns c =
     let a = z .args in
     ended-as (a .pos) (a .buf .now) (headOf (a .held) (a .places) (c .before .before .before .before .before .before .before .before .before .before .before .before .tagged .result) (length (a .items .now)) ++ each shortest (a .items .now)) _ (a .place) _ _ (ap (λ (h : ℕ). headOf (a .held) (a .places) h (length (a .items .now)) ++ each shortest (a .items .now)) (c .before .before .before .before .before .before .before .before .before .before .before .before .tagged .ensures) ∙ grouped (headersOf (a .held) (a .places)) (shortest (a .id * 8 + 3)) (shortest (length (a .items .now))) (each shortest (a .items .now))) (stops-short (a .pos) (a .buf .now) _ (a .place) _ _ (joined _ _ _ _ _ _ _ _ (z .pre .1) (c .before .before .before .before .before .before .before .before .before .before .put-head .ensures) (c .before .before .before .before .before .before .put-varints .ensures)) (z .pre .1) (c .before .before .if1 .taken) (ltb-true _ _ (c .if2 .taken)))
 
-head-len-requires : tie.Need-head-len-requires
-head-len-requires c κs = search needs
-
-sub-room : tie.Need-sub-room
-sub-room c = search needs
-
-varints-go-on-requires : tie.Need-varints-go-on-requires
-varints-go-on-requires c κs = search needs
-
 add-t23 : tie.Need-add-t23
 add-t23 c =
     let a = c .before .before .before .before .before .before .before .before .before .before .before .before .before .before .before .before .args in
     let g : a .place + (length (a .buf .now) - a .pos) < 18446744073709551616 = ltb-true _ _ (both _ (ltb (a .place + (length (a .buf .now) - a .pos)) (c .before .before .head-len .result + length (each shortest (a .items .now)))) (sym (c .before .varints-go-on .ensures) ∙ c .if3 .taken) .0) in
     record { fits = g }
-
-same-length-2 : tie.Need-same-length-2
-same-length-2 c = search needs
 
 returns-2 : tie.Need-returns-2
 unfolding fieldBytes
@@ -72,18 +51,6 @@ returns-2 c =
     let l = c .before .before .head-len .ensures .0 in
     let m = length-append (headOf (a .held) (a .places) (c .before .before .before .before .before .before .before .before .before .before .before .before .before .tagged .result) (length (a .items .now))) (each shortest (a .items .now)) in
     ended-as (a .pos) (a .buf .now) (headOf (a .held) (a .places) (c .before .before .before .before .before .before .before .before .before .before .before .before .before .tagged .result) (length (a .items .now)) ++ each shortest (a .items .now)) _ (a .place) _ _ (ap (λ (h : ℕ). headOf (a .held) (a .places) h (length (a .items .now)) ++ each shortest (a .items .now)) (c .before .before .before .before .before .before .before .before .before .before .before .before .before .tagged .ensures) ∙ grouped (headersOf (a .held) (a .places)) (shortest (a .id * 8 + 3)) (shortest (length (a .items .now))) (each shortest (a .items .now))) (goes-on (a .pos) (a .buf .now) _ (a .place) _ _ (joined _ _ _ _ _ _ _ _ (z .pre .1) (c .before .before .before .before .before .before .before .before .before .before .before .put-head .ensures) (c .before .before .before .before .before .before .before .put-varints .ensures)) _ refl (omega arith))
-
-varints-len-requires : tie.Need-varints-len-requires
-varints-len-requires c κs = search needs
-
-add-finish : tie.Need-add-finish
-add-finish c = search needs
-
-finish-requires : tie.Need-finish-requires
-finish-requires c κs = search needs
-
-same-length-3 : tie.Need-same-length-3
-same-length-3 c = search needs
 
 returns-3 : tie.Need-returns-3
 unfolding fieldBytes
@@ -99,19 +66,6 @@ pub put-unsigned-array-spec : {M : Type 1} → statement M
 put-unsigned-array-spec =
     tie.close
     (tie.spec
-    tagged-requires
-    put-head-requires
-    put-varints-requires
-    same-length
-    returns
-    head-len-requires
-    sub-room
-    varints-go-on-requires
-    add-t23
-    same-length-2
-    returns-2
-    varints-len-requires
-    add-finish
-    finish-requires
-    same-length-3
-    returns-3)
+    (λ c κs. search needs) (λ c κs. search needs) put-varints-requires (λ c. search needs) returns
+    (λ c κs. search needs) (λ c. search needs) (λ c κs. search needs) add-t23 (λ c. search needs) returns-2
+    (λ c κs. search needs) (λ c. search needs) (λ c κs. search needs) (λ c. search needs) returns-3)

@@ -23,23 +23,8 @@ abbrev μ-loop : tie.MeasureT-loop
 loop-holds : tie.Need-loop-holds Inv-loop μ-loop
 loop-holds c = roomy-start _ _ _ _ _ (c .before .before .pre)
 
-mul-value : tie.Need-mul-value Inv-loop μ-loop
-mul-value c = search needs
-
-shared-slice-read-value : tie.Need-shared-slice-read-value Inv-loop μ-loop
-shared-slice-read-value c = search needs
-
-fp64-bits-requires : tie.Need-fp64-bits-requires Inv-loop μ-loop
-fp64-bits-requires c κs = search needs
-
 put-eight-requires : tie.Need-put-eight-requires Inv-loop μ-loop
 put-eight-requires c κs = let l = c .before .before .before .before .loop in roomy-here _ _ _ _ _ _ _ _ (l .inv) (c .before .before .before .loop-test .taken)
-
-add-i : tie.Need-add-i Inv-loop μ-loop
-add-i c = search needs
-
-loop-less : tie.Need-loop-less Inv-loop μ-loop
-loop-less c = search needs
 
 loop-again : tie.Need-loop-again Inv-loop μ-loop
 loop-again c =
@@ -57,15 +42,5 @@ pub put-eight-floats-spec : {M : Type 1} → statement M
 put-eight-floats-spec =
     tie.close
     (tie.spec
-    Inv-loop
-    μ-loop
-    loop-holds
-    mul-value
-    shared-slice-read-value
-    fp64-bits-requires
-    put-eight-requires
-    add-i
-    loop-less
-    loop-again
-    same-length
-    returns)
+    Inv-loop μ-loop loop-holds (λ c. search needs) (λ c. search needs) (λ c κs. search needs) put-eight-requires
+    (λ c. search needs) (λ c. search needs) loop-again same-length returns)

@@ -23,91 +23,24 @@ second c = let r = c .before .before .before .pre in more-digits _ _ _ _ _ _ (fi
 done : (c : tie.After-slice-known2) → Whole (c .before .before .before .before .before .before .before .args .buf .now) (c .before .before .before .before .before .before .before .args .pos) (shortest (c .before .before .before .before .before .before .before .args .v)) (c .before .before .put-third .last .0) (c .before .before .put-third .result)
 done c = followed _ _ _ _ _ _ _ _ (second (c .before .before .before .before)) (c .before .before .put-third .ensures)
 
--- src/lib.rt:48:20
-cast-buf : tie.Need-cast-buf
-cast-buf c = search needs
-
--- src/lib.rt:48:9
-slice-write-buf : tie.Need-slice-write-buf
-slice-write-buf c = search needs
-
--- src/lib.rt:49:16
-add-result : tie.Need-add-result
-add-result c = search needs
-
--- src/lib.rt:49:9
-same-length : tie.Need-same-length
-same-length c = search needs
-
--- src/lib.rt:49:9
 returns : tie.Need-returns
 returns c = let r = c .before .before .pre in last-digit _ _ _ _ _ _ (start _ _ _) (omega arith) (c .if1 .taken) _ refl
 
--- src/lib.rt:51:17
-add-buf : tie.Need-add-buf
-add-buf c = search needs
-
--- src/lib.rt:51:16
-cast-buf-2 : tie.Need-cast-buf-2
-cast-buf-2 c = search needs
-
--- src/lib.rt:51:5
-slice-write-buf-2 : tie.Need-slice-write-buf-2
-slice-write-buf-2 c = search needs
-
--- src/lib.rt:54:24
-cast-buf-3 : tie.Need-cast-buf-3
-cast-buf-3 c = search needs
-
--- src/lib.rt:54:13
-add-buf-2 : tie.Need-add-buf-2
-add-buf-2 c = search needs
-
--- src/lib.rt:54:9
 slice-write-buf-3 : tie.Need-slice-write-buf-3
 slice-write-buf-3 c = let r = c .before .before .before .pre in simp length-set (omega arith)
 
--- src/lib.rt:55:16
-add-result-2 : tie.Need-add-result-2
-add-result-2 c = search needs
-
--- src/lib.rt:55:9
-same-length-2 : tie.Need-same-length-2
-same-length-2 c = search needs
-
--- src/lib.rt:55:9
 returns-2 : tie.Need-returns-2
 returns-2 c = let r = c .before .before .before .pre in last-digit _ _ _ _ _ _ (first (c .before)) (omega arith) (c .if2 .taken) _ (omega arith)
 
--- src/lib.rt:57:21
-add-buf-3 : tie.Need-add-buf-3
-add-buf-3 c = search needs
-
--- src/lib.rt:57:20
-cast-buf-4 : tie.Need-cast-buf-4
-cast-buf-4 c = search needs
-
--- src/lib.rt:57:9
-add-buf-4 : tie.Need-add-buf-4
-add-buf-4 c = search needs
-
--- src/lib.rt:57:5
 slice-write-buf-4 : tie.Need-slice-write-buf-4
 slice-write-buf-4 c = let r = c .before .before .before .pre in simp length-set (omega arith)
 
--- src/lib.rt:58:20
-add-put-third : tie.Need-add-put-third
-add-put-third c = search needs
-
--- src/lib.rt:58:5
 put-third-requires : tie.Need-put-third-requires
 put-third-requires c κs = let r = c .before .before .before .before .pre in simp length-set (omega arith)
 
--- src/lib.rt:43:1
 same-length-3 : tie.Need-same-length-3
 same-length-3 c = let r = c .before .before .before .before .before .before .before .pre in ap length (done c .1) ∙ length-put _ _ _ (omega arith)
 
--- src/lib.rt:43:1
 returns-3 : tie.Need-returns-3
 returns-3 c = done c
 
@@ -115,25 +48,7 @@ pub put-fitting-spec : {M : Type 1} → statement M
 put-fitting-spec =
     tie.close
     (tie.spec
-    cast-buf
-    slice-write-buf
-    add-result
-    same-length
-    returns
-    add-buf
-    cast-buf-2
-    slice-write-buf-2
-    cast-buf-3
-    add-buf-2
-    slice-write-buf-3
-    add-result-2
-    same-length-2
-    returns-2
-    add-buf-3
-    cast-buf-4
-    add-buf-4
-    slice-write-buf-4
-    add-put-third
-    put-third-requires
-    same-length-3
-    returns-3)
+    (λ c. search needs) (λ c. search needs) (λ c. search needs) (λ c. search needs) returns (λ c. search needs)
+    (λ c. search needs) (λ c. search needs) (λ c. search needs) (λ c. search needs) slice-write-buf-3
+    (λ c. search needs) (λ c. search needs) returns-2 (λ c. search needs) (λ c. search needs) (λ c. search needs)
+    slice-write-buf-4 (λ c. search needs) put-third-requires same-length-3 returns-3)

@@ -26,23 +26,8 @@ abbrev μ-loop : tie.MeasureT-loop
 loop-holds : tie.Need-loop-holds Inv-loop μ-loop
 loop-holds c = roomy-start _ _ _ _ _ (c .before .pre)
 
-mul-v : tie.Need-mul-v Inv-loop μ-loop
-mul-v c = search needs
-
-shared-slice-copy-out-v : tie.Need-shared-slice-copy-out-v Inv-loop μ-loop
-shared-slice-copy-out-v c = search needs
-
-zigzag-encode-requires : tie.Need-zigzag-encode-requires Inv-loop μ-loop
-zigzag-encode-requires c κs = search needs
-
 put-fitting-requires : tie.Need-put-fitting-requires Inv-loop μ-loop
 put-fitting-requires c κs = let l = c .before .before .before .before .loop in roomy-here _ _ _ _ _ _ _ _ (l .inv) (c .before .before .before .loop-test .taken)
-
-add-i : tie.Need-add-i Inv-loop μ-loop
-add-i c = search needs
-
-loop-less : tie.Need-loop-less Inv-loop μ-loop
-loop-less c = search needs
 
 loop-again : tie.Need-loop-again Inv-loop μ-loop
 loop-again c =
@@ -63,15 +48,5 @@ pub put-fitting-zigzags-spec : {M : Type 1} → statement M
 put-fitting-zigzags-spec =
     tie.close
     (tie.spec
-    Inv-loop
-    μ-loop
-    loop-holds
-    mul-v
-    shared-slice-copy-out-v
-    zigzag-encode-requires
-    put-fitting-requires
-    add-i
-    loop-less
-    loop-again
-    same-length
-    returns)
+    Inv-loop μ-loop loop-holds (λ c. search needs) (λ c. search needs) (λ c κs. search needs) put-fitting-requires
+    (λ c. search needs) (λ c. search needs) loop-again same-length returns)

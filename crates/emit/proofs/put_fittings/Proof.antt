@@ -39,17 +39,11 @@ loop-holds c = (roomy-start _ _ _ _ _ (c .before .before .pre), omega arith)
 sub-loop : tie.Need-sub-loop Inv-loop μ-loop
 sub-loop c = let h = c .loop .inv .1 in search needs
 
-mul-v : tie.Need-mul-v Inv-loop μ-loop
-mul-v c = search needs
-
 shared-slice-read-v : tie.Need-shared-slice-read-v Inv-loop μ-loop
 shared-slice-read-v c = let t = c .before .loop-test .taken in omega arith
 
 add-w : tie.Need-add-w Inv-loop μ-loop
 add-w c = let t = c .before .loop-test .taken in record { fits = omega arith }
-
-mul-w : tie.Need-mul-w Inv-loop μ-loop
-mul-w c = search needs
 
 shared-slice-read-w : tie.Need-shared-slice-read-w Inv-loop μ-loop
 shared-slice-read-w c = let t = c .before .before .loop-test .taken in omega arith
@@ -77,12 +71,6 @@ loop-again c =
       omega arith,
     )
 
-mul-v-2 : tie.Need-mul-v-2 Inv-loop μ-loop
-mul-v-2 c = search needs
-
-shared-slice-read-v-2 : tie.Need-shared-slice-read-v-2 Inv-loop μ-loop
-shared-slice-read-v-2 c = search needs
-
 put-fitting-requires-3 : tie.Need-put-fitting-requires-3 Inv-loop μ-loop
 put-fitting-requires-3 c κs = roomy-here _ _ _ _ _ _ _ _ (c .before .before .before .before .loop .inv .0) (c .before .before .if1 .taken)
 
@@ -109,24 +97,6 @@ pub put-fittings-spec : {M : Type 1} → statement M
 put-fittings-spec =
     tie.close
     (tie.spec
-    Inv-loop
-    μ-loop
-    loop-holds
-    sub-loop
-    mul-v
-    shared-slice-read-v
-    add-w
-    mul-w
-    shared-slice-read-w
-    put-fitting-requires
-    put-fitting-requires-2
-    add-i
-    loop-less
-    loop-again
-    mul-v-2
-    shared-slice-read-v-2
-    put-fitting-requires-3
-    same-length
-    returns
-    same-length-2
-    returns-2)
+    Inv-loop μ-loop loop-holds sub-loop (λ c. search needs) shared-slice-read-v add-w (λ c. search needs)
+    shared-slice-read-w put-fitting-requires put-fitting-requires-2 add-i loop-less loop-again (λ c. search needs)
+    (λ c. search needs) put-fitting-requires-3 same-length returns same-length-2 returns-2)

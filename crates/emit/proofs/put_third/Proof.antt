@@ -28,115 +28,27 @@ second c =
 done : (c : tie.After-slice-known2) → Whole (c .before .before .before .before .before .before .before .before .args .buf .now) (c .before .before .before .before .before .before .before .before .args .pos) (shortest (c .before .before .before .before .before .before .before .before .args .v)) (c .before .before .put-whole .last .0) (c .before .before .put-whole .result)
 done c = followed _ _ _ _ _ _ _ _ (second (c .before .before .before .before .before)) (c .before .before .put-whole .ensures)
 
--- src/lib.rt:67:20
-cast-buf : tie.Need-cast-buf
-cast-buf c = search needs
-
--- src/lib.rt:67:9
-slice-write-buf : tie.Need-slice-write-buf
-slice-write-buf c = search needs
-
--- src/lib.rt:68:16
-add-result : tie.Need-add-result
-add-result c = search needs
-
--- src/lib.rt:68:9
-same-length : tie.Need-same-length
-same-length c = search needs
-
--- src/lib.rt:68:9
 returns : tie.Need-returns
 returns c = let r = c .before .before .pre in last-digit _ _ _ _ _ _ (start _ _ _) (omega arith) (c .if1 .taken) _ refl
 
--- src/lib.rt:70:17
-add-buf : tie.Need-add-buf
-add-buf c = search needs
-
--- src/lib.rt:70:16
-cast-buf-2 : tie.Need-cast-buf-2
-cast-buf-2 c = search needs
-
--- src/lib.rt:70:5
-slice-write-buf-2 : tie.Need-slice-write-buf-2
-slice-write-buf-2 c = search needs
-
--- src/lib.rt:73:24
-cast-buf-3 : tie.Need-cast-buf-3
-cast-buf-3 c = search needs
-
--- src/lib.rt:73:13
-add-buf-2 : tie.Need-add-buf-2
-add-buf-2 c = search needs
-
--- src/lib.rt:73:9
 slice-write-buf-3 : tie.Need-slice-write-buf-3
 slice-write-buf-3 c = let r = c .before .before .before .pre in simp length-set (omega arith)
 
--- src/lib.rt:74:16
-add-result-2 : tie.Need-add-result-2
-add-result-2 c = search needs
-
--- src/lib.rt:74:9
-same-length-2 : tie.Need-same-length-2
-same-length-2 c = search needs
-
--- src/lib.rt:74:9
 returns-2 : tie.Need-returns-2
 returns-2 c = let r = c .before .before .before .pre in last-digit _ _ _ _ _ _ (first (c .before)) (omega arith) (c .if2 .taken) _ (omega arith)
 
--- src/lib.rt:76:21
-add-buf-3 : tie.Need-add-buf-3
-add-buf-3 c = search needs
-
--- src/lib.rt:76:20
-cast-buf-4 : tie.Need-cast-buf-4
-cast-buf-4 c = search needs
-
--- src/lib.rt:76:9
-add-buf-4 : tie.Need-add-buf-4
-add-buf-4 c = search needs
-
--- src/lib.rt:76:5
 slice-write-buf-4 : tie.Need-slice-write-buf-4
 slice-write-buf-4 c = let r = c .before .before .before .pre in simp length-set (omega arith)
 
--- src/lib.rt:79:24
-cast-buf-5 : tie.Need-cast-buf-5
-cast-buf-5 c = search needs
-
--- src/lib.rt:79:13
-add-buf-5 : tie.Need-add-buf-5
-add-buf-5 c = search needs
-
--- src/lib.rt:79:9
 slice-write-buf-5 : tie.Need-slice-write-buf-5
 slice-write-buf-5 c = let r = c .before .before .before .before .pre in simp length-set (omega arith)
 
--- src/lib.rt:80:16
-add-result-3 : tie.Need-add-result-3
-add-result-3 c = search needs
-
--- src/lib.rt:80:9
-same-length-3 : tie.Need-same-length-3
-same-length-3 c = search needs
-
--- src/lib.rt:80:9
 returns-3 : tie.Need-returns-3
 returns-3 c = let r = c .before .before .before .before .pre in last-digit _ _ _ _ _ _ (second (c .before)) (omega arith) (c .if3 .taken) _ (omega arith)
 
--- src/lib.rt:82:20
-add-put-whole : tie.Need-add-put-whole
-add-put-whole c = search needs
-
--- src/lib.rt:82:5
-put-whole-requires : tie.Need-put-whole-requires
-put-whole-requires c κs = search needs
-
--- src/lib.rt:62:1
 same-length-4 : tie.Need-same-length-4
 same-length-4 c = let r = c .before .before .before .before .before .before .before .before .pre in ap length (done c .1) ∙ length-put _ _ _ (omega arith)
 
--- src/lib.rt:62:1
 returns-4 : tie.Need-returns-4
 returns-4 c = done c
 
@@ -144,31 +56,8 @@ pub put-third-spec : {M : Type 1} → statement M
 put-third-spec =
     tie.close
     (tie.spec
-    cast-buf
-    slice-write-buf
-    add-result
-    same-length
-    returns
-    add-buf
-    cast-buf-2
-    slice-write-buf-2
-    cast-buf-3
-    add-buf-2
-    slice-write-buf-3
-    add-result-2
-    same-length-2
-    returns-2
-    add-buf-3
-    cast-buf-4
-    add-buf-4
-    slice-write-buf-4
-    cast-buf-5
-    add-buf-5
-    slice-write-buf-5
-    add-result-3
-    same-length-3
-    returns-3
-    add-put-whole
-    put-whole-requires
-    same-length-4
-    returns-4)
+    (λ c. search needs) (λ c. search needs) (λ c. search needs) (λ c. search needs) returns (λ c. search needs)
+    (λ c. search needs) (λ c. search needs) (λ c. search needs) (λ c. search needs) slice-write-buf-3
+    (λ c. search needs) (λ c. search needs) returns-2 (λ c. search needs) (λ c. search needs) (λ c. search needs)
+    slice-write-buf-4 (λ c. search needs) (λ c. search needs) slice-write-buf-5 (λ c. search needs)
+    (λ c. search needs) returns-3 (λ c. search needs) (λ c κs. search needs) same-length-4 returns-4)

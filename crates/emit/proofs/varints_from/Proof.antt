@@ -23,20 +23,8 @@ abbrev μ-loop : tie.MeasureT-loop
 loop-holds : tie.Need-loop-holds Inv-loop μ-loop
 loop-holds c = going-start _ _ _ _ _ (c .before .before .pre)
 
-mul-v : tie.Need-mul-v Inv-loop μ-loop
-mul-v c = search needs
-
-shared-slice-read-v : tie.Need-shared-slice-read-v Inv-loop μ-loop
-shared-slice-read-v c = omega (arith, ltb-true)
-
 put-next-requires : tie.Need-put-next-requires Inv-loop μ-loop
 put-next-requires c κs = going-in _ _ _ _ _ _ _ _ (c .before .before .before .before .loop .inv)
-
-add-i : tie.Need-add-i Inv-loop μ-loop
-add-i c = search needs
-
-loop-less : tie.Need-loop-less Inv-loop μ-loop
-loop-less c = omega (arith, ltb-true)
 
 loop-again : tie.Need-loop-again Inv-loop μ-loop
 loop-again c = let l = c .before .before .before .before .before .before .before .loop in going-next _ _ _ _ _ _ _ _ (l .inv) 0 _ _ _ (omega (arith, ltb-true)) refl (c .before .before .put-next .ensures)
@@ -57,16 +45,5 @@ pub varints-from-spec : {M : Type 1} → statement M
 varints-from-spec =
     tie.close
     (tie.spec
-    Inv-loop
-    μ-loop
-    loop-holds
-    mul-v
-    shared-slice-read-v
-    put-next-requires
-    add-i
-    loop-less
-    loop-again
-    same-length
-    returns
-    same-length-2
-    returns-2)
+    Inv-loop μ-loop loop-holds (λ c. search needs) (λ c. omega (arith, ltb-true)) put-next-requires
+    (λ c. search needs) (λ c. omega (arith, ltb-true)) loop-again same-length returns same-length-2 returns-2)

@@ -16,26 +16,11 @@ use Rattle.emit.proofs.varints_go_on.Reads as reads
 use Rattle.emit.proofs.varints_go_on.Lts as lts
 use Rattle.emit.proofs.varints_out.Reads as varints-out-reads
 
-sub-if1 : tie.Need-sub-if1
-sub-if1 c = search needs
-
 returns : tie.Need-returns
 returns c = let a = c .before .before .args in let g = c .if1 .taken in sym (ap (λ (x : Bool). x && ltb (a .place + a .room) (a .head + length (each shortest (a .items .now)))) (le-ltb (a .place + a .room) 18446744073709551616 (omega arith)))
 
-add-if2 : tie.Need-add-if2
-add-if2 c = search needs
-
 returns-2 : tie.Need-returns-2
 returns-2 c = let a = c .before .before .before .args in let g = c .before .if1 .left in let h = c .if2 .taken in sym (ap (λ (x : Bool). x && ltb (a .place + a .room) (a .head + length (each shortest (a .items .now)))) (lt-ltb (a .place + a .room) 18446744073709551616 (omega arith)) ∙ lt-ltb (a .place + a .room) (a .head + length (each shortest (a .items .now))) (omega arith))
-
-add-varints-out : tie.Need-add-varints-out
-add-varints-out c = search needs
-
-sub-varints-out : tie.Need-sub-varints-out
-sub-varints-out c = search needs
-
-varints-out-requires : tie.Need-varints-out-requires
-varints-out-requires c κs = search needs
 
 returns-3 : tie.Need-returns-3
 returns-3 c = let a = c .before .before .before .before .before .args in let g = c .before .before .before .if1 .left in let h = c .before .before .if2 .left in goes-beyond _ _ _ _ _ _ h (c .before .varints-out .ensures) ∙ sym (ap (λ (x : Bool). x && ltb (a .place + a .room) (a .head + length (each shortest (a .items .now)))) (lt-ltb (a .place + a .room) 18446744073709551616 (omega arith)))
@@ -44,11 +29,5 @@ pub varints-go-on-spec : {M : Type 1} → statement M
 varints-go-on-spec =
     tie.close
     (tie.spec
-    sub-if1
-    returns
-    add-if2
-    returns-2
-    add-varints-out
-    sub-varints-out
-    varints-out-requires
-    returns-3)
+    (λ c. search needs) returns (λ c. search needs) returns-2 (λ c. search needs) (λ c. search needs)
+    (λ c κs. search needs) returns-3)

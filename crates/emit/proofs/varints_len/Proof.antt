@@ -28,23 +28,8 @@ short c =
 loop-holds : tie.Need-loop-holds Inv-loop μ-loop
 loop-holds c = (c .before .pre, count-start _ _ _)
 
-mul-v : tie.Need-mul-v Inv-loop μ-loop
-mul-v c = search needs
-
-shared-slice-read-v : tie.Need-shared-slice-read-v Inv-loop μ-loop
-shared-slice-read-v c = search needs
-
-varint-len-requires : tie.Need-varint-len-requires Inv-loop μ-loop
-varint-len-requires c κs = search needs
-
 add-len : tie.Need-add-len Inv-loop μ-loop
 add-len c = let m = c .before .before .before .loop .inv .1 .most in let h = short c in record { fits = omega arith }
-
-add-i : tie.Need-add-i Inv-loop μ-loop
-add-i c = search needs
-
-loop-less : tie.Need-loop-less Inv-loop μ-loop
-loop-less c = search needs
 
 loop-again : tie.Need-loop-again Inv-loop μ-loop
 loop-again c = let l = c .before .before .before .loop in (l .inv .0, count-next _ _ _ _ _ 0 _ (l .inv .1) (c .before .before .loop-test .taken) (c .varint-len .ensures) (short c))
@@ -56,14 +41,5 @@ pub varints-len-spec : {M : Type 1} → statement M
 varints-len-spec =
     tie.close
     (tie.spec
-    Inv-loop
-    μ-loop
-    loop-holds
-    mul-v
-    shared-slice-read-v
-    varint-len-requires
-    add-len
-    add-i
-    loop-less
-    loop-again
-    returns)
+    Inv-loop μ-loop loop-holds (λ c. search needs) (λ c. search needs) (λ c κs. search needs) add-len
+    (λ c. search needs) (λ c. search needs) loop-again returns)

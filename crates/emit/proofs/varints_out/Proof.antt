@@ -19,23 +19,8 @@ abbrev μ-loop : tie.MeasureT-loop
 loop-holds : tie.Need-loop-holds Inv-loop μ-loop
 loop-holds c = out-start _ _ _
 
-mul-v : tie.Need-mul-v Inv-loop μ-loop
-mul-v c = search needs
-
-shared-slice-read-v : tie.Need-shared-slice-read-v Inv-loop μ-loop
-shared-slice-read-v c = search needs
-
-varint-len-requires : tie.Need-varint-len-requires Inv-loop μ-loop
-varint-len-requires c κs = search needs
-
 returns : tie.Need-returns Inv-loop μ-loop
 returns c = out-stop _ _ _ _ _ (c .before .before .before .before .loop .inv) 0 _ (c .before .before .before .loop-test .taken) (c .before .varint-len .ensures) (c .if1 .taken)
-
-add-i : tie.Need-add-i Inv-loop μ-loop
-add-i c = search needs
-
-loop-less : tie.Need-loop-less Inv-loop μ-loop
-loop-less c = search needs
 
 loop-again : tie.Need-loop-again Inv-loop μ-loop
 loop-again c = out-next _ _ _ _ _ (c .before .before .before .before .loop .inv) 0 _ (c .before .before .before .loop-test .taken) (c .before .varint-len .ensures) (c .if1 .left)
@@ -47,14 +32,5 @@ pub varints-out-spec : {M : Type 1} → statement M
 varints-out-spec =
     tie.close
     (tie.spec
-    Inv-loop
-    μ-loop
-    loop-holds
-    mul-v
-    shared-slice-read-v
-    varint-len-requires
-    returns
-    add-i
-    loop-less
-    loop-again
-    returns-2)
+    Inv-loop μ-loop loop-holds (λ c. search needs) (λ c. search needs) (λ c κs. search needs) returns
+    (λ c. search needs) (λ c. search needs) loop-again returns-2)

@@ -28,23 +28,8 @@ abbrev μ-loop : tie.MeasureT-loop
 loop-holds : tie.Need-loop-holds Inv-loop μ-loop
 loop-holds c = going-start _ _ _ _ _ (c .before .pre)
 
-mul-v : tie.Need-mul-v Inv-loop μ-loop
-mul-v c = search needs
-
-shared-slice-copy-out-v : tie.Need-shared-slice-copy-out-v Inv-loop μ-loop
-shared-slice-copy-out-v c = omega (arith, ltb-true)
-
-zigzag-encode-requires : tie.Need-zigzag-encode-requires Inv-loop μ-loop
-zigzag-encode-requires c κs = search needs
-
 put-next-requires : tie.Need-put-next-requires Inv-loop μ-loop
 put-next-requires c κs = going-in _ _ _ _ _ _ _ _ (c .before .before .before .before .before .loop .inv)
-
-add-i : tie.Need-add-i Inv-loop μ-loop
-add-i c = search needs
-
-loop-less : tie.Need-loop-less Inv-loop μ-loop
-loop-less c = omega (arith, ltb-true)
 
 loop-again : tie.Need-loop-again Inv-loop μ-loop
 loop-again c =
@@ -69,17 +54,6 @@ pub zigzags-from-spec : {M : Type 1} → statement M
 zigzags-from-spec =
     tie.close
     (tie.spec
-    Inv-loop
-    μ-loop
-    loop-holds
-    mul-v
-    shared-slice-copy-out-v
-    zigzag-encode-requires
-    put-next-requires
-    add-i
-    loop-less
-    loop-again
-    same-length
-    returns
-    same-length-2
+    Inv-loop μ-loop loop-holds (λ c. search needs) (λ c. omega (arith, ltb-true)) (λ c κs. search needs)
+    put-next-requires (λ c. search needs) (λ c. omega (arith, ltb-true)) loop-again same-length returns same-length-2
     returns-2)

@@ -17,26 +17,11 @@ use Rattle.emit.proofs.zigzags_go_on.Reads as reads
 use Rattle.emit.proofs.zigzags_go_on.Lts as lts
 use Rattle.emit.proofs.zigzags_out.Reads as zigzags-out-reads
 
-sub-if1 : tie.Need-sub-if1
-sub-if1 c = search needs
-
 returns : tie.Need-returns
 returns c = let a = c .before .args in let g = c .if1 .taken in sym (ap (λ (x : Bool). x && ltb (a .place + a .room) (a .head + length (each (λ z. shortest (zigzag z)) (a .items .now)))) (le-ltb (a .place + a .room) 18446744073709551616 (omega arith)))
 
-add-if2 : tie.Need-add-if2
-add-if2 c = search needs
-
 returns-2 : tie.Need-returns-2
 returns-2 c = let a = c .before .before .args in let g = c .before .if1 .left in let h = c .if2 .taken in sym (ap (λ (x : Bool). x && ltb (a .place + a .room) (a .head + length (each (λ z. shortest (zigzag z)) (a .items .now)))) (lt-ltb (a .place + a .room) 18446744073709551616 (omega arith)) ∙ lt-ltb (a .place + a .room) (a .head + length (each (λ z. shortest (zigzag z)) (a .items .now))) (omega arith))
-
-add-zigzags-out : tie.Need-add-zigzags-out
-add-zigzags-out c = search needs
-
-sub-zigzags-out : tie.Need-sub-zigzags-out
-sub-zigzags-out c = search needs
-
-zigzags-out-requires : tie.Need-zigzags-out-requires
-zigzags-out-requires c κs = search needs
 
 returns-3 : tie.Need-returns-3
 returns-3 c = let a = c .before .before .before .before .args in let g = c .before .before .before .if1 .left in let h = c .before .before .if2 .left in goes-beyond _ _ _ _ _ _ h (c .before .zigzags-out .ensures) ∙ sym (ap (λ (x : Bool). x && ltb (a .place + a .room) (a .head + length (each (λ z. shortest (zigzag z)) (a .items .now)))) (lt-ltb (a .place + a .room) 18446744073709551616 (omega arith)))
@@ -45,11 +30,5 @@ pub zigzags-go-on-spec : {M : Type 1} → statement M
 zigzags-go-on-spec =
     tie.close
     (tie.spec
-    sub-if1
-    returns
-    add-if2
-    returns-2
-    add-zigzags-out
-    sub-zigzags-out
-    zigzags-out-requires
-    returns-3)
+    (λ c. search needs) returns (λ c. search needs) returns-2 (λ c. search needs) (λ c. search needs)
+    (λ c κs. search needs) returns-3)

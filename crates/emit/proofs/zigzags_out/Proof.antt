@@ -25,18 +25,6 @@ abbrev μ-loop : tie.MeasureT-loop
 loop-holds : tie.Need-loop-holds Inv-loop μ-loop
 loop-holds c = out-start _ _ _
 
-mul-v : tie.Need-mul-v Inv-loop μ-loop
-mul-v c = search needs
-
-shared-slice-copy-out-v : tie.Need-shared-slice-copy-out-v Inv-loop μ-loop
-shared-slice-copy-out-v c = search needs
-
-zigzag-encode-requires : tie.Need-zigzag-encode-requires Inv-loop μ-loop
-zigzag-encode-requires c κs = search needs
-
-varint-len-requires : tie.Need-varint-len-requires Inv-loop μ-loop
-varint-len-requires c κs = search needs
-
 -- the length that the code takes is that of the element's varint
 long : (c : tie.After-varint-len Inv-loop μ-loop) → c .varint-len .result ≡ length (shortest (zigzag (getD (c .before .before .before .before .before .args .items .now) (c .before .before .before .before .loop .i) (pos 0))))
 long c =
@@ -45,12 +33,6 @@ long c =
 
 returns : tie.Need-returns Inv-loop μ-loop
 returns c = out-stop _ _ _ _ _ (c .before .before .before .before .before .loop .inv) (pos 0) _ (c .before .before .before .before .loop-test .taken) (long (c .before)) (c .if1 .taken)
-
-add-i : tie.Need-add-i Inv-loop μ-loop
-add-i c = search needs
-
-loop-less : tie.Need-loop-less Inv-loop μ-loop
-loop-less c = search needs
 
 loop-again : tie.Need-loop-again Inv-loop μ-loop
 loop-again c = out-next _ _ _ _ _ (c .before .before .before .before .before .loop .inv) (pos 0) _ (c .before .before .before .before .loop-test .taken) (long (c .before)) (c .if1 .left)
@@ -62,15 +44,5 @@ pub zigzags-out-spec : {M : Type 1} → statement M
 zigzags-out-spec =
     tie.close
     (tie.spec
-    Inv-loop
-    μ-loop
-    loop-holds
-    mul-v
-    shared-slice-copy-out-v
-    zigzag-encode-requires
-    varint-len-requires
-    returns
-    add-i
-    loop-less
-    loop-again
-    returns-2)
+    Inv-loop μ-loop loop-holds (λ c. search needs) (λ c. search needs) (λ c κs. search needs) (λ c κs. search needs)
+    returns (λ c. search needs) (λ c. search needs) loop-again returns-2)

@@ -25,14 +25,8 @@ roomy c = sym (c .before .before .before .has-room .ensures) ∙ not-false _ (c 
 tested : (c : tie.Else2) → (roomFor (length (c .before .before .before .before .before .args .buf .now)) (c .before .before .before .before .before .args .pos) 0 && clean (c .before .before .before .before .before .args .places)) ≡ true
 tested c = yes-both _ _ (roomy c) (sym (c .before .unused-zero .ensures) ∙ not-false _ (c .if2 .left))
 
-has-room-requires : tie.Need-has-room-requires
-has-room-requires c κs = search needs
-
 returns : tie.Need-returns
 returns c = let a = c .before .before .before .args in unmade (roomFor (length (a .buf .now)) (a .pos) 0 && clean (a .places)) (a .buf .now) (a .pos) (shortest (a .header) ++ shortest (a .second)) (no-first _ _ (sym (c .before .has-room .ensures) ∙ not-true _ (c .if1 .taken)))
-
-unused-zero-requires : tie.Need-unused-zero-requires
-unused-zero-requires c κs = search needs
 
 returns-2 : tie.Need-returns-2
 returns-2 c =
@@ -53,9 +47,6 @@ put-fitting-requires-2 c κs =
     let l = length-64 (a .header) (t .before .before .before .before .before .fits .header .fits) in
     omega arith
 
-same-length : tie.Need-same-length
-same-length c = search needs
-
 returns-3 : tie.Need-returns-3
 returns-3 c =
     let t = c .before .before .before .before .before .before .before .before in
@@ -67,11 +58,5 @@ pub put-pair-spec : {M : Type 1} → statement M
 put-pair-spec =
     tie.close
     (tie.spec
-    has-room-requires
-    returns
-    unused-zero-requires
-    returns-2
-    put-fitting-requires
-    put-fitting-requires-2
-    same-length
-    returns-3)
+    (λ c κs. search needs) returns (λ c κs. search needs) returns-2 put-fitting-requires put-fitting-requires-2
+    (λ c. search needs) returns-3)

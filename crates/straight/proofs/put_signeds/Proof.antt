@@ -30,21 +30,12 @@ roomy c = sym (c .before .before .before .has-room .ensures) ∙ not-false _ (c 
 tested : (c : tie.Else2) → (roomFor (length (c .before .before .before .before .before .args .buf .now)) (c .before .before .before .before .before .args .pos) (10 * length (c .before .before .before .before .before .args .items .now)) && clean (c .before .before .before .before .before .args .places)) ≡ true
 tested c = yes-both _ _ (roomy c) (sym (c .before .unused-zero .ensures) ∙ not-false _ (c .if2 .left))
 
-mul-has-room : tie.Need-mul-has-room
-mul-has-room c = search needs
-
-has-room-requires : tie.Need-has-room-requires
-has-room-requires c κs = search needs
-
 returns : tie.Need-returns
 returns c =
     let a = c .before .before .before .args in
     let f = no-first _ _ (sym (c .before .has-room .ensures) ∙ not-true _ (c .if1 .taken)) in
     let u = unmade (roomFor (length (a .buf .now)) (a .pos) (10 * length (a .items .now)) && clean (a .places)) (a .buf .now) (a .pos) (shortest (a .header) ++ (shortest (length (a .items .now)) ++ each (λ z. shortest (zigzag z)) (a .items .now))) f in
     (u .0, u .1, untrue (roomFor (length (a .buf .now)) (a .pos) (10 * length (a .items .now)) && clean (a .places)) _ _ f)
-
-unused-zero-requires : tie.Need-unused-zero-requires
-unused-zero-requires c κs = search needs
 
 returns-2 : tie.Need-returns-2
 returns-2 c =
@@ -83,9 +74,6 @@ put-fitting-zigzags-requires c κs =
     let g = length-64 (length (a .items .now)) (omega arith) in
     omega arith
 
-same-length : tie.Need-same-length
-same-length c = search needs
-
 returns-3 : tie.Need-returns-3
 returns-3 c =
     let t = c .before .before .before .before .before .before .before .before .before .before .before .before in
@@ -113,13 +101,5 @@ pub put-signeds-spec : {M : Type 1} → statement M
 put-signeds-spec =
     tie.close
     (tie.spec
-    mul-has-room
-    has-room-requires
-    returns
-    unused-zero-requires
-    returns-2
-    put-fitting-requires
-    put-fitting-requires-2
-    put-fitting-zigzags-requires
-    same-length
-    returns-3)
+    (λ c. search needs) (λ c κs. search needs) returns (λ c κs. search needs) returns-2 put-fitting-requires
+    put-fitting-requires-2 put-fitting-zigzags-requires (λ c. search needs) returns-3)

@@ -17,21 +17,6 @@ returns c =
     let l = length-low (a .n) (a .x) in
     none-left (a .self) _ (lowBytes (a .n) (a .x)) _ (omega arith) (omega arith)
 
-mul-put-low : tie.Need-mul-put-low
-mul-put-low c = search needs
-
-shr-put-low : tie.Need-shr-put-low
-shr-put-low c = search needs
-
-sub-put-low : tie.Need-sub-put-low
-sub-put-low c = search needs
-
-put-low-requires : tie.Need-put-low-requires
-put-low-requires c κs = search needs
-
-same-length : tie.Need-same-length
-same-length c = search needs
-
 returns-2 : tie.Need-returns-2
 returns-2 c =
     let a = c .before .before .before .before .before .before .args in
@@ -42,4 +27,6 @@ returns-2 c =
 pub put-bits-spec : {M : Type 1} → statement M
 put-bits-spec =
     tie.close
-    (tie.spec returns mul-put-low shr-put-low sub-put-low put-low-requires same-length returns-2)
+    (tie.spec
+    returns (λ c. search needs) (λ c. search needs) (λ c. search needs) (λ c κs. search needs) (λ c. search needs)
+    returns-2)

@@ -18,41 +18,14 @@ use Rattle.emit.proofs.zigzags_from.Reads as zigzags-from-reads
 use Rattle.emit.proofs.zigzags_out.Reads as zigzags-out-reads
 use Rattle.varint.proofs.zigzag_encode.Reads as zigzag-encode-reads
 
-zigzags-from-requires : tie.Need-zigzags-from-requires
-zigzags-from-requires c κs = search needs
-
-same-length : tie.Need-same-length
-same-length c = search needs
-
 returns : tie.Need-returns
 returns c = all-left (c .before .before .before .before .before .before .args .self) _ _ _ _ (c .before .before .before .before .if1 .taken) (c .before .before .zigzags-from .ensures)
-
-zigzags-out-requires : tie.Need-zigzags-out-requires
-zigzags-out-requires c κs = search needs
 
 returns-2 : tie.Need-returns-2
 returns-2 c = onward-none (λ z. shortest (zigzag z)) _ (c .before .before .before .before .args .self) _ _ _ (c .before .zigzags-out .ensures) (c .if2 .taken)
 
-mul-v : tie.Need-mul-v
-mul-v c = search needs
-
-shared-slice-copy-out-v : tie.Need-shared-slice-copy-out-v
-shared-slice-copy-out-v c = search needs
-
-zigzag-encode-requires : tie.Need-zigzag-encode-requires
-zigzag-encode-requires c κs = search needs
-
-put-varint-requires : tie.Need-put-varint-requires
-put-varint-requires c κs = search needs
-
-add-zigzags-from : tie.Need-add-zigzags-from
-add-zigzags-from c = search needs
-
 zigzags-from-requires-2 : tie.Need-zigzags-from-requires-2
 zigzags-from-requires-2 c κs = let a = c .before .before .before .before .before .before .before .before .before .before .before .args in stays-in (record { pos = a .self .pos; skip = c .before .before .before .before .before .before .before .before .zigzags-out .result .part }) (a .buf .now) _ _ _ (c .before .before .before .before .before .before .before .before .before .before .before .pre) (c .before .before .before .put-varint .ensures) .0
-
-same-length-2 : tie.Need-same-length-2
-same-length-2 c = search needs
 
 returns-3 : tie.Need-returns-3
 returns-3 c =
@@ -66,16 +39,6 @@ pub put-zigzags-spec : {M : Type 1} → statement M
 put-zigzags-spec =
     tie.close
     (tie.spec
-    zigzags-from-requires
-    same-length
-    returns
-    zigzags-out-requires
-    returns-2
-    mul-v
-    shared-slice-copy-out-v
-    zigzag-encode-requires
-    put-varint-requires
-    add-zigzags-from
-    zigzags-from-requires-2
-    same-length-2
-    returns-3)
+    (λ c κs. search needs) (λ c. search needs) returns (λ c κs. search needs) returns-2 (λ c. search needs)
+    (λ c. search needs) (λ c κs. search needs) (λ c κs. search needs) (λ c. search needs) zigzags-from-requires-2
+    (λ c. search needs) returns-3)

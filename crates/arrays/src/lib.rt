@@ -1,11 +1,17 @@
 // Arrays, from any place on and behind the headers that are held back.
 use answers::Outcome;
 use answers::finish;
+use elements::Out;
+use elements::counted;
+use elements::put_f32s;
+use elements::put_f64s;
+use elements::put_fp32s;
+use elements::put_fp64s;
+use elements::put_varints;
+use elements::put_zigzags;
+use elements::varints_out;
+use elements::zigzags_out;
 use emit::Cursor;
-use emit::varints_go_on;
-use emit::varints_len;
-use emit::zigzags_go_on;
-use emit::zigzags_len;
 use held::head_len;
 use held::put_head;
 use held::tagged;
@@ -14,16 +20,48 @@ use types::T_VARINTARRAY_SIGNED;
 use types::T_VARINTARRAY_UNSIGNED;
 ghost use mathlib.Core.Path.{_≡_};
 ghost use mathlib.Core.List.{_++_, map};
-ghost use Prim.Native.Nat.{_+_, _*_, _≤_};
+ghost use Prim.Native.Nat.{_+_, _-_, _*_, _≤_};
+ghost use lib.Dec.{ltb};
 ghost use lib.ListN.{length};
 ghost use lib.Ieee.{binary32, binary64, toBits};
 ghost use Rattle.layout.specs.Varint.{shortest};
 ghost use Rattle.layout.specs.Field.{fp32, fp64, unsignedArray, signedArray, floatArray};
 ghost use Rattle.layout.specs.Copy.{fieldBytes};
-ghost use Rattle.layout.specs.Limits.{base};
+ghost use Rattle.layout.specs.Limits.{base, pick};
 ghost use Rattle.emit.specs.Cursor.{placed, moved};
 ghost use Rattle.answers.specs.Outcome.{reaches};
 ghost use Rattle.held.specs.Headers.{headersOf, headOf, startAt, leftAt};
+
+// The place and the room after it, as far as it matters: no array's elements take more bytes than that.
+fn farthest(place: usize, room: usize) -> usize
+    requires { ⌜ room ≤ 9223372036854775808 ⌝ }
+    ensures { λ r. ⌜ r ≡ pick (ltb place 1099511627776) (place + room) 1099511627776 ⌝ }
+{
+    if place < 1099511627776 {
+        return place + room;
+    }
+    1099511627776
+}
+
+// How far an array of n integers goes of which so many are out after the first `most` bytes of them.
+fn finish_counted(
+    size: usize,
+    pos: usize,
+    places: [u32; 8],
+    held: u16,
+    header: u64,
+    n: usize,
+    out: Out,
+    most: usize,
+    place: usize,
+) -> Outcome
+    requires { ⌜ (held ≤ 8) × (pos ≤ size) × (out .part ≤ most) × (most ≤ 9223373136366403584) ⌝ }
+    ensures { λ r. ⌜ r ≡ reaches pos size (length (headOf held places header n) + pick (ltb (out .whole) n) (most + 1) (most - out .part)) place ⌝ }
+{
+    let len = counted(out, n, most);
+    let head = head_len(places, held, header, n as u64);
+    finish(pos, size, head + len, place)
+}
 
 // An array of unsigned integers. Where it ends before the buffer does, its elements need no second look; nor do those beyond the
 // buffer's end.
@@ -43,16 +81,23 @@ pub fn put_unsigned_array(
     let header = tagged(id, T_VARINTARRAY_UNSIGNED);
     let count = items.len() as u64;
     let start = put_head(buf, pos, places, held, header, count, place);
-    let end = start.put_varints(buf, items);
+    let end = put_varints(start, buf, items);
     if end.skip == 0 && end.pos < size {
         return Outcome::Through(end.pos);
     }
-    let head = head_len(places, held, header, count);
-    let room = size - pos;
-    if varints_go_on(items, head, place, room) {
-        return Outcome::Full(place + room);
-    }
-    finish(pos, size, head + varints_len(items), place)
+    let most = farthest(place, size - pos);
+    let out = varints_out(items, most);
+    finish_counted(
+        size,
+        pos,
+        places,
+        held,
+        header,
+        items.len(),
+        out,
+        most,
+        place,
+    )
 }
 
 // An array of signed integers, likewise.
@@ -72,16 +117,23 @@ pub fn put_signed_array(
     let header = tagged(id, T_VARINTARRAY_SIGNED);
     let count = items.len() as u64;
     let start = put_head(buf, pos, places, held, header, count, place);
-    let end = start.put_zigzags(buf, items);
+    let end = put_zigzags(start, buf, items);
     if end.skip == 0 && end.pos < size {
         return Outcome::Through(end.pos);
     }
-    let head = head_len(places, held, header, count);
-    let room = size - pos;
-    if zigzags_go_on(items, head, place, room) {
-        return Outcome::Full(place + room);
-    }
-    finish(pos, size, head + zigzags_len(items), place)
+    let most = farthest(place, size - pos);
+    let out = zigzags_out(items, most);
+    finish_counted(
+        size,
+        pos,
+        places,
+        held,
+        header,
+        items.len(),
+        out,
+        most,
+        place,
+    )
 }
 
 // What stands before the elements of a float array: the held headers, the header, the count, and the word, which stands even where the
@@ -145,7 +197,7 @@ pub fn put_fp32_bits_array(
     let size = buf.len();
     let n = items.len();
     let word = put_announced(buf, pos, places, held, id, n as u64, tagged(4, 0), place);
-    word.put_fp32s(buf, items);
+    put_fp32s(word, buf, items);
     finish_floats(size, pos, places, held, id, n, n * 4, place)
 }
 
@@ -165,7 +217,7 @@ pub fn put_fp32_array(
     let size = buf.len();
     let n = items.len();
     let word = put_announced(buf, pos, places, held, id, n as u64, tagged(4, 0), place);
-    word.put_f32s(buf, items);
+    put_f32s(word, buf, items);
     finish_floats(size, pos, places, held, id, n, n * 4, place)
 }
 
@@ -185,7 +237,7 @@ pub fn put_fp64_bits_array(
     let size = buf.len();
     let n = items.len();
     let word = put_announced(buf, pos, places, held, id, n as u64, tagged(8, 1), place);
-    word.put_fp64s(buf, items);
+    put_fp64s(word, buf, items);
     finish_floats(size, pos, places, held, id, n, n * 8, place)
 }
 
@@ -205,6 +257,6 @@ pub fn put_fp64_array(
     let size = buf.len();
     let n = items.len();
     let word = put_announced(buf, pos, places, held, id, n as u64, tagged(8, 1), place);
-    word.put_f64s(buf, items);
+    put_f64s(word, buf, items);
     finish_floats(size, pos, places, held, id, n, n * 8, place)
 }

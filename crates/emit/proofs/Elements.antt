@@ -1,18 +1,15 @@
 -- Segments that a loop emits one element after another: the bytes of a list's elements, and what is still owed at each turn.
 use mathlib.Core.Path.{_≡_, refl, sym, ap, _∙_, subst}
-use mathlib.Core.Bool.{true}
 use mathlib.Core.List.{List, [], _∷_, _++_, map, append-assoc}
-use Prim.Native.Nat.{ℕ, _+_, _-_, _*_, _≤_, _<_}
+use Prim.Native.Nat.{ℕ, _+_, _*_, _≤_, _<_}
 use native.Mathlib.Numerals.{add-one}
 use native.Mathlib.Nat.{mul-suc, suc-mul, zero-mul}
 use native.Mathlib.Omega.{arith}
-use lib.Dec.{leb}
-use lib.ListN.{length, take, drop, getD, length-append, drop-of-length-le, take-append-drop}
-use lib.Seq.{drop-cons, length-take-le}
-use borrow.Author.Tests.{leb-true}
+use lib.ListN.{length, drop, getD, length-append, drop-of-length-le}
+use lib.Seq.{drop-cons}
 use Rattle.layout.specs.Field.{each}
 use Rattle.emit.specs.declared.Cursor.{Cursor}
-use Rattle.emit.proofs.Segments.{Emitted, none-left, no-room, joined, stays-in}
+use Rattle.emit.proofs.Segments.{Emitted, none-left, joined, stays-in}
 
 -- ---- the bytes of a list's elements
 
@@ -83,11 +80,7 @@ module _ (c₀ : Cursor) (b₀ o : List ℕ) (c : Cursor) (b s : List ℕ) (w : 
       nothing : (c : Cursor) (b : List ℕ) → Emitted c b [] c b
       nothing c b = none-left c b [] (c .skip) (omega arith) (omega arith)
 
-  -- no room is left, so that what is owed doesn't matter
-  pub owing-full : c .skip ≡ 0 → leb (length b) (c .pos) ≡ true → Emitted c₀ b₀ o c b
-  owing-full h g = w .whole c b (no-room c b s h (leb-true (length b) (c .pos) g))
-
--- ---- elements that are out already, all of n bytes: a cursor that starts at the i-th
+-- ---- elements of n bytes each
 
 pub length-each : {A : Type 0} (f : A → List ℕ) (n : ℕ) → ((x : A) → length (f x) ≡ n) → (l : List A) → length (each f l) ≡ length l * n
 unfolding each
@@ -97,11 +90,3 @@ length-each f n h (x ∷ l) =
     let k = h x in
     let m = suc-mul (length l) n in
     length-append (f x) (each f l) ∙ omega arith
-
-pub owing-jump : {A : Type 0} (f : A → List ℕ) (n : ℕ) → ((x : A) → length (f x) ≡ n) → (l : List A) (c : Cursor) (b : List ℕ) (i : ℕ) → c .pos ≤ length b → i ≤ length l
-    → i * n ≤ c .skip → Owing c b (each f l) (record { pos = c .pos; skip = c .skip - i * n }) b (each f (drop i l))
-owing-jump f n h l c b i hb hl hs =
-    let t : length (each f (take i l)) ≡ i * n = length-each f n h (take i l) ∙ ap (λ (k : ℕ). k * n) (length-take-le i l hl) in
-    let e : each f l ≡ each f (take i l) ++ each f (drop i l) = ap (each f) (sym (take-append-drop i l)) ∙ each-append f (take i l) (drop i l) in
-    owing-next c b (each f l) c b (each f l) (owing-start c b (each f l) hb) (each f (take i l)) (each f (drop i l)) _ b e
-    (none-left c b (each f (take i l)) (c .skip - i * n) (ap (λ (k : ℕ). c .skip - k) (sym t)) (subst (λ (k : ℕ). k ≤ c .skip) (sym t) hs))

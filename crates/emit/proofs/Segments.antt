@@ -11,7 +11,7 @@ use borrow.Author.Tests.{leb-true, leb-false}
 use Rattle.emit.specs.declared.Cursor.{Cursor}
 use Rattle.emit.specs.Put.{put, reached}
 use Rattle.emit.specs.Cursor.{placed, moved}
-use Rattle.emit.proofs.Writes.{put-put, put-none, put-full, reached-is, reached-reached, reached-le, length-put}
+use Rattle.emit.proofs.Writes.{put-put, put-none, reached-is, reached-reached, reached-le, length-put}
 
 -- ---- one segment
 
@@ -33,13 +33,6 @@ some-left c b s t end n b′ z e p q = (
 -- none of it is out
 pub all-left : (c : Cursor) (b s : List ℕ) (end : ℕ) (b′ : List ℕ) → c .skip ≡ 0 → (end ≡ reached b (c .pos) s) × (b′ ≡ put b (c .pos) s) → Emitted c b s (record { pos = end; skip = 0 }) b′
 all-left c b s end b′ h (p, q) = some-left c b s s end 0 b′ (omega arith) (ap (λ (k : ℕ). drop k s) (sym h)) p q
-
--- none of it is out, and the buffer is full
-pub no-room : (c : Cursor) (b s : List ℕ) → c .skip ≡ 0 → length b ≤ c .pos → Emitted c b s c b
-no-room c b s h g =
-    let e : c .pos ≡ c .pos + min (length s) (length b - c .pos) = omega arith in
-    let a = all-left c b s (c .pos) b h (e ∙ sym (reached-is b (c .pos) s), sym (put-full b (c .pos) s g)) in
-    (ap (λ (k : ℕ). record { pos = c .pos; skip = k }) h ∙ a .0, a .1)
 
 -- all of it was out before
 pub none-left : (c : Cursor) (b s : List ℕ) (n : ℕ) → n ≡ c .skip - length s → length s ≤ c .skip → Emitted c b s (record { pos = c .pos; skip = n }) b

@@ -1,6 +1,6 @@
--- A number's low bytes, stored where there is room: four in a row and eight.
+-- A number's low bytes, stored where there is room: four in a row, and eight as two fours.
 use mathlib.Core.Path.{_≡_, refl, sym, ap, _∙_, subst}
-use mathlib.Core.List.{List, _∷_}
+use mathlib.Core.List.{List, _∷_, _++_}
 use Prim.Native.Nat.{ℕ, suc, _+_, _-_, _/_, _%_, _≤_, _<_}
 use native.Mathlib.Omega.{arith}
 use lib.ListN.{length, set}
@@ -28,15 +28,7 @@ four-low b pos x h =
     let s4 = low-turn b pos (lowBytes 4 x) _ (pos + 3) 0 (x / 256 / 256 / 256) s3 (omega arith) (pos + 4) (omega arith) in
     low-end b pos (lowBytes 4 x) _ (pos + 4) _ s4
 
-pub eight-low : (b : List ℕ) (pos x : ℕ) → pos + 8 ≤ length b
-    → Whole b pos (lowBytes 8 x) (set (set (set (set (set (set (set (set b pos (x % 256)) (pos + 1) (x / 256 % 256)) (pos + 2) (x / 256 / 256 % 256)) (pos + 3) (x / 256 / 256 / 256 % 256)) (pos + 4) (x / 256 / 256 / 256 / 256 % 256)) (pos + 5) (x / 256 / 256 / 256 / 256 / 256 % 256)) (pos + 6) (x / 256 / 256 / 256 / 256 / 256 / 256 % 256)) (pos + 7) (x / 256 / 256 / 256 / 256 / 256 / 256 / 256 % 256)) (pos + 8)
-eight-low b pos x h =
-    let s1 = low-turn b pos (lowBytes 8 x) _ pos 7 x (start _ _ _) (omega arith) (pos + 1) refl in
-    let s2 = low-turn b pos (lowBytes 8 x) _ (pos + 1) 6 (x / 256) s1 (omega arith) (pos + 2) (omega arith) in
-    let s3 = low-turn b pos (lowBytes 8 x) _ (pos + 2) 5 (x / 256 / 256) s2 (omega arith) (pos + 3) (omega arith) in
-    let s4 = low-turn b pos (lowBytes 8 x) _ (pos + 3) 4 (x / 256 / 256 / 256) s3 (omega arith) (pos + 4) (omega arith) in
-    let s5 = low-turn b pos (lowBytes 8 x) _ (pos + 4) 3 (x / 256 / 256 / 256 / 256) s4 (omega arith) (pos + 5) (omega arith) in
-    let s6 = low-turn b pos (lowBytes 8 x) _ (pos + 5) 2 (x / 256 / 256 / 256 / 256 / 256) s5 (omega arith) (pos + 6) (omega arith) in
-    let s7 = low-turn b pos (lowBytes 8 x) _ (pos + 6) 1 (x / 256 / 256 / 256 / 256 / 256 / 256) s6 (omega arith) (pos + 7) (omega arith) in
-    let s8 = low-turn b pos (lowBytes 8 x) _ (pos + 7) 0 (x / 256 / 256 / 256 / 256 / 256 / 256 / 256) s7 (omega arith) (pos + 8) (omega arith) in
-    low-end b pos (lowBytes 8 x) _ (pos + 8) _ s8
+-- eight are four and four
+pub eight-low : (x : ℕ) → lowBytes 4 x ++ lowBytes 4 (x / 4294967296) ≡ lowBytes 8 x
+unfolding lowBytes
+eight-low x = let e : x / 4294967296 ≡ x / 256 / 256 / 256 / 256 = omega arith in ap (λ (y : ℕ). lowBytes 4 x ++ lowBytes 4 y) e

@@ -56,6 +56,21 @@ module _ (b : List ℕ) (pos : ℕ) (o d : List ℕ) (at v : ℕ) (l : Left b po
   pub last-digit : v < 128 → (at′ : ℕ) → at′ ≡ at + 1 → Whole b pos o (set d at v) at′
   last-digit m at′ e = subst (λ (k : ℕ). Whole b pos o (set d at v) k) (sym e) (ended b pos o d at (shortest v) l v (shortest-one v m) here)
 
+-- its first byte and its second
+module _ (b : List ℕ) (pos v : ℕ) where
+  pub one-byte : pos < length b → v < 128 → Whole b pos (shortest v) (set b pos v) (pos + 1)
+  one-byte h k = last-digit b pos (shortest v) b pos v (start b pos (shortest v)) h k (pos + 1) refl
+
+  module _ (h : pos + 2 ≤ length b) (m : 128 ≤ v) where
+    one : Left b pos (shortest v) (set b pos (v % 128 + 128)) (pos + 1) (shortest (v / 128))
+    one = more-digits b pos (shortest v) b pos v (start b pos (shortest v)) (omega arith) m (pos + 1) refl
+
+    pub two-bytes : v / 128 < 128 → Whole b pos (shortest v) (set (set b pos (v % 128 + 128)) (pos + 1) (v / 128)) (pos + 2)
+    two-bytes k = last-digit b pos (shortest v) _ (pos + 1) (v / 128) one (omega arith) k (pos + 2) (omega arith)
+
+    pub after-two : 128 ≤ v / 128 → Left b pos (shortest v) (set (set b pos (v % 128 + 128)) (pos + 1) (v / 128 % 128 + 128)) (pos + 2) (shortest (v / 128 / 128))
+    after-two k = more-digits b pos (shortest v) _ (pos + 1) (v / 128) one (omega arith) k (pos + 2) (omega arith)
+
 -- what is left is written in one go
 pub followed : (b : List ℕ) (pos : ℕ) (o d : List ℕ) (at : ℕ) (s d′ : List ℕ) (end : ℕ) → Left b pos o d at s → Whole d at s d′ end → Whole b pos o d′ end
 followed b pos o d at s d′ end l (e, f) = (e ∙ l .ends, f ∙ l .same)
@@ -68,6 +83,21 @@ followed-by b pos o d at s t d′ end l h (e, f) =
       same = ap (λ (k : ℕ). put d′ k t) e ∙ ap (λ (x : List ℕ). put x (reached d at s) t) f ∙ put-put d at s t h ∙ l .same;
       ends = ap (λ (k : ℕ). reached d′ k t) e ∙ ap (λ (x : List ℕ). reached x (reached d at s) t) f ∙ reached-reached d at s t h ∙ l .ends;
     }
+
+-- the same write of a list that is spelled otherwise
+pub whole-as : (b : List ℕ) (pos : ℕ) (s t d : List ℕ) (end : ℕ) → s ≡ t → Whole b pos s d end → Whole b pos t d end
+whole-as b pos s t d end e (p, q) = (p ∙ ap (reached b pos) e, q ∙ ap (put b pos) e)
+
+-- two writes in a row
+module _ (b : List ℕ) (pos : ℕ) (s b1 : List ℕ) (mid : ℕ) (h : pos ≤ length b) (w : Whole b pos s b1 mid) where
+  pub in-a-row : (t b2 : List ℕ) (end : ℕ) → Whole b1 mid t b2 end → Whole b pos (s ++ t) b2 end
+  in-a-row t b2 end g = followed b pos (s ++ t) b1 mid t b2 end (followed-by b pos (s ++ t) b pos s t b1 mid (start b pos (s ++ t)) h w) g
+
+  pub same-size : length b1 ≡ length b
+  same-size = ap length (w .1) ∙ length-put b pos s h
+
+  pub not-beyond : mid ≤ pos + length s
+  not-beyond = let r = reached-is b pos s in let e : mid ≡ reached b pos s = w .0 in omega arith
 
 -- a turn of a copy: from the place `from` of l to the place pos
 pub copied : (b : List ℕ) (pos : ℕ) (o d l : List ℕ) (from k : ℕ) → Left b pos o d (pos + k) (drop (from + k) l) → pos + k < length d → from + k < length l

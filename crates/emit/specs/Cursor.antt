@@ -1,10 +1,8 @@
 -- A cursor in one call's output: `pos` is where its next byte stands in the buffer, and `skip` how many of the bytes still to come are
 -- out already, since the call goes on from a place. Each segment of the output moves it.
 use mathlib.Core.List.{List}
-use mathlib.Core.Path.{_≡_}
-use Prim.Native.Nat.{ℕ, _+_, _-_, _≤_, _<_}
-use lib.ListN.{length, take, drop}
-use Rattle.layout.specs.Field.{each}
+use Prim.Native.Nat.{ℕ, _-_}
+use lib.ListN.{length, drop}
 use Rattle.emit.specs.declared.Cursor.{Cursor}
 use Rattle.emit.specs.Put.{put, reached}
 
@@ -15,9 +13,3 @@ placed c b s = put b (c .pos) (drop (c .skip) s)
 -- the cursor after it
 unfoldable pub moved : Cursor → List ℕ → List ℕ → Cursor
 moved c b s = record { pos = reached b (c .pos) (drop (c .skip) s); skip = c .skip - length s }
-
--- where the bytes of a list's elements go on after the first `skip` of them: `whole` elements are out, and `part` bytes of the next
-pub record Standing {A : Type 0} (f : A → List ℕ) (l : List A) (skip whole part : ℕ) : Type 0 where
-  pub within : whole ≤ length l
-  pub sum : length (each f (take whole l)) + part ≡ skip
-  pub short : whole < length l → skip < length (each f (take (whole + 1) l))

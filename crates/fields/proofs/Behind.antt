@@ -9,13 +9,13 @@ use Rattle.emit.specs.declared.Cursor.{Cursor}
 use Rattle.emit.specs.Put.{reached}
 use Rattle.emit.specs.Cursor.{placed, moved}
 use Rattle.emit.proofs.Writes.{reached-is}
-use Rattle.emit.proofs.Turns.{Whole}
+use Rattle.emit.proofs.Turns.{Whole, in-a-row, same-size}
 use Rattle.emit.proofs.Segments.{Emitted}
 use Rattle.answers.specs.declared.Outcome.the-variants.{Through}
 use Rattle.held.specs.Headers.{startAt}
 use Rattle.held.proofs.Ends.{Ended, at-once}
 use Rattle.straight.specs.Straight.{roomFor}
-use Rattle.straight.proofs.Straight.{WholeIf, was-made, yes-both, room-for, in-a-row, same-size}
+use Rattle.straight.proofs.Straight.{WholeIf, was-made, yes-both, room-for}
 
 as-whole : (pos : ℕ) (b o : List ℕ) (c′ : Cursor) (b′ : List ℕ) → Emitted (startAt pos 0) b o c′ b′ → Whole b pos o b′ (c′ .pos)
 unfolding moved placed

@@ -1,2 +1,3 @@
--- `Straight` has the laws of a write that is made straight away.
+-- `Straight` has the laws of the fast forms: the room, the tests and the writes; `Rows` those of two varints and what follows them.
 pub mod Straight
+pub mod Rows

@@ -1,13 +1,13 @@
 -- Writing straight away: the room, two tests in a row, and a write that is made only where they pass.
 use mathlib.Core.Path.{_≡_, refl, sym, ap, _∙_}
-use mathlib.Core.List.{List, _++_}
-use mathlib.Core.Bool.{Bool, true, false, _&&_}
+use mathlib.Core.List.{List}
+use mathlib.Core.Bool.{Bool, true, false, not, _&&_}
 use Prim.Native.Nat.{ℕ, _+_, _-_, _≤_, _<_}
 use native.Mathlib.Omega.{arith}
 use lib.ListN.{length, replicate}
-use borrow.Author.Tests.{leb-true, le-leb}
-use Rattle.emit.specs.Put.{put, reached}
-use Rattle.emit.proofs.Writes.{put-put, reached-reached, reached-is, length-put}
+use borrow.Author.Tests.{leb-true, le-leb, not-true, not-false}
+use Rattle.emit.specs.Put.{reached}
+use Rattle.emit.proofs.Writes.{reached-is}
 use Rattle.emit.proofs.Turns.{Whole}
 use Rattle.held.specs.Places.{every, clean}
 use Rattle.held.proofs.Places.{both}
@@ -40,9 +40,23 @@ no-second a b e f = ap (λ (x : Bool). x && b) e ∙ f
 pub yes-both : (a b : Bool) → a ≡ true → b ≡ true → (a && b) ≡ true
 yes-both a b e f = ap (λ (x : Bool). x && b) e ∙ f
 
--- what follows from a test that fails
-pub untrue : (t : Bool) (a b : ℕ) → t ≡ false → t ≡ true → a ≤ b
-untrue t a b e g = let x : true ≡ false = sym g ∙ e in let z : _≡_ {A = ℕ} 0 1 = cc in absurd (omega arith)
+abbrev pub Tested : ℕ → ℕ → ℕ → List ℕ → Type 0
+Tested size pos n places = (roomFor size pos n ≡ true) × ((roomFor size pos n && clean places) ≡ true)
+
+-- what the code's two tests come to: the room, and then the places
+module _ (x : Bool) (size pos n : ℕ) (places : List ℕ) (e : x ≡ roomFor size pos n) where
+  pub tight : not x ≡ true → (roomFor size pos n && clean places) ≡ false
+  tight f = no-first _ _ (sym e ∙ not-true x f)
+
+  module _ (f : not x ≡ false) where
+    roomy : roomFor size pos n ≡ true
+    roomy = sym e ∙ not-false x f
+
+    pub unclean : (y : Bool) → y ≡ clean places → not y ≡ true → (roomFor size pos n && clean places) ≡ false
+    unclean y g k = no-second _ _ roomy (sym g ∙ not-true y k)
+
+    pub passed : (y : Bool) → y ≡ clean places → not y ≡ false → Tested size pos n places
+    passed y g k = (roomy, yes-both _ _ roomy (sym g ∙ not-false y k))
 
 -- ---- a write that is made where a test passes
 
@@ -60,6 +74,16 @@ was-made false b pos o d end e h = let z : _≡_ {A = ℕ} 0 1 = cc in absurd (o
 pub unmade : (t : Bool) (b : List ℕ) (pos : ℕ) (o : List ℕ) → t ≡ false → WholeIf t b pos o b pos
 unmade true b pos o e = let z : _≡_ {A = ℕ} 0 1 = cc in absurd (omega arith)
 unmade false b pos o e = (refl, refl)
+
+-- the same with what an array's says beside: that there was room for it
+abbrev pub ArrayIf : Bool → List ℕ → ℕ → List ℕ → List ℕ → ℕ → Type 0
+ArrayIf t b pos o d end = (end ≡ reachedIf t b pos o) × (d ≡ putIf t b pos o) × (t ≡ true → pos + length o ≤ length b)
+
+pub made-array : (t : Bool) (b : List ℕ) (pos : ℕ) (o d : List ℕ) (end : ℕ) → t ≡ true → pos + length o ≤ length b → Whole b pos o d end → ArrayIf t b pos o d end
+made-array t b pos o d end e h w = let u = made t b pos o d end e w in (u .0, u .1, λ x. h)
+
+pub unmade-array : (t : Bool) (b : List ℕ) (pos : ℕ) (o : List ℕ) → t ≡ false → ArrayIf t b pos o b pos
+unmade-array t b pos o e = let u = unmade t b pos o e in (u .0, u .1, λ g. let x : true ≡ false = sym g ∙ e in let z : _≡_ {A = ℕ} 0 1 = cc in absurd (omega arith))
 
 -- it has been made where it ends further on, and nothing is altered where it has not
 pub went : (t : Bool) (b : List ℕ) (pos : ℕ) (o d : List ℕ) (end : ℕ) → WholeIf t b pos o d end → pos < end → (t ≡ true) × Whole b pos o d end
@@ -80,20 +104,6 @@ stayed false b pos o d end (e, f) h l = f
 pub unmoved : (room rest : Bool) (b : List ℕ) (pos n : ℕ) (o d : List ℕ) (end : ℕ) → room ≡ roomFor (length b) pos n → WholeIf (room && rest) b pos o d end → 0 < length o → end ≤ pos → d ≡ b
 unmoved room rest b pos n o d end e w h l =
     stayed (room && rest) b pos o d end w (λ t. let r = has-room (length b) pos n (sym e ∙ both room rest t .0) in (h, omega arith)) l
-
--- two writes in a row
-module _ (b : List ℕ) (pos : ℕ) (s b1 : List ℕ) (mid : ℕ) (h : pos ≤ length b) (w : Whole b pos s b1 mid) where
-  pub in-a-row : (t b2 : List ℕ) (end : ℕ) → Whole b1 mid t b2 end → Whole b pos (s ++ t) b2 end
-  in-a-row t b2 end (g, k) = (
-    g ∙ ap (λ (x : List ℕ). reached x mid t) (w .1) ∙ ap (λ (n : ℕ). reached (put b pos s) n t) (w .0) ∙ reached-reached b pos s t h,
-    k ∙ ap (λ (x : List ℕ). put x mid t) (w .1) ∙ ap (λ (n : ℕ). put (put b pos s) n t) (w .0) ∙ put-put b pos s t h,
-  )
-
-  pub same-size : length b1 ≡ length b
-  same-size = ap length (w .1) ∙ length-put b pos s h
-
-  pub not-beyond : mid ≤ pos + length s
-  not-beyond = let r = reached-is b pos s in let e : mid ≡ reached b pos s = w .0 in omega arith
 
 pub clean-zeros : clean (replicate 8 0) ≡ true
 unfolding every

@@ -1,7 +1,7 @@
 // Fields written straight away: where nothing is held and there is room for the longest that they can be, no byte is tested for by itself.
+use elements::put_fitting_zigzags;
+use elements::put_fittings;
 use emit::put_fitting;
-use emit::put_fitting_zigzags;
-use emit::put_fittings;
 use emit::put_rest;
 use held::unused_zero;
 use types::ARRAY_MAX;

@@ -14,20 +14,8 @@ use Rattle.answers.proofs.finish.Reads as finish-reads
 use Rattle.held.proofs.head_len.Reads as head-len-reads
 use Rattle.held.proofs.tagged.Reads as tagged-reads
 
-tagged-requires : tie.Need-tagged-requires
-tagged-requires c κs = search needs
-
-head-len-requires : tie.Need-head-len-requires
-head-len-requires c κs = search needs
-
-add-finish : tie.Need-add-finish
-add-finish c = search needs
-
 add-finish-2 : tie.Need-add-finish-2
 add-finish-2 c = let l = c .head-len .ensures .1 in record { fits = omega arith }
-
-finish-requires : tie.Need-finish-requires
-finish-requires c κs = search needs
 
 returns : tie.Need-returns
 returns c =
@@ -39,4 +27,5 @@ returns c =
 pub finish-floats-spec : {M : Type 1} → statement M
 finish-floats-spec =
     tie.close
-    (tie.spec tagged-requires head-len-requires add-finish add-finish-2 finish-requires returns)
+    (tie.spec
+    (λ c κs. search needs) (λ c κs. search needs) (λ c. search needs) add-finish-2 (λ c κs. search needs) returns)

@@ -17,26 +17,11 @@ use Rattle.arrays.proofs.put_fp32_array.Reads as reads
 use Rattle.arrays.proofs.put_fp32_array.Lts as lts
 use Rattle.arrays.proofs.finish_floats.Reads as finish-floats-reads
 use Rattle.arrays.proofs.put_announced.Reads as put-announced-reads
-use Rattle.emit.proofs.Cursor.put_f32s.Reads as put-f32s-reads
+use Rattle.elements.proofs.put_f32s.Reads as put-f32s-reads
 use Rattle.held.proofs.tagged.Reads as tagged-reads
-
-tagged-requires : tie.Need-tagged-requires
-tagged-requires c κs = search needs
-
-put-announced-requires : tie.Need-put-announced-requires
-put-announced-requires c κs = search needs
 
 put-f32s-requires : tie.Need-put-f32s-requires
 put-f32s-requires c κs = stays-in _ _ _ _ _ (c .before .before .before .before .before .before .before .before .pre .1) (c .before .before .before .put-announced .ensures) .0
-
-mul-finish-floats : tie.Need-mul-finish-floats
-mul-finish-floats c = search needs
-
-finish-floats-requires : tie.Need-finish-floats-requires
-finish-floats-requires c κs = search needs
-
-same-length : tie.Need-same-length
-same-length c = search needs
 
 returns : tie.Need-returns
 returns c =
@@ -51,10 +36,5 @@ pub put-fp32-array-spec : {M : Type 1} → statement M
 put-fp32-array-spec =
     tie.close
     (tie.spec
-    tagged-requires
-    put-announced-requires
-    put-f32s-requires
-    mul-finish-floats
-    finish-floats-requires
-    same-length
-    returns)
+    (λ c κs. search needs) (λ c κs. search needs) put-f32s-requires (λ c. search needs) (λ c κs. search needs)
+    (λ c. search needs) returns)

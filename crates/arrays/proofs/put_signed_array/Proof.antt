@@ -1,118 +1,54 @@
 -- `arrays::put_signed_array`: the head and the elements; how long they are is asked only where the buffer's end is met.
-use Prim.Native.Nat.{ℕ, _+_, _-_, _*_, _<_}
-use mathlib.Core.Path.{refl, sym, ap, _∙_}
+use Prim.Native.Nat.{ℕ}
+use mathlib.Core.Path.{refl, ap}
 use mathlib.Core.List.{_++_}
 use native.Mathlib.Omega.{arith}
-use lib.Dec.{ltb}
-use lib.ListN.{length, length-append}
+use lib.ListN.{length}
+use borrow.Author.Needs.{needs}
 use borrow.Author.Tests.{ltb-true}
 use Rattle.layout.specs.Varint.{shortest}
 use Rattle.layout.specs.Zigzag.{zigzag}
 use Rattle.layout.specs.Field.{each}
 use Rattle.layout.specs.Copy.{fieldBytes}
-use Rattle.emit.proofs.Segments.{joined, stays-in}
-use Rattle.held.specs.Headers.{headersOf, headOf}
-use Rattle.held.proofs.Places.{both}
-use Rattle.held.proofs.Ends.{ended, ended-as, stops-short, goes-on, grouped}
-use borrow.Author.Needs.{needs}
+use Rattle.emit.proofs.Segments.{stays-in}
+use Rattle.arrays.proofs.Integers.{far-enough, stopped, counted-out}
 use Rattle.arrays.proofs.put_signed_array.Statement.{statement}
 use Rattle.arrays.proofs.put_signed_array.Tie as tie
 use Rattle.arrays.proofs.put_signed_array.Reads as reads
 use Rattle.arrays.proofs.put_signed_array.Lts as lts
-use Rattle.answers.proofs.finish.Reads as finish-reads
-use Rattle.emit.proofs.Cursor.put_zigzags.Reads as put-zigzags-reads
-use Rattle.emit.proofs.zigzags_go_on.Reads as zigzags-go-on-reads
-use Rattle.emit.proofs.zigzags_len.Reads as zigzags-len-reads
-use Rattle.held.proofs.head_len.Reads as head-len-reads
+use Rattle.arrays.proofs.farthest.Reads as farthest-reads
+use Rattle.arrays.proofs.finish_counted.Reads as finish-counted-reads
+use Rattle.elements.proofs.put_zigzags.Reads as put-zigzags-reads
+use Rattle.elements.proofs.zigzags_out.Reads as zigzags-out-reads
 use Rattle.held.proofs.put_head.Reads as put-head-reads
 use Rattle.held.proofs.tagged.Reads as tagged-reads
 
-tagged-requires : tie.Need-tagged-requires
-tagged-requires c κs = search needs
-
-put-head-requires : tie.Need-put-head-requires
-put-head-requires c κs = search needs
-
 put-zigzags-requires : tie.Need-put-zigzags-requires
 put-zigzags-requires c κs = stays-in _ _ _ _ _ (c .before .before .before .before .before .before .before .pre .1) (c .before .before .before .put-head .ensures) .0
-
-same-length : tie.Need-same-length
-same-length c = search needs
 
 returns : tie.Need-returns
 unfolding fieldBytes
 returns c =
     let z = c .before .before .before .before .before .before .before .before .before .before .before .before .before .before in
     let a = z .args in
-    ended-as (a .pos) (a .buf .now) (headOf (a .held) (a .places) (c .before .before .before .before .before .before .before .before .before .before .before .before .tagged .result) (length (a .items .now)) ++ each (λ z. shortest (zigzag z)) (a .items .now)) _ (a .place) _ _ (ap (λ (h : ℕ). headOf (a .held) (a .places) h (length (a .items .now)) ++ each (λ z. shortest (zigzag z)) (a .items .now)) (c .before .before .before .before .before .before .before .before .before .before .before .before .tagged .ensures) ∙ grouped (headersOf (a .held) (a .places)) (shortest (a .id * 8 + 4)) (shortest (length (a .items .now))) (each (λ z. shortest (zigzag z)) (a .items .now))) (stops-short (a .pos) (a .buf .now) _ (a .place) _ _ (joined _ _ _ _ _ _ _ _ (z .pre .1) (c .before .before .before .before .before .before .before .before .before .before .put-head .ensures) (c .before .before .before .before .before .before .put-zigzags .ensures)) (z .pre .1) (c .before .before .if1 .taken) (ltb-true _ _ (c .if2 .taken)))
+    stopped (a .held) (a .places) _ (λ z. shortest (zigzag z)) (a .items .now) _ (ap (λ (h : ℕ). shortest h ++ (shortest (length (a .items .now)) ++ each (λ z. shortest (zigzag z)) (a .items .now))) (c .before .before .before .before .before .before .before .before .before .before .before .before .tagged .ensures)) (a .pos) (a .buf .now) (a .place) _ _ _ _ (z .pre .1) (c .before .before .before .before .before .before .before .before .before .before .put-head .ensures) (c .before .before .before .before .before .before .put-zigzags .ensures) (c .before .before .if1 .taken) (ltb-true _ _ (c .if2 .taken))
 
-head-len-requires : tie.Need-head-len-requires
-head-len-requires c κs = search needs
-
-sub-room : tie.Need-sub-room
-sub-room c = search needs
-
-zigzags-go-on-requires : tie.Need-zigzags-go-on-requires
-zigzags-go-on-requires c κs = search needs
-
-add-t23 : tie.Need-add-t23
-add-t23 c =
-    let a = c .before .before .before .before .before .before .before .before .before .before .before .before .before .before .before .args in
-    let g : a .place + (length (a .buf .now) - a .pos) < 18446744073709551616 = ltb-true _ _ (both _ (ltb (a .place + (length (a .buf .now) - a .pos)) (c .before .before .head-len .result + length (each (λ z. shortest (zigzag z)) (a .items .now)))) (sym (c .before .zigzags-go-on .ensures) ∙ c .if3 .taken) .0) in
-    record { fits = g }
-
-same-length-2 : tie.Need-same-length-2
-same-length-2 c = search needs
+finish-counted-requires : tie.Need-finish-counted-requires
+finish-counted-requires c κs =
+    let z = c .before .before .before .before .before .before .before .before .before .before .before .before .before .before in
+    let s = c .zigzags-out .ensures .sum in
+    (z .pre .0, z .pre .1, omega arith, far-enough (z .args .place) _ _ (c .before .farthest .ensures) (omega arith))
 
 returns-2 : tie.Need-returns-2
 unfolding fieldBytes
 returns-2 c =
     let z = c .before .before .before .before .before .before .before .before .before .before .before .before .before .before .before in
     let a = z .args in
-    let g : a .place + (length (a .buf .now) - a .pos) < c .before .before .head-len .result + length (each (λ z. shortest (zigzag z)) (a .items .now)) = ltb-true _ _ (both (ltb (a .place + (length (a .buf .now) - a .pos)) 18446744073709551616) _ (sym (c .before .zigzags-go-on .ensures) ∙ c .if3 .taken) .1) in
-    let l = c .before .before .head-len .ensures .0 in
-    let m = length-append (headOf (a .held) (a .places) (c .before .before .before .before .before .before .before .before .before .before .before .before .before .tagged .result) (length (a .items .now))) (each (λ z. shortest (zigzag z)) (a .items .now)) in
-    ended-as (a .pos) (a .buf .now) (headOf (a .held) (a .places) (c .before .before .before .before .before .before .before .before .before .before .before .before .before .tagged .result) (length (a .items .now)) ++ each (λ z. shortest (zigzag z)) (a .items .now)) _ (a .place) _ _ (ap (λ (h : ℕ). headOf (a .held) (a .places) h (length (a .items .now)) ++ each (λ z. shortest (zigzag z)) (a .items .now)) (c .before .before .before .before .before .before .before .before .before .before .before .before .before .tagged .ensures) ∙ grouped (headersOf (a .held) (a .places)) (shortest (a .id * 8 + 4)) (shortest (length (a .items .now))) (each (λ z. shortest (zigzag z)) (a .items .now))) (goes-on (a .pos) (a .buf .now) _ (a .place) _ _ (joined _ _ _ _ _ _ _ _ (z .pre .1) (c .before .before .before .before .before .before .before .before .before .before .before .put-head .ensures) (c .before .before .before .before .before .before .before .put-zigzags .ensures)) _ refl (omega arith))
-
-zigzags-len-requires : tie.Need-zigzags-len-requires
-zigzags-len-requires c κs = search needs
-
-add-finish : tie.Need-add-finish
-add-finish c = search needs
-
-finish-requires : tie.Need-finish-requires
-finish-requires c κs = search needs
-
-same-length-3 : tie.Need-same-length-3
-same-length-3 c = search needs
-
-returns-3 : tie.Need-returns-3
-unfolding fieldBytes
-returns-3 c =
-    let z = c .before .before .before .before .before .before .before .before .before .before .before .before .before .before .before .before .before in
-    let a = z .args in
-    let k = c .before .zigzags-len .ensures .0 in
-    let l = c .before .before .before .before .head-len .ensures .0 in
-    let m = length-append (headOf (a .held) (a .places) (c .before .before .before .before .before .before .before .before .before .before .before .before .before .before .before .tagged .result) (length (a .items .now))) (each (λ z. shortest (zigzag z)) (a .items .now)) in
-    ended-as (a .pos) (a .buf .now) (headOf (a .held) (a .places) (c .before .before .before .before .before .before .before .before .before .before .before .before .before .before .before .tagged .result) (length (a .items .now)) ++ each (λ z. shortest (zigzag z)) (a .items .now)) _ (a .place) _ _ (ap (λ (h : ℕ). headOf (a .held) (a .places) h (length (a .items .now)) ++ each (λ z. shortest (zigzag z)) (a .items .now)) (c .before .before .before .before .before .before .before .before .before .before .before .before .before .before .before .tagged .ensures) ∙ grouped (headersOf (a .held) (a .places)) (shortest (a .id * 8 + 4)) (shortest (length (a .items .now))) (each (λ z. shortest (zigzag z)) (a .items .now))) (ended (a .pos) (a .buf .now) _ (a .place) _ _ (joined _ _ _ _ _ _ _ _ (z .pre .1) (c .before .before .before .before .before .before .before .before .before .before .before .before .before .put-head .ensures) (c .before .before .before .before .before .before .before .before .before .put-zigzags .ensures)) _ _ (omega arith) (c .finish .ensures))
+    counted-out (a .held) (a .places) _ (λ z. shortest (zigzag z)) (a .items .now) _ (ap (λ (h : ℕ). shortest h ++ (shortest (length (a .items .now)) ++ each (λ z. shortest (zigzag z)) (a .items .now))) (c .before .before .before .before .before .before .before .before .before .before .before .before .before .tagged .ensures)) (a .pos) (a .buf .now) (a .place) _ _ _ _ (z .pre .1) (c .before .before .before .before .before .before .before .before .before .before .before .put-head .ensures) (c .before .before .before .before .before .before .before .put-zigzags .ensures) _ _ _ _ _ (z .pre .2) (c .before .before .farthest .ensures) (c .before .zigzags-out .ensures) refl (c .finish-counted .ensures)
 
 pub put-signed-array-spec : {M : Type 1} → statement M
 put-signed-array-spec =
     tie.close
     (tie.spec
-    tagged-requires
-    put-head-requires
-    put-zigzags-requires
-    same-length
-    returns
-    head-len-requires
-    sub-room
-    zigzags-go-on-requires
-    add-t23
-    same-length-2
-    returns-2
-    zigzags-len-requires
-    add-finish
-    finish-requires
-    same-length-3
-    returns-3)
+    (λ c κs. search needs) (λ c κs. search needs) put-zigzags-requires (λ c. search needs) returns (λ c. search needs)
+    (λ c κs. search needs) (λ c κs. search needs) finish-counted-requires (λ c. search needs) returns-2)

@@ -1,139 +1,31 @@
 -- `emit::put_fitting`: each byte leaves the varint of the rest to write.
-use Prim.Native.Nat.{_+_, _/_, _%_}
-use mathlib.Core.Path.{refl, ap, _∙_}
 use native.Mathlib.Omega.{arith}
-use lib.ListN.{length, set, length-set}
-use Rattle.layout.specs.Varint.{shortest}
-use Rattle.emit.proofs.Writes.{length-put}
-use Rattle.emit.proofs.Turns.{Left, Whole, start, more-digits, last-digit, followed}
+use lib.ListN.{length-set}
 use borrow.Author.Needs.{needs}
+use Rattle.layout.specs.Varint.{shortest}
+use Rattle.emit.proofs.Turns.{Whole, one-byte, two-bytes, after-two, followed, same-size}
 use Rattle.emit.proofs.put_fitting.Statement.{statement}
 use Rattle.emit.proofs.put_fitting.Tie as tie
 use Rattle.emit.proofs.put_fitting.Reads as reads
 use Rattle.emit.proofs.put_fitting.Lts as lts
 use Rattle.emit.proofs.put_third.Reads as put-third-reads
 
--- after one byte, and after two
-first : (c : tie.Else1) → Left (c .before .before .args .buf .now) (c .before .before .args .pos) (shortest (c .before .before .args .v)) (set (c .before .before .args .buf .now) (c .before .before .args .pos) (c .before .before .args .v % 128 + 128)) (c .before .before .args .pos + 1) (shortest (c .before .before .args .v / 128))
-first c = let r = c .before .before .pre in more-digits _ _ _ _ _ _ (start _ _ _) (omega arith) (c .if1 .left) _ refl
+returns : tie.Need-returns
+returns c = let h = c .before .before .pre in one-byte _ _ _ (omega arith) (c .if1 .taken)
 
-second : (c : tie.Else2) → Left (c .before .before .before .args .buf .now) (c .before .before .before .args .pos) (shortest (c .before .before .before .args .v)) (set (set (c .before .before .before .args .buf .now) (c .before .before .before .args .pos) (c .before .before .before .args .v % 128 + 128)) (c .before .before .before .args .pos + 1) (c .before .before .before .args .v / 128 % 128 + 128)) (c .before .before .before .args .pos + 2) (shortest (c .before .before .before .args .v / 128 / 128))
-second c = let r = c .before .before .before .pre in more-digits _ _ _ _ _ _ (first (c .before)) (omega arith) (c .if2 .left) _ (omega arith)
+returns-2 : tie.Need-returns-2
+returns-2 c = let h = c .before .before .before .pre in two-bytes _ _ _ (omega arith) (c .before .if1 .left) (c .if2 .taken)
 
 done : (c : tie.After-slice-known2) → Whole (c .before .before .before .before .before .before .before .args .buf .now) (c .before .before .before .before .before .before .before .args .pos) (shortest (c .before .before .before .before .before .before .before .args .v)) (c .before .before .put-third .last .0) (c .before .before .put-third .result)
-done c = followed _ _ _ _ _ _ _ _ (second (c .before .before .before .before)) (c .before .before .put-third .ensures)
-
--- src/lib.rt:48:20
-cast-buf : tie.Need-cast-buf
-cast-buf c = search needs
-
--- src/lib.rt:48:9
-slice-write-buf : tie.Need-slice-write-buf
-slice-write-buf c = search needs
-
--- src/lib.rt:49:16
-add-result : tie.Need-add-result
-add-result c = search needs
-
--- src/lib.rt:49:9
-same-length : tie.Need-same-length
-same-length c = search needs
-
--- src/lib.rt:49:9
-returns : tie.Need-returns
-returns c = let r = c .before .before .pre in last-digit _ _ _ _ _ _ (start _ _ _) (omega arith) (c .if1 .taken) _ refl
-
--- src/lib.rt:51:17
-add-buf : tie.Need-add-buf
-add-buf c = search needs
-
--- src/lib.rt:51:16
-cast-buf-2 : tie.Need-cast-buf-2
-cast-buf-2 c = search needs
-
--- src/lib.rt:51:5
-slice-write-buf-2 : tie.Need-slice-write-buf-2
-slice-write-buf-2 c = search needs
-
--- src/lib.rt:54:24
-cast-buf-3 : tie.Need-cast-buf-3
-cast-buf-3 c = search needs
-
--- src/lib.rt:54:13
-add-buf-2 : tie.Need-add-buf-2
-add-buf-2 c = search needs
-
--- src/lib.rt:54:9
-slice-write-buf-3 : tie.Need-slice-write-buf-3
-slice-write-buf-3 c = let r = c .before .before .before .pre in simp length-set (omega arith)
-
--- src/lib.rt:55:16
-add-result-2 : tie.Need-add-result-2
-add-result-2 c = search needs
-
--- src/lib.rt:55:9
-same-length-2 : tie.Need-same-length-2
-same-length-2 c = search needs
-
--- src/lib.rt:55:9
-returns-2 : tie.Need-returns-2
-returns-2 c = let r = c .before .before .before .pre in last-digit _ _ _ _ _ _ (first (c .before)) (omega arith) (c .if2 .taken) _ (omega arith)
-
--- src/lib.rt:57:21
-add-buf-3 : tie.Need-add-buf-3
-add-buf-3 c = search needs
-
--- src/lib.rt:57:20
-cast-buf-4 : tie.Need-cast-buf-4
-cast-buf-4 c = search needs
-
--- src/lib.rt:57:9
-add-buf-4 : tie.Need-add-buf-4
-add-buf-4 c = search needs
-
--- src/lib.rt:57:5
-slice-write-buf-4 : tie.Need-slice-write-buf-4
-slice-write-buf-4 c = let r = c .before .before .before .pre in simp length-set (omega arith)
-
--- src/lib.rt:58:20
-add-put-third : tie.Need-add-put-third
-add-put-third c = search needs
-
--- src/lib.rt:58:5
-put-third-requires : tie.Need-put-third-requires
-put-third-requires c κs = let r = c .before .before .before .before .pre in simp length-set (omega arith)
-
--- src/lib.rt:43:1
-same-length-3 : tie.Need-same-length-3
-same-length-3 c = let r = c .before .before .before .before .before .before .before .pre in ap length (done c .1) ∙ length-put _ _ _ (omega arith)
-
--- src/lib.rt:43:1
-returns-3 : tie.Need-returns-3
-returns-3 c = done c
+done c = let h = c .before .before .before .before .before .before .before .pre in followed _ _ _ _ _ _ _ _ (after-two _ _ _ (omega arith) (c .before .before .before .before .before .if1 .left) (c .before .before .before .before .if2 .left)) (c .before .before .put-third .ensures)
 
 pub put-fitting-spec : {M : Type 1} → statement M
 put-fitting-spec =
     tie.close
     (tie.spec
-    cast-buf
-    slice-write-buf
-    add-result
-    same-length
-    returns
-    add-buf
-    cast-buf-2
-    slice-write-buf-2
-    cast-buf-3
-    add-buf-2
-    slice-write-buf-3
-    add-result-2
-    same-length-2
-    returns-2
-    add-buf-3
-    cast-buf-4
-    add-buf-4
-    slice-write-buf-4
-    add-put-third
-    put-third-requires
-    same-length-3
-    returns-3)
+    (λ c. search needs) (λ c. search needs) (λ c. search needs) (λ c. search needs) returns (λ c. search needs)
+    (λ c. search needs) (λ c. search needs) (λ c. search needs) (λ c. search needs) (λ c. let h = c .before .before .before .pre in simp length-set (omega arith))
+    (λ c. search needs) (λ c. search needs) returns-2 (λ c. search needs) (λ c. search needs) (λ c. search needs)
+    (λ c. let h = c .before .before .before .pre in simp length-set (omega arith)) (λ c. search needs)
+    (λ c κs. let h = c .before .before .before .before .pre in simp length-set (omega arith))
+    (λ c. let h = c .before .before .before .before .before .before .before .pre in same-size _ _ _ _ _ (omega arith) (done c)) done)

@@ -19,21 +19,6 @@ abbrev μ-loop : tie.MeasureT-loop
 loop-holds : tie.Need-loop-holds Inv-loop μ-loop
 loop-holds c = start _ _ _
 
-cast-buf : tie.Need-cast-buf Inv-loop μ-loop
-cast-buf c = omega (arith, ltb-true)
-
-slice-write-buf : tie.Need-slice-write-buf Inv-loop μ-loop
-slice-write-buf c = omega (arith, ltb-true)
-
-sub-left : tie.Need-sub-left Inv-loop μ-loop
-sub-left c = omega (arith, ltb-true)
-
-add-at : tie.Need-add-at Inv-loop μ-loop
-add-at c = omega (arith, ltb-true)
-
-loop-less : tie.Need-loop-less Inv-loop μ-loop
-loop-less c = omega (arith, ltb-true)
-
 loop-again : tie.Need-loop-again Inv-loop μ-loop
 loop-again c = next _ _ _ _ _ _ (c .before .before .loop .inv) _ _ (low-more _ _ (omega (arith, ltb-true))) (omega (arith, ltb-true))
 
@@ -53,16 +38,6 @@ pub put-low-spec : {M : Type 1} → statement M
 put-low-spec =
     tie.close
     (tie.spec
-    Inv-loop
-    μ-loop
-    loop-holds
-    cast-buf
-    slice-write-buf
-    sub-left
-    add-at
-    loop-less
-    loop-again
-    same-length
-    returns
-    same-length-2
-    returns-2)
+    Inv-loop μ-loop loop-holds (λ c. omega (arith, ltb-true)) (λ c. omega (arith, ltb-true))
+    (λ c. omega (arith, ltb-true)) (λ c. omega (arith, ltb-true)) (λ c. omega (arith, ltb-true)) loop-again
+    same-length returns same-length-2 returns-2)

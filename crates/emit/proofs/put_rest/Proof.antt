@@ -23,43 +23,13 @@ returns c = no-room _ _ _ _ _ _ (start _ _ _) (c .if1 .taken)
 returns-2 : tie.Need-returns-2 Inv-loop μ-loop
 returns-2 c = none-left _ _ _ _ _ _ (start _ _ _) (omega (arith, length-drop (c .before .before .before .before .args .from) (c .before .before .before .before .args .bytes .now)))
 
-sub-least : tie.Need-sub-least Inv-loop μ-loop
-sub-least c = omega arith
-
-sub-least-2 : tie.Need-sub-least-2 Inv-loop μ-loop
-sub-least-2 c = omega arith
-
-least-requires : tie.Need-least-requires Inv-loop μ-loop
-least-requires c κs = search needs
-
 loop-holds : tie.Need-loop-holds Inv-loop μ-loop
 loop-holds c =
     let a = c .before .before .before .before .before .args in
     (omega arith, omega arith, c .least .ensures, omega arith, copy-start (a .buf .now) (a .pos) (a .bytes .now) (a .from))
 
-add-buf : tie.Need-add-buf Inv-loop μ-loop
-add-buf c = omega arith
-
-shared-slice-read-buf : tie.Need-shared-slice-read-buf Inv-loop μ-loop
-shared-slice-read-buf c = omega arith
-
-add-buf-2 : tie.Need-add-buf-2 Inv-loop μ-loop
-add-buf-2 c = omega arith
-
-slice-write-buf : tie.Need-slice-write-buf Inv-loop μ-loop
-slice-write-buf c = omega arith
-
-add-k : tie.Need-add-k Inv-loop μ-loop
-add-k c = omega arith
-
-loop-less : tie.Need-loop-less Inv-loop μ-loop
-loop-less c = omega arith
-
 loop-again : tie.Need-loop-again Inv-loop μ-loop
 loop-again c = let i = c .before .before .loop .inv in (i .0, i .1, i .2, omega arith, copied _ _ _ _ _ _ _ (i .4) (omega arith) (omega arith))
-
-add-result : tie.Need-add-result Inv-loop μ-loop
-add-result c = omega arith
 
 same-length : tie.Need-same-length Inv-loop μ-loop
 same-length c = c .before .loop .inv .4 .size
@@ -71,21 +41,6 @@ pub put-rest-spec : {M : Type 1} → statement M
 put-rest-spec =
     tie.close
     (tie.spec
-    Inv-loop
-    μ-loop
-    returns
-    returns-2
-    sub-least
-    sub-least-2
-    least-requires
-    loop-holds
-    add-buf
-    shared-slice-read-buf
-    add-buf-2
-    slice-write-buf
-    add-k
-    loop-less
-    loop-again
-    add-result
-    same-length
-    returns-3)
+    Inv-loop μ-loop returns returns-2 (λ c. omega arith) (λ c. omega arith) (λ c κs. search needs) loop-holds
+    (λ c. omega arith) (λ c. omega arith) (λ c. omega arith) (λ c. omega arith) (λ c. omega arith) (λ c. omega arith)
+    loop-again (λ c. omega arith) same-length returns-3)

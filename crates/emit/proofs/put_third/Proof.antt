@@ -1,174 +1,34 @@
 -- `emit::put_third`: each byte leaves the varint of the rest to write.
-use Prim.Native.Nat.{_+_, _/_, _%_}
-use mathlib.Core.Path.{refl, ap, _∙_}
 use native.Mathlib.Omega.{arith}
-use lib.ListN.{length, set, length-set}
-use Rattle.layout.specs.Varint.{shortest}
-use Rattle.emit.proofs.Writes.{length-put}
-use Rattle.emit.proofs.Turns.{Left, Whole, start, more-digits, last-digit, followed}
+use lib.ListN.{length-set}
 use borrow.Author.Needs.{needs}
+use Rattle.layout.specs.Varint.{shortest}
+use Rattle.emit.proofs.Turns.{Whole, one-byte, two-bytes, after-two, last-digit, followed, same-size}
 use Rattle.emit.proofs.put_third.Statement.{statement}
 use Rattle.emit.proofs.put_third.Tie as tie
 use Rattle.emit.proofs.put_third.Reads as reads
 use Rattle.emit.proofs.put_third.Lts as lts
 use Rattle.emit.proofs.put_whole.Reads as put-whole-reads
 
--- after one byte, and after two
-first : (c : tie.Else1) → Left (c .before .before .args .buf .now) (c .before .before .args .pos) (shortest (c .before .before .args .v)) (set (c .before .before .args .buf .now) (c .before .before .args .pos) (c .before .before .args .v % 128 + 128)) (c .before .before .args .pos + 1) (shortest (c .before .before .args .v / 128))
-first c =
-    let a = c .before .before .args in
-    let r = c .before .before .pre in
-    more-digits _ _ _ _ _ (a .v) (start _ _ _) (omega arith) (c .if1 .left) _ refl
+returns : tie.Need-returns
+returns c = let h = c .before .before .pre in one-byte _ _ _ (omega arith) (c .if1 .taken)
 
-second : (c : tie.Else2) → Left (c .before .before .before .args .buf .now) (c .before .before .before .args .pos) (shortest (c .before .before .before .args .v)) (set (set (c .before .before .before .args .buf .now) (c .before .before .before .args .pos) (c .before .before .before .args .v % 128 + 128)) (c .before .before .before .args .pos + 1) (c .before .before .before .args .v / 128 % 128 + 128)) (c .before .before .before .args .pos + 2) (shortest (c .before .before .before .args .v / 128 / 128))
-second c =
-    let r = c .before .before .before .pre in
-    more-digits _ _ _ _ _ _ (first (c .before)) (omega arith) (c .if2 .left) _ (omega arith)
+returns-2 : tie.Need-returns-2
+returns-2 c = let h = c .before .before .before .pre in two-bytes _ _ _ (omega arith) (c .before .if1 .left) (c .if2 .taken)
+
+returns-3 : tie.Need-returns-3
+returns-3 c = let h = c .before .before .before .before .pre in last-digit _ _ _ _ _ _ (after-two _ _ _ (omega arith) (c .before .before .if1 .left) (c .before .if2 .left)) (omega arith) (c .if3 .taken) _ (omega arith)
 
 done : (c : tie.After-slice-known2) → Whole (c .before .before .before .before .before .before .before .before .args .buf .now) (c .before .before .before .before .before .before .before .before .args .pos) (shortest (c .before .before .before .before .before .before .before .before .args .v)) (c .before .before .put-whole .last .0) (c .before .before .put-whole .result)
-done c = followed _ _ _ _ _ _ _ _ (second (c .before .before .before .before .before)) (c .before .before .put-whole .ensures)
-
--- src/lib.rt:67:20
-cast-buf : tie.Need-cast-buf
-cast-buf c = search needs
-
--- src/lib.rt:67:9
-slice-write-buf : tie.Need-slice-write-buf
-slice-write-buf c = search needs
-
--- src/lib.rt:68:16
-add-result : tie.Need-add-result
-add-result c = search needs
-
--- src/lib.rt:68:9
-same-length : tie.Need-same-length
-same-length c = search needs
-
--- src/lib.rt:68:9
-returns : tie.Need-returns
-returns c = let r = c .before .before .pre in last-digit _ _ _ _ _ _ (start _ _ _) (omega arith) (c .if1 .taken) _ refl
-
--- src/lib.rt:70:17
-add-buf : tie.Need-add-buf
-add-buf c = search needs
-
--- src/lib.rt:70:16
-cast-buf-2 : tie.Need-cast-buf-2
-cast-buf-2 c = search needs
-
--- src/lib.rt:70:5
-slice-write-buf-2 : tie.Need-slice-write-buf-2
-slice-write-buf-2 c = search needs
-
--- src/lib.rt:73:24
-cast-buf-3 : tie.Need-cast-buf-3
-cast-buf-3 c = search needs
-
--- src/lib.rt:73:13
-add-buf-2 : tie.Need-add-buf-2
-add-buf-2 c = search needs
-
--- src/lib.rt:73:9
-slice-write-buf-3 : tie.Need-slice-write-buf-3
-slice-write-buf-3 c = let r = c .before .before .before .pre in simp length-set (omega arith)
-
--- src/lib.rt:74:16
-add-result-2 : tie.Need-add-result-2
-add-result-2 c = search needs
-
--- src/lib.rt:74:9
-same-length-2 : tie.Need-same-length-2
-same-length-2 c = search needs
-
--- src/lib.rt:74:9
-returns-2 : tie.Need-returns-2
-returns-2 c = let r = c .before .before .before .pre in last-digit _ _ _ _ _ _ (first (c .before)) (omega arith) (c .if2 .taken) _ (omega arith)
-
--- src/lib.rt:76:21
-add-buf-3 : tie.Need-add-buf-3
-add-buf-3 c = search needs
-
--- src/lib.rt:76:20
-cast-buf-4 : tie.Need-cast-buf-4
-cast-buf-4 c = search needs
-
--- src/lib.rt:76:9
-add-buf-4 : tie.Need-add-buf-4
-add-buf-4 c = search needs
-
--- src/lib.rt:76:5
-slice-write-buf-4 : tie.Need-slice-write-buf-4
-slice-write-buf-4 c = let r = c .before .before .before .pre in simp length-set (omega arith)
-
--- src/lib.rt:79:24
-cast-buf-5 : tie.Need-cast-buf-5
-cast-buf-5 c = search needs
-
--- src/lib.rt:79:13
-add-buf-5 : tie.Need-add-buf-5
-add-buf-5 c = search needs
-
--- src/lib.rt:79:9
-slice-write-buf-5 : tie.Need-slice-write-buf-5
-slice-write-buf-5 c = let r = c .before .before .before .before .pre in simp length-set (omega arith)
-
--- src/lib.rt:80:16
-add-result-3 : tie.Need-add-result-3
-add-result-3 c = search needs
-
--- src/lib.rt:80:9
-same-length-3 : tie.Need-same-length-3
-same-length-3 c = search needs
-
--- src/lib.rt:80:9
-returns-3 : tie.Need-returns-3
-returns-3 c = let r = c .before .before .before .before .pre in last-digit _ _ _ _ _ _ (second (c .before)) (omega arith) (c .if3 .taken) _ (omega arith)
-
--- src/lib.rt:82:20
-add-put-whole : tie.Need-add-put-whole
-add-put-whole c = search needs
-
--- src/lib.rt:82:5
-put-whole-requires : tie.Need-put-whole-requires
-put-whole-requires c κs = search needs
-
--- src/lib.rt:62:1
-same-length-4 : tie.Need-same-length-4
-same-length-4 c = let r = c .before .before .before .before .before .before .before .before .pre in ap length (done c .1) ∙ length-put _ _ _ (omega arith)
-
--- src/lib.rt:62:1
-returns-4 : tie.Need-returns-4
-returns-4 c = done c
+done c = let h = c .before .before .before .before .before .before .before .before .pre in followed _ _ _ _ _ _ _ _ (after-two _ _ _ (omega arith) (c .before .before .before .before .before .before .if1 .left) (c .before .before .before .before .before .if2 .left)) (c .before .before .put-whole .ensures)
 
 pub put-third-spec : {M : Type 1} → statement M
 put-third-spec =
     tie.close
     (tie.spec
-    cast-buf
-    slice-write-buf
-    add-result
-    same-length
-    returns
-    add-buf
-    cast-buf-2
-    slice-write-buf-2
-    cast-buf-3
-    add-buf-2
-    slice-write-buf-3
-    add-result-2
-    same-length-2
-    returns-2
-    add-buf-3
-    cast-buf-4
-    add-buf-4
-    slice-write-buf-4
-    cast-buf-5
-    add-buf-5
-    slice-write-buf-5
-    add-result-3
-    same-length-3
-    returns-3
-    add-put-whole
-    put-whole-requires
-    same-length-4
-    returns-4)
+    (λ c. search needs) (λ c. search needs) (λ c. search needs) (λ c. search needs) returns (λ c. search needs)
+    (λ c. search needs) (λ c. search needs) (λ c. search needs) (λ c. search needs) (λ c. let h = c .before .before .before .pre in simp length-set (omega arith))
+    (λ c. search needs) (λ c. search needs) returns-2 (λ c. search needs) (λ c. search needs) (λ c. search needs)
+    (λ c. let h = c .before .before .before .pre in simp length-set (omega arith)) (λ c. search needs) (λ c. search needs)
+    (λ c. let h = c .before .before .before .before .pre in simp length-set (omega arith)) (λ c. search needs) (λ c. search needs) returns-3
+    (λ c. search needs) (λ c κs. search needs) (λ c. let h = c .before .before .before .before .before .before .before .before .pre in same-size _ _ _ _ _ (omega arith) (done c)) done)

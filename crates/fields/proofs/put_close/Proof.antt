@@ -14,15 +14,6 @@ use Rattle.fields.proofs.put_close.Lts as lts
 use Rattle.fields.proofs.put_marker.Reads as put-marker-reads
 use Rattle.held.proofs.tagged.Reads as tagged-reads
 
-tagged-requires : tie.Need-tagged-requires
-tagged-requires c κs = search needs
-
-put-marker-requires : tie.Need-put-marker-requires
-put-marker-requires c κs = search needs
-
-same-length : tie.Need-same-length
-same-length c = search needs
-
 returns : tie.Need-returns
 unfolding fieldBytes
 returns c =
@@ -30,4 +21,5 @@ returns c =
     ended-as _ _ _ _ _ _ _ (ap (λ (h : ℕ). headersOf (a .held) (a .places) ++ shortest h) (c .before .before .before .tagged .ensures)) (c .before .before .put-marker .ensures)
 
 pub put-close-spec : {M : Type 1} → statement M
-put-close-spec = tie.close (tie.spec tagged-requires put-marker-requires same-length returns)
+put-close-spec =
+    tie.close (tie.spec (λ c κs. search needs) (λ c κs. search needs) (λ c. search needs) returns)

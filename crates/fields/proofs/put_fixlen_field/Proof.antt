@@ -25,18 +25,6 @@ use Rattle.held.proofs.put_head.Reads as put-head-reads
 use Rattle.held.proofs.put_held.Reads as put-held-reads
 use Rattle.straight.proofs.put_field.Reads as put-field-reads
 
-has-room-behind-requires : tie.Need-has-room-behind-requires
-has-room-behind-requires c κs = search needs
-
-put-held-requires : tie.Need-put-held-requires
-put-held-requires c κs = search needs
-
-put-field-requires : tie.Need-put-field-requires
-put-field-requires c κs = search needs
-
-same-length : tie.Need-same-length
-same-length c = search needs
-
 returns : tie.Need-returns
 returns c =
     let z = c .before .before .before .before .before .before .before .before .before .before .before .before .before in
@@ -47,24 +35,6 @@ returns c =
     let d = length-append (shortest (a .header)) (shortest (a .word) ++ a .bytes .now) in
     let o = length-append (shortest (a .word)) (a .bytes .now) in
     behind (a .pos) (a .buf .now) (headersOf (a .held) (a .places)) (shortest (a .header) ++ (shortest (a .word) ++ a .bytes .now)) (a .place) (length (a .bytes .now)) _ _ _ _ _ (c .before .before .before .before .before .before .before .before .before .before .if1 .taken) (omega arith) (omega arith) (c .before .before .before .before .before .before .put-held .ensures) clean-zeros (c .before .before .put-field .ensures)
-
-put-head-requires : tie.Need-put-head-requires
-put-head-requires c κs = search needs
-
-put-bytes-requires : tie.Need-put-bytes-requires
-put-bytes-requires c κs = search needs
-
-head-len-requires : tie.Need-head-len-requires
-head-len-requires c κs = search needs
-
-add-total : tie.Need-add-total
-add-total c = search needs
-
-finish-requires : tie.Need-finish-requires
-finish-requires c κs = search needs
-
-same-length-2 : tie.Need-same-length-2
-same-length-2 c = search needs
 
 returns-2 : tie.Need-returns-2
 returns-2 c =
@@ -80,15 +50,6 @@ pub put-fixlen-field-spec : {M : Type 1} → statement M
 put-fixlen-field-spec =
     tie.close
     (tie.spec
-    has-room-behind-requires
-    put-held-requires
-    put-field-requires
-    same-length
-    returns
-    put-head-requires
-    put-bytes-requires
-    head-len-requires
-    add-total
-    finish-requires
-    same-length-2
-    returns-2)
+    (λ c κs. search needs) (λ c κs. search needs) (λ c κs. search needs) (λ c. search needs) returns
+    (λ c κs. search needs) (λ c κs. search needs) (λ c κs. search needs) (λ c. search needs) (λ c κs. search needs)
+    (λ c. search needs) returns-2)

@@ -17,18 +17,6 @@ use Rattle.held.proofs.held_len.Reads as held-len-reads
 use Rattle.held.proofs.put_held.Reads as put-held-reads
 use Rattle.varint.proofs.varint_len.Reads as varint-len-reads
 
-put-held-requires : tie.Need-put-held-requires
-put-held-requires c κs = search needs
-
-put-varint-requires : tie.Need-put-varint-requires
-put-varint-requires c κs = search needs
-
-held-len-requires : tie.Need-held-len-requires
-held-len-requires c κs = search needs
-
-varint-len-requires : tie.Need-varint-len-requires
-varint-len-requires c κs = search needs
-
 add-finish : tie.Need-add-finish
 add-finish c =
     let z = c .before .before .before .before .before .before .before .before .before .before .before in
@@ -36,12 +24,6 @@ add-finish c =
     let e = c .varint-len .ensures in
     let l = c .before .held-len .ensures .1 in
     record { fits = omega arith }
-
-finish-requires : tie.Need-finish-requires
-finish-requires c κs = search needs
-
-same-length : tie.Need-same-length
-same-length c = search needs
 
 returns : tie.Need-returns
 returns c =
@@ -56,11 +38,5 @@ pub put-marker-spec : {M : Type 1} → statement M
 put-marker-spec =
     tie.close
     (tie.spec
-    put-held-requires
-    put-varint-requires
-    held-len-requires
-    varint-len-requires
-    add-finish
-    finish-requires
-    same-length
-    returns)
+    (λ c κs. search needs) (λ c κs. search needs) (λ c κs. search needs) (λ c κs. search needs) add-finish
+    (λ c κs. search needs) (λ c. search needs) returns)

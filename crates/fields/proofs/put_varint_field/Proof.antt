@@ -23,18 +23,6 @@ use Rattle.held.proofs.put_head.Reads as put-head-reads
 use Rattle.held.proofs.put_held.Reads as put-held-reads
 use Rattle.straight.proofs.put_pair.Reads as put-pair-reads
 
-has-room-behind-requires : tie.Need-has-room-behind-requires
-has-room-behind-requires c κs = search needs
-
-put-held-requires : tie.Need-put-held-requires
-put-held-requires c κs = search needs
-
-put-pair-requires : tie.Need-put-pair-requires
-put-pair-requires c κs = search needs
-
-same-length : tie.Need-same-length
-same-length c = search needs
-
 returns : tie.Need-returns
 returns c =
     let z = c .before .before .before .before .before .before .before .before .before .before .before .before in
@@ -45,18 +33,6 @@ returns c =
     let o = length-append (shortest (a .header)) (shortest (a .value)) in
     behind (a .pos) (a .buf .now) (headersOf (a .held) (a .places)) (shortest (a .header) ++ shortest (a .value)) (a .place) 0 _ _ _ _ _ (c .before .before .before .before .before .before .before .before .before .before .if1 .taken) (omega arith) (omega arith) (c .before .before .before .before .before .before .put-held .ensures) clean-zeros (c .before .before .put-pair .ensures)
 
-put-head-requires : tie.Need-put-head-requires
-put-head-requires c κs = search needs
-
-head-len-requires : tie.Need-head-len-requires
-head-len-requires c κs = search needs
-
-finish-requires : tie.Need-finish-requires
-finish-requires c κs = search needs
-
-same-length-2 : tie.Need-same-length-2
-same-length-2 c = search needs
-
 returns-2 : tie.Need-returns-2
 returns-2 c = ended _ _ _ _ _ _ (c .before .before .before .before .put-head .ensures) _ _ (c .before .head-len .ensures .0) (c .finish .ensures)
 
@@ -64,13 +40,5 @@ pub put-varint-field-spec : {M : Type 1} → statement M
 put-varint-field-spec =
     tie.close
     (tie.spec
-    has-room-behind-requires
-    put-held-requires
-    put-pair-requires
-    same-length
-    returns
-    put-head-requires
-    head-len-requires
-    finish-requires
-    same-length-2
-    returns-2)
+    (λ c κs. search needs) (λ c κs. search needs) (λ c κs. search needs) (λ c. search needs) returns
+    (λ c κs. search needs) (λ c κs. search needs) (λ c κs. search needs) (λ c. search needs) returns-2)

@@ -19,12 +19,10 @@ returns-3 : tie.Need-returns-3
 unfolding easyAt
 returns-3 c = simp (le-leb _ _ (c .before .before .if1 .left), le-leb _ _ (c .before .if2 .left), lt-leb _ _ (c .if3 .taken))
 
-cast-result : tie.Need-cast-result
-cast-result c = search needs
-
 returns-4 : tie.Need-returns-4
 unfolding easyAt
 returns-4 c = simp (le-leb _ _ (c .before .before .if1 .left), le-leb _ _ (c .before .if2 .left), le-leb _ _ (c .if3 .left))
 
 pub at-ease-spec : {M : Type 1} → statement M
-at-ease-spec = tie.close (tie.spec returns returns-2 returns-3 cast-result returns-4)
+at-ease-spec =
+    tie.close (tie.spec returns returns-2 returns-3 (λ c. search needs) returns-4)

@@ -13,12 +13,10 @@ returns : tie.Need-returns
 unfolding closesAt
 returns c = simp (le-ltb 0 (c .before .args .depth) (omega arith))
 
-at-ease-requires : tie.Need-at-ease-requires
-at-ease-requires c κs = search needs
-
 returns-2 : tie.Need-returns-2
 unfolding closesAt
 returns-2 c = simp (lt-ltb 0 (c .before .before .args .depth) (omega arith)) (c .at-ease .ensures)
 
 pub closes-at-ease-spec : {M : Type 1} → statement M
-closes-at-ease-spec = tie.close (tie.spec returns at-ease-requires returns-2)
+closes-at-ease-spec =
+    tie.close (tie.spec returns (λ c κs. search needs) returns-2)

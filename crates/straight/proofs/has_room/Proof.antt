@@ -15,12 +15,10 @@ returns-2 : tie.Need-returns-2
 unfolding roomFor
 returns-2 c = simp (le-leb _ _ (c .before .if1 .left), lt-leb _ _ (c .if2 .taken))
 
-sub-result : tie.Need-sub-result
-sub-result c = search needs
-
 returns-3 : tie.Need-returns-3
 unfolding roomFor
 returns-3 c = simp (le-leb _ _ (c .before .if1 .left), le-leb _ _ (c .if2 .left))
 
 pub has-room-spec : {M : Type 1} → statement M
-has-room-spec = tie.close (tie.spec returns returns-2 sub-result returns-3)
+has-room-spec =
+    tie.close (tie.spec returns returns-2 (λ c. search needs) returns-3)

@@ -18,22 +18,10 @@ use Rattle.held.proofs.unused_zero.Reads as unused-zero-reads
 returns : tie.Need-returns
 returns c = let a = c .before .before .args in unmade (ltb (a .pos) (length (a .buf .now)) && clean (a .places)) (a .buf .now) (a .pos) (7 ∷ []) (no-first _ _ (le-ltb _ _ (c .if1 .taken)))
 
-unused-zero-requires : tie.Need-unused-zero-requires
-unused-zero-requires c κs = search needs
-
 returns-2 : tie.Need-returns-2
 returns-2 c =
     let a = c .before .before .before .before .args in
     unmade (ltb (a .pos) (length (a .buf .now)) && clean (a .places)) (a .buf .now) (a .pos) (7 ∷ []) (no-second _ _ (lt-ltb _ _ (c .before .before .if1 .left)) (sym (c .before .unused-zero .ensures) ∙ not-true _ (c .if2 .taken)))
-
-slice-write-buf : tie.Need-slice-write-buf
-slice-write-buf c = search needs
-
-add-result : tie.Need-add-result
-add-result c = search needs
-
-same-length : tie.Need-same-length
-same-length c = search needs
 
 returns-3 : tie.Need-returns-3
 returns-3 c =
@@ -45,10 +33,4 @@ pub put-end-spec : {M : Type 1} → statement M
 put-end-spec =
     tie.close
     (tie.spec
-    returns
-    unused-zero-requires
-    returns-2
-    slice-write-buf
-    add-result
-    same-length
-    returns-3)
+    returns (λ c κs. search needs) returns-2 (λ c. search needs) (λ c. search needs) (λ c. search needs) returns-3)

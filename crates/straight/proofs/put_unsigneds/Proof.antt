@@ -1,124 +1,61 @@
 -- `straight::put_unsigneds`: the tests, then one write after another.
 use Prim.Native.Nat.{_*_}
-use mathlib.Core.Path.{_≡_, sym, _∙_}
 use mathlib.Core.List.{_++_}
-use mathlib.Core.Bool.{true, _&&_}
 use native.Mathlib.Omega.{arith}
-use lib.ListN.{length, length-append}
-use borrow.Author.Tests.{not-true, not-false}
-use Rattle.layout.specs.Varint.{shortest}
-use Rattle.varint.proofs.Shortest.{length-64}
-use Rattle.layout.specs.Field.{each}
-use Rattle.emit.proofs.Writes.{reached-is}
-use Rattle.straight.specs.Straight.{roomFor}
-use Rattle.held.specs.Places.{clean}
-use Rattle.straight.proofs.Straight.{no-first, no-second, yes-both, untrue, made, unmade, in-a-row, same-size, not-beyond, has-room}
+use lib.ListN.{length}
 use borrow.Author.Needs.{needs}
+use Rattle.layout.specs.Varint.{shortest}
+use Rattle.layout.specs.Field.{each}
+use Rattle.straight.proofs.Straight.{Tested, has-room, tight, unclean, passed, made-array, unmade-array}
+use Rattle.straight.proofs.Rows.{second-fits, rest-fits, row-made, row-fits}
 use Rattle.straight.proofs.put_unsigneds.Statement.{statement}
 use Rattle.straight.proofs.put_unsigneds.Tie as tie
 use Rattle.straight.proofs.put_unsigneds.Reads as reads
 use Rattle.straight.proofs.put_unsigneds.Lts as lts
+use Rattle.elements.proofs.put_fittings.Reads as put-fittings-reads
 use Rattle.emit.proofs.put_fitting.Reads as put-fitting-reads
-use Rattle.emit.proofs.put_fittings.Reads as put-fittings-reads
 use Rattle.straight.proofs.has_room.Reads as has-room-reads
 use Rattle.held.proofs.unused_zero.Reads as unused-zero-reads
 
-roomy : (c : tie.Else2) → roomFor (length (c .before .before .before .before .before .before .args .buf .now)) (c .before .before .before .before .before .before .args .pos) (10 * length (c .before .before .before .before .before .before .args .items .now)) ≡ true
-roomy c = sym (c .before .before .before .has-room .ensures) ∙ not-false _ (c .before .before .if1 .left)
-
-tested : (c : tie.Else2) → (roomFor (length (c .before .before .before .before .before .before .args .buf .now)) (c .before .before .before .before .before .before .args .pos) (10 * length (c .before .before .before .before .before .before .args .items .now)) && clean (c .before .before .before .before .before .before .args .places)) ≡ true
-tested c = yes-both _ _ (roomy c) (sym (c .before .unused-zero .ensures) ∙ not-false _ (c .if2 .left))
-
-mul-has-room : tie.Need-mul-has-room
-mul-has-room c = search needs
-
-has-room-requires : tie.Need-has-room-requires
-has-room-requires c κs = search needs
+tested : (c : tie.Else2) → Tested (length (c .before .before .before .before .before .before .args .buf .now)) (c .before .before .before .before .before .before .args .pos) (10 * length (c .before .before .before .before .before .before .args .items .now)) (c .before .before .before .before .before .before .args .places)
+tested c = passed _ _ _ _ (c .before .before .before .before .before .before .args .places) (c .before .before .before .has-room .ensures) (c .before .before .if1 .left) _ (c .before .unused-zero .ensures) (c .if2 .left)
 
 returns : tie.Need-returns
-returns c =
-    let a = c .before .before .before .before .args in
-    let f = no-first _ _ (sym (c .before .has-room .ensures) ∙ not-true _ (c .if1 .taken)) in
-    let u = unmade (roomFor (length (a .buf .now)) (a .pos) (10 * length (a .items .now)) && clean (a .places)) (a .buf .now) (a .pos) (shortest (a .header) ++ (shortest (length (a .items .now)) ++ each shortest (a .items .now))) f in
-    (u .0, u .1, untrue (roomFor (length (a .buf .now)) (a .pos) (10 * length (a .items .now)) && clean (a .places)) _ _ f)
-
-unused-zero-requires : tie.Need-unused-zero-requires
-unused-zero-requires c κs = search needs
+returns c = let a = c .before .before .before .before .args in unmade-array _ (a .buf .now) (a .pos) (shortest (a .header) ++ (shortest (length (a .items .now)) ++ each shortest (a .items .now))) (tight _ _ _ (10 * length (a .items .now)) (a .places) (c .before .has-room .ensures) (c .if1 .taken))
 
 returns-2 : tie.Need-returns-2
-returns-2 c =
-    let a = c .before .before .before .before .before .before .args in
-    let f = no-second _ _ (sym (c .before .before .before .has-room .ensures) ∙ not-false _ (c .before .before .if1 .left)) (sym (c .before .unused-zero .ensures) ∙ not-true _ (c .if2 .taken)) in
-    let u = unmade (roomFor (length (a .buf .now)) (a .pos) (10 * length (a .items .now)) && clean (a .places)) (a .buf .now) (a .pos) (shortest (a .header) ++ (shortest (length (a .items .now)) ++ each shortest (a .items .now))) f in
-    (u .0, u .1, untrue (roomFor (length (a .buf .now)) (a .pos) (10 * length (a .items .now)) && clean (a .places)) _ _ f)
+returns-2 c = let a = c .before .before .before .before .before .before .args in unmade-array _ (a .buf .now) (a .pos) (shortest (a .header) ++ (shortest (length (a .items .now)) ++ each shortest (a .items .now))) (unclean _ _ _ (10 * length (a .items .now)) (a .places) (c .before .before .before .has-room .ensures) (c .before .before .if1 .left) _ (c .before .unused-zero .ensures) (c .if2 .taken))
 
 put-fitting-requires : tie.Need-put-fitting-requires
-put-fitting-requires c κs = let h = has-room _ _ _ (roomy (c .before)) in omega arith
+put-fitting-requires c κs = let h = has-room _ _ _ (tested (c .before) .0) in omega arith
 
 put-fitting-requires-2 : tie.Need-put-fitting-requires-2
 put-fitting-requires-2 c κs =
-    let t = c .before .before .before .before .before in
-    let a = t .before .before .before .before .before .before .args in
-    let h = has-room _ _ _ (roomy t) in
-    let w = c .before .before .before .put-fitting .ensures in
-    let z = same-size (a .buf .now) (a .pos) (shortest (a .header)) _ _ (omega arith) w in
-    let n = not-beyond (a .buf .now) (a .pos) (shortest (a .header)) _ _ (omega arith) w in
-    let l = length-64 (a .header) (t .before .before .before .before .before .before .fits .header .fits) in
-    omega arith
+    let z = c .before .before .before .before .before .before .before .before .before .before .before in
+    let a = z .args in
+    second-fits (a .buf .now) (a .pos) (10 * length (a .items .now)) (a .header) _ _ (tested (c .before .before .before .before .before) .0) (z .fits .header .fits) (c .before .before .before .put-fitting .ensures)
 
 put-fittings-requires : tie.Need-put-fittings-requires
 put-fittings-requires c κs =
-    let t = c .before .before .before .before .before .before .before .before .before in
-    let a = t .before .before .before .before .before .before .args in
-    let h = has-room _ _ _ (roomy t) in
-    let w = c .before .before .before .before .before .before .before .put-fitting .ensures in
-    let z = same-size (a .buf .now) (a .pos) (shortest (a .header)) _ _ (omega arith) w in
-    let n = not-beyond (a .buf .now) (a .pos) (shortest (a .header)) _ _ (omega arith) w in
-    let l = length-64 (a .header) (t .before .before .before .before .before .before .fits .header .fits) in
-    let m = c .before .before .before .put-fitting2 .ensures in
-    let y = same-size _ _ (shortest (length (a .items .now))) _ _ (omega arith) m in
-    let k = not-beyond _ _ (shortest (length (a .items .now))) _ _ (omega arith) m in
-    let p = t .before .before .before .before .before .before .pre in
-    let g = length-64 (length (a .items .now)) (omega arith) in
-    omega arith
-
-same-length : tie.Need-same-length
-same-length c = search needs
+    let z = c .before .before .before .before .before .before .before .before .before .before .before .before .before .before .before in
+    let a = z .args in
+    let p = z .pre in
+    rest-fits (a .buf .now) (a .pos) (10 * length (a .items .now)) (a .header) _ _ (tested (c .before .before .before .before .before .before .before .before .before) .0) (z .fits .header .fits) (c .before .before .before .before .before .before .before .put-fitting .ensures) (length (a .items .now)) _ _ (omega arith) (c .before .before .before .put-fitting2 .ensures)
 
 returns-3 : tie.Need-returns-3
 returns-3 c =
-    let t = c .before .before .before .before .before .before .before .before .before .before .before .before in
-    let a = t .before .before .before .before .before .before .args in
-    let h = has-room _ _ _ (roomy t) in
-    let w = c .before .before .before .before .before .before .before .before .before .before .put-fitting .ensures in
-    let z = same-size (a .buf .now) (a .pos) (shortest (a .header)) _ _ (omega arith) w in
-    let n = not-beyond (a .buf .now) (a .pos) (shortest (a .header)) _ _ (omega arith) w in
-    let l = length-64 (a .header) (t .before .before .before .before .before .before .fits .header .fits) in
-    let m = c .before .before .before .before .before .before .put-fitting2 .ensures in
-    let y = same-size _ _ (shortest (length (a .items .now))) _ _ (omega arith) m in
-    let k = not-beyond _ _ (shortest (length (a .items .now))) _ _ (omega arith) m in
-    let p = t .before .before .before .before .before .before .pre in
-    let g = length-64 (length (a .items .now)) (omega arith) in
+    let z = c .before .before .before .before .before .before .before .before .before .before .before .before .before .before .before .before .before .before in
+    let a = z .args in
+    let p = z .pre in
+    let t = tested (c .before .before .before .before .before .before .before .before .before .before .before .before) in
     let e = c .before .before .put-fittings .ensures in
-    let u = made _ _ _ _ _ _ (tested t) (in-a-row (a .buf .now) (a .pos) (shortest (a .header)) _ _ (omega arith) w _ _ _ (in-a-row _ _ (shortest (length (a .items .now))) _ _ (omega arith) m _ _ _ (e .0, e .1))) in
-    let q = e .2 in
-    let r = w .0 ∙ reached-is (a .buf .now) (a .pos) (shortest (a .header)) in
-    let v = m .0 ∙ reached-is _ _ (shortest (length (a .items .now))) in
-    let b = length-append (shortest (a .header)) (shortest (length (a .items .now)) ++ each shortest (a .items .now)) in
-    let d = length-append (shortest (length (a .items .now))) (each shortest (a .items .now)) in
-    (u .0, u .1, λ x. omega arith)
+    made-array _ _ _ _ _ _ (t .1)
+    (row-fits (a .buf .now) (a .pos) (10 * length (a .items .now)) (a .header) _ _ (t .0) (z .fits .header .fits) (c .before .before .before .before .before .before .before .before .before .before .put-fitting .ensures) (length (a .items .now)) _ _ (omega arith) (c .before .before .before .before .before .before .put-fitting2 .ensures) _ (e .2))
+    (row-made (a .buf .now) (a .pos) (10 * length (a .items .now)) (a .header) _ _ (t .0) (z .fits .header .fits) (c .before .before .before .before .before .before .before .before .before .before .put-fitting .ensures) (length (a .items .now)) _ _ (omega arith) (c .before .before .before .before .before .before .put-fitting2 .ensures) _ _ _ (e .0, e .1))
 
 pub put-unsigneds-spec : {M : Type 1} → statement M
 put-unsigneds-spec =
     tie.close
     (tie.spec
-    mul-has-room
-    has-room-requires
-    returns
-    unused-zero-requires
-    returns-2
-    put-fitting-requires
-    put-fitting-requires-2
-    put-fittings-requires
-    same-length
-    returns-3)
+    (λ c. search needs) (λ c κs. search needs) returns (λ c κs. search needs) returns-2 put-fitting-requires
+    put-fitting-requires-2 put-fittings-requires (λ c. search needs) returns-3)

@@ -9,24 +9,14 @@ use Rattle.emit.proofs.Cursor.put_bytes.Reads as reads
 use Rattle.emit.proofs.Cursor.put_bytes.Lts as lts
 use Rattle.emit.proofs.put_rest.Reads as put-rest-reads
 
-put-rest-requires : tie.Need-put-rest-requires
-put-rest-requires c κs = search needs
-
-sub-t12 : tie.Need-sub-t12
-sub-t12 c = search needs
-
-same-length : tie.Need-same-length
-same-length c = search needs
-
 returns : tie.Need-returns
 returns c = some-left _ _ _ _ _ _ _ refl refl (c .before .before .before .put-rest .ensures .0) (c .before .before .before .put-rest .ensures .1)
-
-same-length-2 : tie.Need-same-length-2
-same-length-2 c = search needs
 
 returns-2 : tie.Need-returns-2
 returns-2 c = some-left _ _ _ _ _ _ _ (omega arith) refl (c .before .before .before .put-rest .ensures .0) (c .before .before .before .put-rest .ensures .1)
 
 pub put-bytes-spec : {M : Type 1} → statement M
 put-bytes-spec =
-    tie.close (tie.spec put-rest-requires sub-t12 same-length returns same-length-2 returns-2)
+    tie.close
+    (tie.spec
+    (λ c κs. search needs) (λ c. search needs) (λ c. search needs) returns (λ c. search needs) returns-2)

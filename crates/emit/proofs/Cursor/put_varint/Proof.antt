@@ -15,21 +15,12 @@ use Rattle.emit.proofs.Cursor.put_varint.Lts as lts
 use Rattle.emit.proofs.put_whole.Reads as put-whole-reads
 use Rattle.varint.proofs.varint_len.Reads as varint-len-reads
 
-put-whole-requires : tie.Need-put-whole-requires
-put-whole-requires c κs = search needs
-
-same-length : tie.Need-same-length
-same-length c = search needs
-
 returns : tie.Need-returns
 returns c =
     let a = c .before .before .before .before .before .before .args in
     let z : 0 ≡ a .self .skip = sym (c .before .before .before .before .if1 .taken) in
     let e = c .before .before .put-whole .ensures in
     some-left (a .self) _ (shortest (a .v)) _ _ _ _ (omega arith) (ap (λ (k : ℕ). drop k (shortest (a .v))) z) (e .0) (e .1)
-
-varint-len-requires : tie.Need-varint-len-requires
-varint-len-requires c κs = search needs
 
 returns-2 : tie.Need-returns-2
 returns-2 c =
@@ -41,12 +32,6 @@ mul-put-whole c = let h = length-64 (c .before .before .before .before .before .
 
 shr-put-whole : tie.Need-shr-put-whole
 shr-put-whole c = let h = length-64 (c .before .before .before .before .before .args .v) (c .before .before .before .before .before .fits .v .fits) in let l = c .before .before .varint-len .ensures in omega arith
-
-put-whole-requires-2 : tie.Need-put-whole-requires-2
-put-whole-requires-2 c κs = search needs
-
-same-length-2 : tie.Need-same-length-2
-same-length-2 c = search needs
 
 returns-3 : tie.Need-returns-3
 returns-3 c =
@@ -60,13 +45,5 @@ pub put-varint-spec : {M : Type 1} → statement M
 put-varint-spec =
     tie.close
     (tie.spec
-    put-whole-requires
-    same-length
-    returns
-    varint-len-requires
-    returns-2
-    mul-put-whole
-    shr-put-whole
-    put-whole-requires-2
-    same-length-2
-    returns-3)
+    (λ c κs. search needs) (λ c. search needs) returns (λ c κs. search needs) returns-2 mul-put-whole shr-put-whole
+    (λ c κs. search needs) (λ c. search needs) returns-3)

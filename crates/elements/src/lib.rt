@@ -1,0 +1,380 @@
+// Arrays' elements, in bulk: all at once where there is room for them, else one after another from the first byte on that is not out until
+// the buffer is full. Those that are out already are only counted, and those beyond the buffer's end not looked at.
+use emit::Cursor;
+use emit::least;
+use emit::put_eight;
+use emit::put_fitting;
+use emit::put_four;
+use emit::put_part;
+use emit::put_whole;
+use event::fp32_bits;
+use event::fp64_bits;
+use varint::varint_len;
+use varint::zigzag_encode;
+ghost use mathlib.Core.Path.{_≡_};
+ghost use Prim.Native.Nat.{_+_, _-_, _*_, _≤_, _<_};
+ghost use lib.Dec.{ltb};
+ghost use lib.ListN.{length};
+ghost use lib.Ieee.{binary32, binary64, toBits};
+ghost use Rattle.layout.specs.Varint.{shortest};
+ghost use Rattle.layout.specs.Field.{lowBytes, each};
+ghost use Rattle.layout.specs.Limits.{pick};
+ghost use Rattle.layout.specs.Zigzag.{zigzag};
+ghost use Rattle.emit.specs.Put.{put, reached};
+ghost use Rattle.emit.specs.Cursor.{placed, moved};
+ghost use Rattle.elements.specs.Standing.{Standing};
+
+// How much of an array's elements is out: whole ones, and bytes of the next.
+pub struct Out {
+    pub whole: usize,
+    pub part: usize,
+}
+
+// The varints of an unsigned array's elements where there is room for the longest of each. Two at a turn: the loop's own steps cost a
+// sixth of a short element's.
+pub fn put_fittings(buf: &mut [u8], pos: usize, items: &[u64]) -> usize
+    requires { ⌜ pos + 10 * length (now items) ≤ length (now buf) ⌝ }
+    ensures { λ r. ⌜ (r ≡ reached (now (buf .entry)) pos (each shortest (now (items .entry)))) × (now (buf .exit) ≡ put (now (buf .entry)) pos (each shortest (now (items .entry)))) × (pos + length (each shortest (now (items .entry))) ≤ length (now (buf .entry))) ⌝ }
+{
+    let mut at = pos;
+    let mut i: usize = 0;
+    while 1 < items.len() - i {
+        let v = items[i];
+        let w = items[i + 1];
+        let mid = put_fitting(buf, at, v);
+        at = put_fitting(buf, mid, w);
+        i += 2;
+    }
+    if i < items.len() {
+        let v = items[i];
+        return put_fitting(buf, at, v);
+    }
+    at
+}
+
+// The same of a signed array's.
+pub fn put_fitting_zigzags(buf: &mut [u8], pos: usize, items: &[i64]) -> usize
+    requires { ⌜ pos + 10 * length (now items) ≤ length (now buf) ⌝ }
+    ensures { λ r. ⌜ (r ≡ reached (now (buf .entry)) pos (each (λ z. shortest (zigzag z)) (now (items .entry)))) × (now (buf .exit) ≡ put (now (buf .entry)) pos (each (λ z. shortest (zigzag z)) (now (items .entry)))) × (pos + length (each (λ z. shortest (zigzag z)) (now (items .entry))) ≤ length (now (buf .entry))) ⌝ }
+{
+    let mut at = pos;
+    let mut i: usize = 0;
+    while i < items.len() {
+        let v = items[i];
+        at = put_fitting(buf, at, zigzag_encode(v));
+        i += 1;
+    }
+    at
+}
+
+// The varint of v from pos on, with a test for the buffer's end at each byte only where it is near.
+fn put_next(buf: &mut [u8], pos: usize, v: u64) -> usize
+    requires { ⌜ pos ≤ length (now buf) ⌝ }
+    ensures { λ r. ⌜ (r ≡ reached (now (buf .entry)) pos (shortest v)) × (now (buf .exit) ≡ put (now (buf .entry)) pos (shortest v)) ⌝ }
+{
+    if 10 <= buf.len() - pos {
+        return put_fitting(buf, pos, v);
+    }
+    put_whole(buf, pos, v)
+}
+
+// Where the varints of an unsigned array's elements go on after the first `skip` bytes of them.
+pub fn varints_out(items: &[u64], skip: usize) -> Out
+    ensures { λ r. ⌜ Standing shortest (now (items .entry)) skip (r .whole) (r .part) ⌝ }
+{
+    let mut left = skip;
+    let mut i: usize = 0;
+    while i < items.len() {
+        let v = items[i];
+        let len = varint_len(v);
+        if left < len {
+            return Out {
+                whole: i,
+                part: left,
+            };
+        }
+        left -= len;
+        i += 1;
+    }
+    Out {
+        whole: i,
+        part: left,
+    }
+}
+
+// The same of a signed array's.
+pub fn zigzags_out(items: &[i64], skip: usize) -> Out
+    ensures { λ r. ⌜ Standing (λ z. shortest (zigzag z)) (now (items .entry)) skip (r .whole) (r .part) ⌝ }
+{
+    let mut left = skip;
+    let mut i: usize = 0;
+    while i < items.len() {
+        let v = items[i];
+        let len = varint_len(zigzag_encode(v));
+        if left < len {
+            return Out {
+                whole: i,
+                part: left,
+            };
+        }
+        left -= len;
+        i += 1;
+    }
+    Out {
+        whole: i,
+        part: left,
+    }
+}
+
+// How many bytes n elements take, of which so many are out after the first `most`; where they take more than that, one more.
+pub fn counted(out: Out, n: usize, most: usize) -> usize
+    requires { ⌜ (out .part ≤ most) × (most < 18446744073709551615) ⌝ }
+    ensures { λ r. ⌜ r ≡ pick (ltb (out .whole) n) (most + 1) (most - out .part) ⌝ }
+{
+    let whole = out.whole;
+    let part = out.part;
+    if whole < n {
+        return most + 1;
+    }
+    most - part
+}
+
+// The varints of an unsigned array's elements.
+pub fn put_varints(cursor: Cursor, buf: &mut [u8], items: &[u64]) -> Cursor
+    requires { ⌜ cursor .pos ≤ length (now buf) ⌝ }
+    ensures { λ r. ⌜ (r ≡ moved cursor (now (buf .entry)) (each shortest (now (items .entry)))) × (now (buf .exit) ≡ placed cursor (now (buf .entry)) (each shortest (now (items .entry)))) ⌝ }
+{
+    let pos = cursor.pos;
+    let skip = cursor.skip;
+    let out = varints_out(items, skip);
+    let first = out.whole;
+    let part = out.part;
+    if items.len() <= first {
+        return Cursor { pos, skip: part };
+    }
+    let head = items[first];
+    let mut at = put_next(buf, pos, head >> (part * 7));
+    let mut i = first + 1;
+    while i < items.len() && at < buf.len() {
+        let v = items[i];
+        at = put_next(buf, at, v);
+        i += 1;
+    }
+    Cursor { pos: at, skip: 0 }
+}
+
+// Those of a signed array's.
+pub fn put_zigzags(cursor: Cursor, buf: &mut [u8], items: &[i64]) -> Cursor
+    requires { ⌜ cursor .pos ≤ length (now buf) ⌝ }
+    ensures { λ r. ⌜ (r ≡ moved cursor (now (buf .entry)) (each (λ z. shortest (zigzag z)) (now (items .entry)))) × (now (buf .exit) ≡ placed cursor (now (buf .entry)) (each (λ z. shortest (zigzag z)) (now (items .entry)))) ⌝ }
+{
+    let pos = cursor.pos;
+    let skip = cursor.skip;
+    let out = zigzags_out(items, skip);
+    let first = out.whole;
+    let part = out.part;
+    if items.len() <= first {
+        return Cursor { pos, skip: part };
+    }
+    let head = items[first];
+    let mut at = put_next(buf, pos, zigzag_encode(head) >> (part * 7));
+    let mut i = first + 1;
+    while i < items.len() && at < buf.len() {
+        let v = items[i];
+        at = put_next(buf, at, zigzag_encode(v));
+        i += 1;
+    }
+    Cursor { pos: at, skip: 0 }
+}
+
+// The elements of a float array of 32 bits, by their bits, where there is room for all: no test at each byte.
+fn put_fours(buf: &mut [u8], pos: usize, items: &[u32]) -> usize
+    requires { ⌜ pos + 4 * length (now items) ≤ length (now buf) ⌝ }
+    ensures { λ r. ⌜ (r ≡ reached (now (buf .entry)) pos (each (lowBytes 4) (now (items .entry)))) × (now (buf .exit) ≡ put (now (buf .entry)) pos (each (lowBytes 4) (now (items .entry)))) ⌝ }
+{
+    let mut at = pos;
+    let mut i: usize = 0;
+    while i < items.len() {
+        let bits = items[i];
+        at = put_four(buf, at, bits as u64);
+        i += 1;
+    }
+    at
+}
+
+// The same of 64 bits.
+fn put_eights(buf: &mut [u8], pos: usize, items: &[u64]) -> usize
+    requires { ⌜ pos + 8 * length (now items) ≤ length (now buf) ⌝ }
+    ensures { λ r. ⌜ (r ≡ reached (now (buf .entry)) pos (each (lowBytes 8) (now (items .entry)))) × (now (buf .exit) ≡ put (now (buf .entry)) pos (each (lowBytes 8) (now (items .entry)))) ⌝ }
+{
+    let mut at = pos;
+    let mut i: usize = 0;
+    while i < items.len() {
+        let bits = items[i];
+        at = put_eight(buf, at, bits);
+        i += 1;
+    }
+    at
+}
+
+// The same of 32 bits by value.
+fn put_four_floats(buf: &mut [u8], pos: usize, items: &[f32]) -> usize
+    requires { ⌜ pos + 4 * length (now items) ≤ length (now buf) ⌝ }
+    ensures { λ r. ⌜ (r ≡ reached (now (buf .entry)) pos (each (λ x. lowBytes 4 (toBits binary32 x)) (now (items .entry)))) × (now (buf .exit) ≡ put (now (buf .entry)) pos (each (λ x. lowBytes 4 (toBits binary32 x)) (now (items .entry)))) ⌝ }
+{
+    let mut at = pos;
+    let mut i: usize = 0;
+    while i < items.len() {
+        let value = items[i];
+        at = put_four(buf, at, fp32_bits(value) as u64);
+        i += 1;
+    }
+    at
+}
+
+// The same of 64 bits by value.
+fn put_eight_floats(buf: &mut [u8], pos: usize, items: &[f64]) -> usize
+    requires { ⌜ pos + 8 * length (now items) ≤ length (now buf) ⌝ }
+    ensures { λ r. ⌜ (r ≡ reached (now (buf .entry)) pos (each (λ x. lowBytes 8 (toBits binary64 x)) (now (items .entry)))) × (now (buf .exit) ≡ put (now (buf .entry)) pos (each (λ x. lowBytes 8 (toBits binary64 x)) (now (items .entry)))) ⌝ }
+{
+    let mut at = pos;
+    let mut i: usize = 0;
+    while i < items.len() {
+        let value = items[i];
+        at = put_eight(buf, at, fp64_bits(value));
+        i += 1;
+    }
+    at
+}
+
+// Where elements of `width` bytes, n of them, go on after the first `skip` bytes.
+fn evenly_out(n: usize, skip: usize, width: usize) -> Out
+    requires { ⌜ 0 < width ⌝ }
+    ensures { λ r. ⌜ (r .whole ≤ n) × (r .whole * width + r .part ≡ skip) × (r .whole < n → r .part < width) ⌝ }
+{
+    let whole = least(skip / width, n);
+    Out {
+        whole,
+        part: skip - whole * width,
+    }
+}
+
+// The elements of a float array of 32 bits, by their bits.
+pub fn put_fp32s(cursor: Cursor, buf: &mut [u8], items: &[u32]) -> Cursor
+    requires { ⌜ cursor .pos ≤ length (now buf) ⌝ }
+    ensures { λ r. ⌜ (r ≡ moved cursor (now (buf .entry)) (each (lowBytes 4) (now (items .entry)))) × (now (buf .exit) ≡ placed cursor (now (buf .entry)) (each (lowBytes 4) (now (items .entry)))) ⌝ }
+{
+    let pos = cursor.pos;
+    let skip = cursor.skip;
+    if skip == 0 && items.len() <= (buf.len() - pos) / 4 {
+        let end = put_fours(buf, pos, items);
+        return Cursor { pos: end, skip: 0 };
+    }
+    let out = evenly_out(items.len(), skip, 4);
+    let mut i = out.whole;
+    let mut part = out.part;
+    let mut at = pos;
+    while i < items.len() {
+        if buf.len() <= at {
+            return Cursor { pos: at, skip: 0 };
+        }
+        let bits = items[i];
+        at = put_part(buf, at, bits as u64, 4, part);
+        part = 0;
+        i += 1;
+    }
+    Cursor {
+        pos: at,
+        skip: part,
+    }
+}
+
+// The same of 64 bits.
+pub fn put_fp64s(cursor: Cursor, buf: &mut [u8], items: &[u64]) -> Cursor
+    requires { ⌜ cursor .pos ≤ length (now buf) ⌝ }
+    ensures { λ r. ⌜ (r ≡ moved cursor (now (buf .entry)) (each (lowBytes 8) (now (items .entry)))) × (now (buf .exit) ≡ placed cursor (now (buf .entry)) (each (lowBytes 8) (now (items .entry)))) ⌝ }
+{
+    let pos = cursor.pos;
+    let skip = cursor.skip;
+    if skip == 0 && items.len() <= (buf.len() - pos) / 8 {
+        let end = put_eights(buf, pos, items);
+        return Cursor { pos: end, skip: 0 };
+    }
+    let out = evenly_out(items.len(), skip, 8);
+    let mut i = out.whole;
+    let mut part = out.part;
+    let mut at = pos;
+    while i < items.len() {
+        if buf.len() <= at {
+            return Cursor { pos: at, skip: 0 };
+        }
+        let bits = items[i];
+        at = put_part(buf, at, bits, 8, part);
+        part = 0;
+        i += 1;
+    }
+    Cursor {
+        pos: at,
+        skip: part,
+    }
+}
+
+// The same of 32 bits by value; a NaN's bits are the one pattern that the logic knows.
+pub fn put_f32s(cursor: Cursor, buf: &mut [u8], items: &[f32]) -> Cursor
+    requires { ⌜ cursor .pos ≤ length (now buf) ⌝ }
+    ensures { λ r. ⌜ (r ≡ moved cursor (now (buf .entry)) (each (λ x. lowBytes 4 (toBits binary32 x)) (now (items .entry)))) × (now (buf .exit) ≡ placed cursor (now (buf .entry)) (each (λ x. lowBytes 4 (toBits binary32 x)) (now (items .entry)))) ⌝ }
+{
+    let pos = cursor.pos;
+    let skip = cursor.skip;
+    if skip == 0 && items.len() <= (buf.len() - pos) / 4 {
+        let end = put_four_floats(buf, pos, items);
+        return Cursor { pos: end, skip: 0 };
+    }
+    let out = evenly_out(items.len(), skip, 4);
+    let mut i = out.whole;
+    let mut part = out.part;
+    let mut at = pos;
+    while i < items.len() {
+        if buf.len() <= at {
+            return Cursor { pos: at, skip: 0 };
+        }
+        let value = items[i];
+        at = put_part(buf, at, fp32_bits(value) as u64, 4, part);
+        part = 0;
+        i += 1;
+    }
+    Cursor {
+        pos: at,
+        skip: part,
+    }
+}
+
+// The same of 64 bits by value.
+pub fn put_f64s(cursor: Cursor, buf: &mut [u8], items: &[f64]) -> Cursor
+    requires { ⌜ cursor .pos ≤ length (now buf) ⌝ }
+    ensures { λ r. ⌜ (r ≡ moved cursor (now (buf .entry)) (each (λ x. lowBytes 8 (toBits binary64 x)) (now (items .entry)))) × (now (buf .exit) ≡ placed cursor (now (buf .entry)) (each (λ x. lowBytes 8 (toBits binary64 x)) (now (items .entry)))) ⌝ }
+{
+    let pos = cursor.pos;
+    let skip = cursor.skip;
+    if skip == 0 && items.len() <= (buf.len() - pos) / 8 {
+        let end = put_eight_floats(buf, pos, items);
+        return Cursor { pos: end, skip: 0 };
+    }
+    let out = evenly_out(items.len(), skip, 8);
+    let mut i = out.whole;
+    let mut part = out.part;
+    let mut at = pos;
+    while i < items.len() {
+        if buf.len() <= at {
+            return Cursor { pos: at, skip: 0 };
+        }
+        let value = items[i];
+        at = put_part(buf, at, fp64_bits(value), 8, part);
+        part = 0;
+        i += 1;
+    }
+    Cursor {
+        pos: at,
+        skip: part,
+    }
+}

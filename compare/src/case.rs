@@ -29,9 +29,9 @@ impl Case for Reader {
     const KIND: Kind = Kind::Reader;
 
     fn encode(&self, out: &mut Vec<u8>) {
-        put16(out, self.chunks.len());
+        put_len(out, self.chunks.len());
         for &n in &self.chunks {
-            put16(out, n);
+            put_len(out, n);
         }
         out.extend_from_slice(&self.ticket);
     }
@@ -94,14 +94,14 @@ impl Case for Gatherer {
     const KIND: Kind = Kind::Gatherer;
 
     fn encode(&self, out: &mut Vec<u8>) {
-        put16(out, self.capacity);
+        put_len(out, self.capacity);
         for call in &self.calls {
             match call {
                 Piece::Feed { total, offset, chunk } => {
                     out.push(0);
                     put64(out, *total);
                     put64(out, *offset);
-                    put16(out, chunk.len());
+                    put_len(out, chunk.len());
                     out.extend_from_slice(chunk);
                 }
                 Piece::Reset => out.push(1),
@@ -169,7 +169,7 @@ impl Call {
             put32(out, id);
         };
         let bytes = |out: &mut Vec<u8>, data: &[u8]| {
-            put16(out, data.len());
+            put_len(out, data.len());
             out.extend_from_slice(data);
         };
         match self {
@@ -209,23 +209,23 @@ impl Call {
             Call::ArrayUnsigned(id, width, data) => {
                 head(out, 9, *id);
                 out.push(*width);
-                put16(out, data.len());
+                put_len(out, data.len());
                 data.iter().for_each(|&x| put64(out, x));
             }
             Call::ArraySigned(id, width, data) => {
                 head(out, 10, *id);
                 out.push(*width);
-                put16(out, data.len());
+                put_len(out, data.len());
                 data.iter().for_each(|&x| put64(out, x as u64));
             }
             Call::ArrayFp32(id, data) => {
                 head(out, 11, *id);
-                put16(out, data.len());
+                put_len(out, data.len());
                 data.iter().for_each(|&x| put32(out, x));
             }
             Call::ArrayFp64(id, data) => {
                 head(out, 12, *id);
-                put16(out, data.len());
+                put_len(out, data.len());
                 data.iter().for_each(|&x| put64(out, x));
             }
             Call::Begin(id) => head(out, 13, *id),
@@ -234,7 +234,7 @@ impl Call {
             Call::Flush => out.push(16),
             Call::BufferSet(length, offset) => {
                 out.push(17);
-                put16(out, *length);
+                put_len(out, *length);
                 put32(out, *offset);
             }
         }
@@ -264,7 +264,7 @@ impl Case for Writer {
 
     fn encode(&self, out: &mut Vec<u8>) {
         out.push(self.drained as u8);
-        put16(out, self.length);
+        put_len(out, self.length);
         put32(out, self.offset);
         self.calls.iter().for_each(|c| c.encode(out));
     }

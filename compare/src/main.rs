@@ -1,9 +1,11 @@
 //! The comparison of the port with the Rust: one driver for the differential runs, the planted faults, the list to replay and the benchmark.
 
+#[cfg(bench)]
 mod bench;
 mod bytes;
 mod case;
 mod copier;
+mod edits;
 mod fault;
 mod gen;
 mod oracle;
@@ -23,8 +25,8 @@ compare/run DIR COMMAND
                         SIZE random cases of each kind (KINDS: some of the letters rgwc, for reader, gatherer, writer and copier)
   faults SEED SIZE [KINDS]
                         each planted fault in turn, until it is found
-  sample SEED FILE      writes a list of cases with the Rust's answers
-  replay FILE           gives a list's cases to the port
+  edits SEED SIZE       each edit of edits.txt in a copy of the Rust's source, until the fault shows
+  sample SEED FILE      writes the list that the crate `replay` replays
   listing ..            the program that lists events (`listing help`)
   answer KIND HEX       both answers to one case (KIND: reader, gatherer, writer, copier)
   bench                 times of both sides";
@@ -51,8 +53,18 @@ fn main() {
         Some("cuts") => runs.cuts(),
         Some("random") => runs.random(seed, size, kinds),
         Some("faults") => std::process::exit(runs::faults(seed, size, kinds)),
+        Some("edit") => {
+            let number = number(&args, 1, 0) as usize;
+            match (number, args.get(2), args.get(3)) {
+                (0, ..) => println!("{}", edits::count()),
+                (n, Some(from), Some(to)) => edits::make(n, from, to),
+                _ => println!("{HELP}"),
+            }
+            return;
+        }
+        Some("find") => std::process::exit(runs::find(seed, size)),
         Some("sample") => std::process::exit(runs::sample(seed, args.get(2).map_or("list", |f| f))),
-        Some("replay") => std::process::exit(runs::replay(args.get(1).map_or("list", |f| f))),
+        #[cfg(bench)]
         Some("bench") => return bench::all(),
         Some("answer") => {
             let kind = match args.get(1).map(String::as_str) {
@@ -67,6 +79,8 @@ fn main() {
         }
         _ => return println!("{HELP}"),
     }
+    let c = runs.port.calls;
+    println!("compared calls: reader {}, gatherer {}, writer {}, copier {}, exports {}", c.reader, c.gatherer, c.writer, c.copier, c.exports);
     println!("{} cases, {} differences", runs.cases, runs.differences);
     std::process::exit((runs.differences != 0) as i32);
 }

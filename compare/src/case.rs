@@ -15,6 +15,11 @@ pub enum Kind {
 pub trait Case: Clone {
     const KIND: Kind;
     fn encode(&self, out: &mut Vec<u8>);
+    /// How many parts it has that can be left out: calls, or a ticket's bytes.
+    fn parts(&self) -> usize;
+    /// Without some of them.
+    fn without(&self, from: usize, n: usize) -> Self;
+    /// A little smaller, in every way.
     fn smaller(&self) -> Vec<Self>;
     fn show(&self) -> String;
 }
@@ -34,6 +39,23 @@ impl Case for Reader {
             put_len(out, n);
         }
         out.extend_from_slice(&self.ticket);
+    }
+
+    fn parts(&self) -> usize {
+        self.ticket.len()
+    }
+
+    fn without(&self, from: usize, n: usize) -> Self {
+        let to = self.ticket.len().min(from + n);
+        let mut c = self.clone();
+        c.ticket.drain(from..to);
+        let mut at = 0;
+        for len in c.chunks.iter_mut() {
+            let end = at + *len;
+            *len -= end.min(to).saturating_sub(at.max(from));
+            at = end;
+        }
+        c
     }
 
     fn smaller(&self) -> Vec<Self> {
@@ -107,6 +129,16 @@ impl Case for Gatherer {
                 Piece::Reset => out.push(1),
             }
         }
+    }
+
+    fn parts(&self) -> usize {
+        self.calls.len()
+    }
+
+    fn without(&self, from: usize, n: usize) -> Self {
+        let mut c = self.clone();
+        c.calls.drain(from..self.calls.len().min(from + n));
+        c
     }
 
     fn smaller(&self) -> Vec<Self> {
@@ -267,6 +299,16 @@ impl Case for Writer {
         put_len(out, self.length);
         put32(out, self.offset);
         self.calls.iter().for_each(|c| c.encode(out));
+    }
+
+    fn parts(&self) -> usize {
+        self.calls.len()
+    }
+
+    fn without(&self, from: usize, n: usize) -> Self {
+        let mut c = self.clone();
+        c.calls.drain(from..self.calls.len().min(from + n));
+        c
     }
 
     fn smaller(&self) -> Vec<Self> {

@@ -72,6 +72,16 @@ impl Case for Copier {
         out.extend_from_slice(&self.ticket);
     }
 
+    fn parts(&self) -> usize {
+        self.ticket.len()
+    }
+
+    fn without(&self, from: usize, n: usize) -> Self {
+        let mut c = self.clone();
+        c.ticket.drain(from..self.ticket.len().min(from + n));
+        c
+    }
+
     fn smaller(&self) -> Vec<Self> {
         let mut found = Vec::new();
         for i in 0..self.acts.len() {

@@ -11,6 +11,7 @@ mod gen;
 mod oracle;
 mod port;
 mod runs;
+mod states;
 
 use case::Kind;
 use runs::Runs;
@@ -23,8 +24,10 @@ compare/run DIR COMMAND
   cuts                  every cut of every ticket in the corpus
   random SEED SIZE [KINDS]
                         SIZE random cases of each kind (KINDS: some of the letters rgwc, for reader, gatherer, writer and copier)
+  states SEED SIZE      SIZE calls on freely chosen states and places, judged by 01's text
   faults SEED SIZE [KINDS]
                         each planted fault in turn, until it is found
+  show FAULT SEED SIZE  one planted fault, with the smallest case that shows it
   edits SEED SIZE       each edit of edits.txt in a copy of the Rust's source, until the fault shows
   sample SEED FILE      writes the list that the crate `replay` replays
   listing ..            the program that lists events (`listing help`)
@@ -47,7 +50,9 @@ fn main() {
             runs.cuts();
             runs.copies(2);
             runs.random(seed, size, kinds);
+            runs.states(seed, size);
         }
+        Some("states") => runs.states(seed, size),
         Some("short") => runs.short(number(&args, 1, 3) as usize),
         Some("copies") => runs.copies(number(&args, 1, 2) as usize),
         Some("cuts") => runs.cuts(),
@@ -62,6 +67,7 @@ fn main() {
             }
             return;
         }
+        Some("show") => std::process::exit(runs::show(seed as usize, size, number(&args, 3, 100_000))),
         Some("find") => std::process::exit(runs::find(seed, size)),
         Some("sample") => std::process::exit(runs::sample(seed, args.get(2).map_or("list", |f| f))),
         #[cfg(bench)]
@@ -80,7 +86,7 @@ fn main() {
         _ => return println!("{HELP}"),
     }
     let c = runs.port.calls;
-    println!("compared calls: reader {}, gatherer {}, writer {}, copier {}, exports {}", c.reader, c.gatherer, c.writer, c.copier, c.exports);
+    println!("compared calls: reader {}, gatherer {}, writer {}, copier {}, exports {}, on free states {}", c.reader, c.gatherer, c.writer, c.copier, c.exports, c.states);
     println!("{} cases, {} differences", runs.cases, runs.differences);
     std::process::exit((runs.differences != 0) as i32);
 }

@@ -186,6 +186,9 @@ impl Oracle {
                 };
                 if let Some((event, at)) = self.fault.event(event_fields(event), at).map(|(e, at)| (from_fields(e), at)) {
                     put_event(out, event, at, chunk);
+                    if let (Event::Piece(_, _, _, offset, _, n), Some(last)) = (event, out.last_mut()) {
+                        *last ^= self.fault.long_piece(offset as usize + n) as u8;
+                    }
                 }
             }
             let (tag, at) = match fed {
@@ -367,15 +370,15 @@ pub fn fresh(length: usize) -> Vec<u8> {
 
 struct Sink<'l> {
     log: &'l RefCell<Vec<u8>>,
-    cut: bool,
+    fault: Fault,
 }
 
 impl Flush for Sink<'_> {
     fn flush(&mut self, data: &[u8]) {
         let mut log = self.log.borrow_mut();
         log.push(0x20);
-        let n = if self.cut { data.len() - 1 } else { data.len() };
-        put_len(&mut log, n);
+        let n = if self.fault.cuts_drains() { data.len() - 1 } else { data.len() };
+        put_len(&mut log, if self.fault.drains_short() { n % 1024 } else { n });
         log.extend_from_slice(&data[..n]);
     }
 }
@@ -473,7 +476,7 @@ fn call<'a, F: Flush>(os: &mut OStream<'a, F>, input: &mut Input, buffers: Buffe
             outcome(os.write_array_fp64(id, &data), 9)
         }
         13 => {
-            let opened = outcome(os.write_sequence_begin_lazy(id), if *depth == 255 { 8 } else { 9 });
+            let opened = outcome(os.write_sequence_begin_lazy(id), if *depth == 255 && !fault.opens_as_id() { 8 } else { 9 });
             *depth += matches!(opened, Outcome::Done) as u32;
             opened
         }
@@ -585,7 +588,7 @@ impl Oracle {
             let first = rest.next().expect("the first buffer");
             log.borrow_mut().clear();
             let opened = if drained {
-                OStream::with_flush(first, offset, Sink { log: &log, cut: self.fault.cuts_drains() }).map(|os| self.replay(os, case, calls, rest, &log))
+                OStream::with_flush(first, offset, Sink { log: &log, fault: self.fault }).map(|os| self.replay(os, case, calls, rest, &log))
             } else {
                 OStream::with_offset(first, offset).map(|os| self.replay(os, case, calls, rest, &log))
             };

@@ -84,6 +84,8 @@ pub struct Calls {
     pub writer: u64,
     pub copier: u64,
     pub exports: u64,
+    /// On freely chosen states.
+    pub states: u64,
 }
 
 #[derive(Default)]

@@ -7,6 +7,7 @@ use crate::fault::{Fault, FAULTS};
 use crate::gen::{self, Random};
 use crate::oracle::{self, Oracle};
 use crate::port::{self, Port};
+use crate::states::{self, Seen};
 
 pub struct Runs {
     oracle: Oracle,
@@ -21,6 +22,9 @@ pub struct Runs {
 
 /// Differences shown before a run goes on without showing more.
 const SHOWN: u64 = 5;
+
+/// How long a case that differs is made smaller.
+const SHRINKING: std::time::Duration = std::time::Duration::from_secs(20);
 
 /// Bytes behind an output that no copy may touch.
 const GUARD: usize = 16;
@@ -66,12 +70,37 @@ impl Runs {
         if self.quiet || SHOWN < self.differences {
             return;
         }
-        let mut least = case.clone();
-        while let Some(c) = least.smaller().into_iter().find(|c| !self.same(c)) {
-            least = c;
-        }
+        let least = self.least(case);
         self.same(&least);
         println!("difference, {:?}: {}\n case {}\n rust {}\n port {}", C::KIND, least.show(), hex(&self.case), hex(&self.rust), hex(&self.told));
+    }
+
+    /// A smaller case that still shows a difference: large parts are left out first, then small ones, for no longer than a time.
+    fn least<C: Case>(&mut self, case: &C) -> C {
+        let start = std::time::Instant::now();
+        let mut least = case.clone();
+        let mut n = least.parts() / 2;
+        while 0 < n {
+            let mut at = 0;
+            while at < least.parts() && start.elapsed() < SHRINKING {
+                let c = least.without(at, n);
+                if self.same(&c) {
+                    at += n;
+                } else {
+                    least = c;
+                }
+            }
+            n /= 2;
+        }
+        let mut more = true;
+        while more && least.parts() < 1000 {
+            let found = least.smaller().into_iter().find(|c| SHRINKING <= start.elapsed() || !self.same(c));
+            more = start.elapsed() < SHRINKING && found.is_some();
+            if let (true, Some(c)) = (more, found) {
+                least = c;
+            }
+        }
+        least
     }
 
     /// The export that gives the verdict on a whole message, on one ticket.
@@ -206,6 +235,24 @@ impl Runs {
     }
 }
 
+impl Runs {
+    /// Calls on freely chosen states and from freely chosen places.
+    pub fn states(&mut self, seed: u64, size: u64) {
+        let mut seen = Seen::default();
+        for i in 0..size {
+            self.cases += 1;
+            if let Err(what) = states::turn(&mut case_seed(seed, i, 5), 0, &mut seen) {
+                self.differences += 1;
+                if self.differences <= SHOWN {
+                    println!("difference, {what}");
+                }
+            }
+        }
+        self.port.calls.states += seen.calls;
+        println!("states, seed {seed}: {} calls, of {} all that is due is known; due refusals by number: {:?}", seen.calls, seen.judged, &seen.numbers[1..]);
+    }
+}
+
 /// Every way to cut so many bytes into chunks that aren't empty.
 fn every_cut(len: usize) -> impl Iterator<Item = Vec<usize>> {
     let gaps = len.saturating_sub(1);
@@ -236,6 +283,19 @@ fn case_seed(seed: u64, i: u64, kind: u64) -> Random {
     r
 }
 
+/// Plants one fault, and shows the smallest case that shows it.
+pub fn show(fault: usize, seed: u64, size: u64) -> i32 {
+    let mut runs = Runs::new(fault);
+    runs.quiet = false;
+    let start = std::time::Instant::now();
+    let found = (0..size).any(|i| {
+        runs.turn(seed, i, "rgwc");
+        runs.differences != 0
+    });
+    println!("{}: {} after {} cases and {:.1} s", FAULTS[fault], if found { "found" } else { "not found" }, runs.cases, start.elapsed().as_secs_f64());
+    !found as i32
+}
+
 /// Random cases of all kinds until the first difference; answers 0 if there is one.
 pub fn find(seed: u64, size: u64) -> i32 {
     let mut runs = Runs::new(0);
@@ -263,7 +323,12 @@ pub fn faults(seed: u64, size: u64, kinds: &str) -> i32 {
         missed += (found != (n != 0)) as i32;
         println!("{name}: {} after {} cases", if found { "found" } else { "not found" }, runs.cases);
     }
-    println!("{} faults, {missed} not as expected", FAULTS.len() - 1);
+    for (n, name) in states::FAULTS.iter().enumerate().filter(|_| kinds.len() == 4) {
+        let found = (0..10 * size).find(|&i| states::turn(&mut case_seed(seed, i, 5), n, &mut Seen::default()).is_err());
+        missed += (found.is_some() != (n != 0)) as i32;
+        println!("states: {name}: {}", found.map_or("not found".to_string(), |i| format!("found after {} calls", i + 1)));
+    }
+    println!("{} faults, {missed} not as expected", FAULTS.len() - 1 + states::FAULTS.len() - 1);
     (missed != 0) as i32
 }
 

@@ -299,6 +299,21 @@ fn rust_copy(ticket: &[u8], size: usize, buf: &mut [u8], out: &mut [u8]) -> u64 
     sent as u64
 }
 
+/// Messages for the copy alone: arrays of 64 floats, of 32 and of 64 bits in turn; and one that isn't in its shortest form, small integers
+/// whose headers have a byte more than they need (88 00).
+fn more_tickets() -> Vec<(&'static str, Vec<u8>)> {
+    let mut bytes = vec![0; 1 << 21];
+    let mut os = OStream::new(&mut bytes);
+    for i in 0..1400u32 {
+        let _ = os.write_array_fp32(i % 16, &std::array::from_fn::<f32, 64, _>(|k| k as f32 + 0.5));
+        let _ = os.write_array_fp64(i % 16, &std::array::from_fn::<f64, 64, _>(|k| k as f64 - 0.25));
+    }
+    let len = os.bytes_used();
+    bytes.truncate(len);
+    let long = (0..270_000u32).flat_map(|i| [(i % 16 * 8) as u8 | 128, 0, (i % 100) as u8]).collect();
+    vec![("float arrays", bytes), ("small integers with long headers", long)]
+}
+
 // ---- the port's
 
 fn port_copy(ticket: &[u8], size: usize, buf: &mut [u8], out: &mut [u8]) -> u64 {
@@ -415,8 +430,9 @@ pub fn all() {
             row(&format!("write into {length} bytes: {name}"), &bytes, || rust_write(kind, n, data, &mut a, &mut out), || port_write(kind, n, data, &mut b, &mut other));
         }
     }
+    let copied: Vec<_> = tickets.into_iter().chain(more_tickets()).collect();
     for (size, length, how) in [(4096, 4096, "4096/4096"), (64, 64, "64/64"), (0, 4096, "whole/4096"), (4096, 1, "4096/1")] {
-        for (name, ticket) in &tickets {
+        for (name, ticket) in &copied {
             let (mut a, mut b) = (vec![1u8; length], vec![1u8; length]);
             let len = rust_copy(ticket, size, &mut a, &mut out) as usize;
             port_copy(ticket, size, &mut b, &mut other);
@@ -425,6 +441,15 @@ pub fn all() {
             }
             row(&format!("copy {how}: {name}"), ticket, || rust_copy(ticket, size, &mut a, &mut out), || port_copy(ticket, size, &mut b, &mut other));
         }
+    }
+    for (name, ticket) in &copied {
+        let mut buf = vec![1u8; 4096];
+        let len = rust_copy(ticket, 0, &mut buf, &mut out) as usize;
+        crate::port::copy(ticket, &mut other);
+        if out[..len] != other[..len] {
+            println!("| copy {name}: the bytes differ |");
+        }
+        row(&format!("copy whole, sofab_copy: {name}"), ticket, || rust_copy(ticket, 0, &mut buf, &mut out), || crate::port::copy(ticket, &mut other) as u64);
     }
     println!("\nThe Rust's states in bytes: reader {}, writer without its buffer and sink {}, gatherer without its buffer {}.", size_of::<IStream>(), size_of::<OStream>() - size_of::<&mut [u8]>(), size_of::<PayloadAcc<64>>() - 64);
 }

@@ -1,7 +1,8 @@
-//! Numbers in cases and answers: little-endian, of 8, 16, 32 or 64 bits.
+//! Numbers in cases and answers: little-endian, of 8, 32 or 64 bits.
 
-pub fn put16(out: &mut Vec<u8>, n: usize) {
-    out.extend_from_slice(&(n as u16).to_le_bytes());
+/// A length, a count or a position.
+pub fn put_len(out: &mut Vec<u8>, n: usize) {
+    put32(out, n as u32);
 }
 
 pub fn put32(out: &mut Vec<u8>, n: u32) {

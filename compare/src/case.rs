@@ -15,6 +15,11 @@ pub enum Kind {
 pub trait Case: Clone {
     const KIND: Kind;
     fn encode(&self, out: &mut Vec<u8>);
+    /// How many parts it has that can be left out: calls, or a ticket's bytes.
+    fn parts(&self) -> usize;
+    /// Without some of them.
+    fn without(&self, from: usize, n: usize) -> Self;
+    /// A little smaller, in every way.
     fn smaller(&self) -> Vec<Self>;
     fn show(&self) -> String;
 }
@@ -29,11 +34,28 @@ impl Case for Reader {
     const KIND: Kind = Kind::Reader;
 
     fn encode(&self, out: &mut Vec<u8>) {
-        put16(out, self.chunks.len());
+        put_len(out, self.chunks.len());
         for &n in &self.chunks {
-            put16(out, n);
+            put_len(out, n);
         }
         out.extend_from_slice(&self.ticket);
+    }
+
+    fn parts(&self) -> usize {
+        self.ticket.len()
+    }
+
+    fn without(&self, from: usize, n: usize) -> Self {
+        let to = self.ticket.len().min(from + n);
+        let mut c = self.clone();
+        c.ticket.drain(from..to);
+        let mut at = 0;
+        for len in c.chunks.iter_mut() {
+            let end = at + *len;
+            *len -= end.min(to).saturating_sub(at.max(from));
+            at = end;
+        }
+        c
     }
 
     fn smaller(&self) -> Vec<Self> {
@@ -94,19 +116,29 @@ impl Case for Gatherer {
     const KIND: Kind = Kind::Gatherer;
 
     fn encode(&self, out: &mut Vec<u8>) {
-        put16(out, self.capacity);
+        put_len(out, self.capacity);
         for call in &self.calls {
             match call {
                 Piece::Feed { total, offset, chunk } => {
                     out.push(0);
                     put64(out, *total);
                     put64(out, *offset);
-                    put16(out, chunk.len());
+                    put_len(out, chunk.len());
                     out.extend_from_slice(chunk);
                 }
                 Piece::Reset => out.push(1),
             }
         }
+    }
+
+    fn parts(&self) -> usize {
+        self.calls.len()
+    }
+
+    fn without(&self, from: usize, n: usize) -> Self {
+        let mut c = self.clone();
+        c.calls.drain(from..self.calls.len().min(from + n));
+        c
     }
 
     fn smaller(&self) -> Vec<Self> {
@@ -169,7 +201,7 @@ impl Call {
             put32(out, id);
         };
         let bytes = |out: &mut Vec<u8>, data: &[u8]| {
-            put16(out, data.len());
+            put_len(out, data.len());
             out.extend_from_slice(data);
         };
         match self {
@@ -209,23 +241,23 @@ impl Call {
             Call::ArrayUnsigned(id, width, data) => {
                 head(out, 9, *id);
                 out.push(*width);
-                put16(out, data.len());
+                put_len(out, data.len());
                 data.iter().for_each(|&x| put64(out, x));
             }
             Call::ArraySigned(id, width, data) => {
                 head(out, 10, *id);
                 out.push(*width);
-                put16(out, data.len());
+                put_len(out, data.len());
                 data.iter().for_each(|&x| put64(out, x as u64));
             }
             Call::ArrayFp32(id, data) => {
                 head(out, 11, *id);
-                put16(out, data.len());
+                put_len(out, data.len());
                 data.iter().for_each(|&x| put32(out, x));
             }
             Call::ArrayFp64(id, data) => {
                 head(out, 12, *id);
-                put16(out, data.len());
+                put_len(out, data.len());
                 data.iter().for_each(|&x| put64(out, x));
             }
             Call::Begin(id) => head(out, 13, *id),
@@ -234,7 +266,7 @@ impl Call {
             Call::Flush => out.push(16),
             Call::BufferSet(length, offset) => {
                 out.push(17);
-                put16(out, *length);
+                put_len(out, *length);
                 put32(out, *offset);
             }
         }
@@ -264,9 +296,19 @@ impl Case for Writer {
 
     fn encode(&self, out: &mut Vec<u8>) {
         out.push(self.drained as u8);
-        put16(out, self.length);
+        put_len(out, self.length);
         put32(out, self.offset);
         self.calls.iter().for_each(|c| c.encode(out));
+    }
+
+    fn parts(&self) -> usize {
+        self.calls.len()
+    }
+
+    fn without(&self, from: usize, n: usize) -> Self {
+        let mut c = self.clone();
+        c.calls.drain(from..self.calls.len().min(from + n));
+        c
     }
 
     fn smaller(&self) -> Vec<Self> {

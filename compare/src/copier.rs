@@ -8,7 +8,7 @@ use crate::bytes::*;
 use crate::case::{Case, Kind};
 use crate::fault::Fault;
 use crate::gen::{self, Random};
-use crate::oracle::{fresh, BROKEN, COMPLETE, INCOMPLETE, REFUSED};
+use crate::oracle::{fresh, Input, BROKEN, COMPLETE, INCOMPLETE, REFUSED};
 use sofab::*;
 
 // ---- cases
@@ -62,14 +62,24 @@ impl Case for Copier {
     const KIND: Kind = Kind::Copier;
 
     fn encode(&self, out: &mut Vec<u8>) {
-        put16(out, self.size);
-        put16(out, self.acts.len());
+        put_len(out, self.size);
+        put_len(out, self.acts.len());
         for &act in &self.acts {
             let (code, n) = act.code();
             out.push(code);
-            put16(out, n);
+            put_len(out, n);
         }
         out.extend_from_slice(&self.ticket);
+    }
+
+    fn parts(&self) -> usize {
+        self.ticket.len()
+    }
+
+    fn without(&self, from: usize, n: usize) -> Self {
+        let mut c = self.clone();
+        c.ticket.drain(from..self.ticket.len().min(from + n));
+        c
     }
 
     fn smaller(&self) -> Vec<Self> {
@@ -390,8 +400,8 @@ impl Desk<'_> {
             out.push(2);
         }
         let owed = fault == 27 && tag == 1 && !self.owed.is_empty() && from < self.read;
-        put16(out, self.read - from - owed as usize);
-        put16(out, self.position);
+        put_len(out, self.read - from - owed as usize);
+        put_len(out, self.position);
         if fault == 31 && self.position < self.buf.len() {
             self.buf[self.position] ^= 1;
         }
@@ -439,7 +449,7 @@ impl Desk<'_> {
 
     fn drain(&mut self, out: &mut Vec<u8>) {
         out.push(4);
-        put16(out, self.position);
+        put_len(out, self.position);
         out.extend_from_slice(&self.buf[..self.position]);
         self.position = 0;
     }
@@ -468,9 +478,9 @@ impl Desk<'_> {
 
 /// The answer to a case.
 pub fn answer(case: &[u8], fault: Fault, out: &mut Vec<u8>) {
-    let small = |at: usize| u16::from_le_bytes([case[at], case[at + 1]]) as usize;
-    let (size, count) = (small(0), small(2));
-    let ticket = &case[4 + 3 * count..];
+    let mut input = Input { case, at: 0 };
+    let (size, count) = (input.number(4) as usize, input.number(4) as usize);
+    let ticket = &case[8 + 5 * count..];
     if size == 0 {
         return out.extend_from_slice(&[3, 5]);
     }
@@ -482,9 +492,9 @@ pub fn answer(case: &[u8], fault: Fault, out: &mut Vec<u8>) {
         }
     }
     let mut desk = Desk { told: &told, fault, buf: fresh(size), position: 0, owed: Vec::new(), next: 0, read: 0, end: 0, full: false, broke: false };
-    for i in 0..count {
-        let at = 4 + 3 * i;
-        desk.act(Act::of(case[at], small(at + 1)), ticket.len(), out);
+    for _ in 0..count {
+        let code = input.number(1) as u8;
+        desk.act(Act::of(code, input.number(4) as usize), ticket.len(), out);
     }
     // What is left, to its verdict, and the last drain.
     loop {

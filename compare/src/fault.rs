@@ -5,7 +5,7 @@ use crate::oracle::{Fields, COMPLETE, INCOMPLETE, REFUSED};
 #[derive(Clone, Copy)]
 pub struct Fault(pub usize);
 
-pub const FAULTS: [&str; 34] = [
+pub const FAULTS: [&str; 37] = [
     "none",
     "reader: the lowest signed value loses its sign",
     "reader: a NaN loses its payload",
@@ -40,6 +40,9 @@ pub const FAULTS: [&str; 34] = [
     "copier: a byte after the position is altered",
     "copy of a whole ticket: a byte after it is altered",
     "copy of a whole ticket: room for just the copy is too short",
+    "writer: an open at depth 255 is number 9",
+    "writer: the length of a drain has 10 bits",
+    "reader: the last byte of a piece beyond 65,536 is altered",
 ];
 
 impl Fault {
@@ -94,6 +97,18 @@ impl Fault {
 
     pub fn keeps(self) -> bool {
         self.is(17)
+    }
+
+    pub fn opens_as_id(self) -> bool {
+        self.is(34)
+    }
+
+    pub fn drains_short(self) -> bool {
+        self.is(35)
+    }
+
+    pub fn long_piece(self, end: usize) -> bool {
+        self.is(36) && 65_536 < end
     }
 
     pub fn answers_new_offset(self) -> bool {

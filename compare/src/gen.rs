@@ -1,7 +1,7 @@
 //! Cases from a seed: tickets of every kind with damaged copies and cuts, series of gatherer calls, series of writes.
 
 use crate::case::*;
-use crate::oracle::CAPACITIES;
+use crate::oracle::{CAPACITIES, SHORT};
 
 /// splitmix64
 #[derive(Clone)]
@@ -31,6 +31,8 @@ impl Random {
     }
 }
 
+/// One case in so many has something long.
+const LONG: usize = 200;
 const ID_MAX: u64 = 0x7fff_ffff;
 const LEGAL_IDS: [u64; 14] = [0, 1, 2, 3, 5, 15, 16, 127, 2047, 2048, 0x0fff_ffff, 0x1000_0000, ID_MAX - 1, ID_MAX];
 const OTHER_IDS: [u64; 6] = [ID_MAX + 1, ID_MAX + 2, 0xffff_ffff, 0x1_0000_0000, 0x1_0000_0001, (1 << 61) - 1];
@@ -69,6 +71,12 @@ pub fn value(r: &mut Random) -> u64 {
         }
         _ => r.next(),
     }
+}
+
+/// Lengths and counts that one cut to 8, 10 or 16 bits would show. Those beyond 16 bits are rarer, since they take long.
+pub fn long(r: &mut Random) -> usize {
+    let least = r.pick(&[256, 256, 256, 1024, 1024, 65_536]);
+    least + r.below(40)
 }
 
 fn bits32(r: &mut Random) -> u32 {
@@ -229,6 +237,65 @@ impl Ticket<'_> {
         }
     }
 
+    /// A string, a blob or an array, longer than others.
+    fn long(&mut self) {
+        let n = long(self.r) as u64;
+        match self.r.below(5) {
+            0 | 1 => {
+                self.header(2);
+                let subtype = 2 + self.r.below(2) as u64;
+                self.varint(n << 3 | subtype);
+                let bytes = self.r.bytes(n as usize);
+                self.out.extend_from_slice(&bytes);
+            }
+            2 | 3 => {
+                let kind = 3 + self.r.below(2) as u64;
+                self.header(kind);
+                self.varint(n);
+                for _ in 0..n {
+                    let v = self.r.below(200) as u64;
+                    self.varint(v);
+                }
+            }
+            _ => {
+                self.header(5);
+                self.varint(n);
+                let width = self.r.pick(&[4, 8]);
+                self.float_word(width);
+                for _ in 0..n {
+                    self.float(width);
+                }
+            }
+        }
+    }
+
+    /// The largest id, length or count, or one above.
+    fn limit(&mut self) {
+        let n = ID_MAX + self.r.below(2) as u64;
+        let kind = self.r.below(8) as u64;
+        match self.r.below(3) {
+            0 => {
+                self.varint(n << 3 | kind);
+                let v = self.r.below(200) as u64;
+                self.varint(v);
+            }
+            1 => {
+                self.header(2);
+                let subtype = 2 + self.r.below(2) as u64;
+                self.varint(n << 3 | subtype);
+            }
+            _ => {
+                let kind = 3 + kind % 3;
+                self.header(kind);
+                self.varint(n);
+                if kind == 5 {
+                    let width = self.r.pick(&[4, 8]);
+                    self.float_word(width);
+                }
+            }
+        }
+    }
+
     /// Opens in a row, at and around the deepest nesting, and as many closes.
     fn tower(&mut self) {
         let n = 250 + self.r.below(8);
@@ -312,9 +379,19 @@ pub fn ticket(r: &mut Random) -> Vec<u8> {
     for _ in 0..fields {
         t.field();
     }
+    if t.r.one_in(LONG) {
+        t.odd = 1000;
+        t.long();
+    }
     while 0 < t.depth && !t.r.one_in(12) {
         t.header(7);
         t.depth -= 1;
+    }
+    if t.r.one_in(10) {
+        t.limit();
+        let n = t.r.below(8);
+        let rest = t.r.bytes(n);
+        t.out.extend_from_slice(&rest);
     }
     let mut out = t.out;
     if hurt {
@@ -332,7 +409,11 @@ pub fn reader(r: &mut Random) -> Reader {
 // ---- gatherer
 
 pub fn gatherer(r: &mut Random) -> Gatherer {
-    let capacity = if r.one_in(4) { r.pick(&CAPACITIES) } else { r.pick(&CAPACITIES[..12]) };
+    let capacity = match r.below(2 * LONG) {
+        0 => r.pick(&CAPACITIES[SHORT..]),
+        n if n % 4 == 0 => r.pick(&CAPACITIES[..SHORT]),
+        _ => r.pick(&CAPACITIES[..12]),
+    };
     let mut calls = Vec::new();
     let mut total = 0u64;
     let mut held = 0u64;
@@ -489,14 +570,60 @@ fn room(r: &mut Random) -> (usize, u32) {
     (length, offset)
 }
 
+/// Long payloads and arrays, into buffers that aren't short: each call on an array of integers costs what is out.
+fn long_writer(r: &mut Random) -> Writer {
+    let length = r.pick(&[400, 4096, 70_000]);
+    let drained = r.one_in(2);
+    let mut calls = vec![Call::Begin(1)];
+    for _ in 0..1 + r.below(3) {
+        let n = long(r);
+        let id = r.pick(&LEGAL_IDS) as u32;
+        calls.push(match r.below(7) {
+            0 => Call::Str(id, text(r, n)),
+            1 => Call::Blob(id, r.bytes(n)),
+            2 => Call::Fixlen(id, 3, r.bytes(n)),
+            3 => Call::ArrayUnsigned(id, 3, (0..n).map(|_| value(r)).collect()),
+            4 => Call::ArraySigned(id, 3, (0..n).map(|_| value(r) as i64).collect()),
+            5 => Call::ArrayFp32(id, (0..n as u32).collect()),
+            _ => Call::ArrayFp64(id, (0..n as u64).collect()),
+        });
+    }
+    calls.push(Call::End);
+    Writer { drained, length, offset: 0, calls }
+}
+
 pub fn writer(r: &mut Random) -> Writer {
+    if r.one_in(2 * LONG) {
+        return long_writer(r);
+    }
+    let mut w = short_writer(r);
+    if r.one_in(10) {
+        // The largest id, or one above.
+        let id = ID_MAX as u32 + r.below(2) as u32;
+        let i = r.below(w.calls.len() + 1);
+        let call = match content(r) {
+            Call::Unsigned(_, v) => Call::Unsigned(id, v),
+            Call::Signed(_, v) => Call::Signed(id, v),
+            Call::Fp32(_, v) => Call::Fp32(id, v),
+            Call::Str(_, v) => Call::Str(id, v),
+            Call::Blob(_, v) => Call::Blob(id, v),
+            Call::ArrayUnsigned(_, w, v) => Call::ArrayUnsigned(id, w, v),
+            Call::ArrayFp64(_, v) => Call::ArrayFp64(id, v),
+            _ => Call::Begin(id),
+        };
+        w.calls.insert(i, call);
+    }
+    w
+}
+
+fn short_writer(r: &mut Random) -> Writer {
     let (length, offset) = room(r);
     let drained = r.one_in(2);
     let mut calls = Vec::new();
     if r.one_in(60) {
-        // Nesting at and around its limit.
-        for _ in 0..252 + r.below(5) {
-            calls.push(Call::Begin(id(r)));
+        // Nesting up to its limit, and most often beyond: the last opens are refused.
+        for _ in 0..253 + r.below(6) {
+            calls.push(Call::Begin(r.pick(&LEGAL_IDS) as u32));
         }
     }
     let opens = r.below(13);

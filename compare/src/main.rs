@@ -1,14 +1,17 @@
 //! The comparison of the port with the Rust: one driver for the differential runs, the planted faults, the list to replay and the benchmark.
 
+#[cfg(bench)]
 mod bench;
 mod bytes;
 mod case;
 mod copier;
+mod edits;
 mod fault;
 mod gen;
 mod oracle;
 mod port;
 mod runs;
+mod states;
 
 use case::Kind;
 use runs::Runs;
@@ -21,10 +24,12 @@ compare/run DIR COMMAND
   cuts                  every cut of every ticket in the corpus
   random SEED SIZE [KINDS]
                         SIZE random cases of each kind (KINDS: some of the letters rgwc, for reader, gatherer, writer and copier)
+  states SEED SIZE      SIZE calls on freely chosen states and places, judged by 01's text
   faults SEED SIZE [KINDS]
                         each planted fault in turn, until it is found
-  sample SEED FILE      writes a list of cases with the Rust's answers
-  replay FILE           gives a list's cases to the port
+  show FAULT SEED SIZE  one planted fault, with the smallest case that shows it
+  edits SEED SIZE       each edit of edits.txt in a copy of the Rust's source, until the fault shows
+  sample SEED FILE      writes the list that the crate `replay` replays
   listing ..            the program that lists events (`listing help`)
   answer KIND HEX       both answers to one case (KIND: reader, gatherer, writer, copier)
   bench                 times of both sides";
@@ -45,14 +50,27 @@ fn main() {
             runs.cuts();
             runs.copies(2);
             runs.random(seed, size, kinds);
+            runs.states(seed, size);
         }
+        Some("states") => runs.states(seed, size),
         Some("short") => runs.short(number(&args, 1, 3) as usize),
         Some("copies") => runs.copies(number(&args, 1, 2) as usize),
         Some("cuts") => runs.cuts(),
         Some("random") => runs.random(seed, size, kinds),
         Some("faults") => std::process::exit(runs::faults(seed, size, kinds)),
+        Some("edit") => {
+            let number = number(&args, 1, 0) as usize;
+            match (number, args.get(2), args.get(3)) {
+                (0, ..) => println!("{}", edits::count()),
+                (n, Some(from), Some(to)) => edits::make(n, from, to),
+                _ => println!("{HELP}"),
+            }
+            return;
+        }
+        Some("show") => std::process::exit(runs::show(seed as usize, size, number(&args, 3, 100_000))),
+        Some("find") => std::process::exit(runs::find(seed, size)),
         Some("sample") => std::process::exit(runs::sample(seed, args.get(2).map_or("list", |f| f))),
-        Some("replay") => std::process::exit(runs::replay(args.get(1).map_or("list", |f| f))),
+        #[cfg(bench)]
         Some("bench") => return bench::all(),
         Some("answer") => {
             let kind = match args.get(1).map(String::as_str) {
@@ -67,6 +85,8 @@ fn main() {
         }
         _ => return println!("{HELP}"),
     }
+    let c = runs.port.calls;
+    println!("compared calls: reader {}, gatherer {}, writer {}, copier {}, exports {}, on free states {}", c.reader, c.gatherer, c.writer, c.copier, c.exports, c.states);
     println!("{} cases, {} differences", runs.cases, runs.differences);
     std::process::exit((runs.differences != 0) as i32);
 }

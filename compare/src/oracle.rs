@@ -87,7 +87,7 @@ impl Visitor for Events {
 fn put_event(out: &mut Vec<u8>, event: Event, at: usize, chunk: &[u8]) {
     let head = |out: &mut Vec<u8>, tag: u8, id: u32| {
         out.push(tag);
-        put16(out, at);
+        put_len(out, at);
         put32(out, id);
     };
     match event {
@@ -122,13 +122,13 @@ fn put_event(out: &mut Vec<u8>, event: Event, at: usize, chunk: &[u8]) {
             out.push(subtype);
             put32(out, total);
             put32(out, offset);
-            put16(out, len);
+            put_len(out, len);
             out.extend_from_slice(&chunk[from..from + len]);
         }
         Event::Begin(id) => head(out, 8, id),
         Event::End => {
             out.push(9);
-            put16(out, at);
+            put_len(out, at);
         }
     }
 }
@@ -160,15 +160,15 @@ impl Oracle {
     }
 
     pub fn reader(&mut self, case: &[u8], out: &mut Vec<u8>) {
-        let count = u16::from_le_bytes([case[0], case[1]]) as usize;
-        let ticket = &case[2 + 2 * count..];
+        let mut input = Input { case, at: 0 };
+        let count = input.number(4) as usize;
+        let ticket = &case[4 + 4 * count..];
         let broken = self.note_places(ticket);
         let mut reader = IStream::new();
         let mut from = 0;
         let mut next = 0;
         for k in 0..count {
-            let len = u16::from_le_bytes([case[2 + 2 * k], case[3 + 2 * k]]) as usize;
-            let to = (from + len).min(ticket.len());
+            let to = (from + input.number(4) as usize).min(ticket.len());
             let chunk = &ticket[from..to];
             self.whole.seen.clear();
             self.whole.chunk = chunk.as_ptr() as usize;
@@ -186,6 +186,9 @@ impl Oracle {
                 };
                 if let Some((event, at)) = self.fault.event(event_fields(event), at).map(|(e, at)| (from_fields(e), at)) {
                     put_event(out, event, at, chunk);
+                    if let (Event::Piece(_, _, _, offset, _, n), Some(last)) = (event, out.last_mut()) {
+                        *last ^= self.fault.long_piece(offset as usize + n) as u8;
+                    }
                 }
             }
             let (tag, at) = match fed {
@@ -198,7 +201,7 @@ impl Oracle {
             let again = tag == REFUSED && broken.is_some_and(|b| b <= from) && k != 0;
             let (tag, at) = self.fault.verdict(tag, at, opened, again);
             out.push(tag);
-            put16(out, at);
+            put_len(out, at);
             if tag == REFUSED {
                 out.push(2);
             }
@@ -254,21 +257,21 @@ fn from_fields(f: Fields) -> Event {
 
 // ---- what a case's bytes hold
 
-struct Input<'a> {
-    case: &'a [u8],
-    at: usize,
+pub struct Input<'a> {
+    pub case: &'a [u8],
+    pub at: usize,
 }
 
 impl<'a> Input<'a> {
-    fn bytes(&mut self, n: usize) -> &'a [u8] {
+    pub fn bytes(&mut self, n: usize) -> &'a [u8] {
         let from = self.at.min(self.case.len());
         self.at = (from + n).min(self.case.len());
         &self.case[from..self.at]
     }
-    fn number(&mut self, n: usize) -> u64 {
+    pub fn number(&mut self, n: usize) -> u64 {
         self.bytes(n).iter().rev().fold(0, |sum, &b| sum << 8 | b as u64)
     }
-    fn ended(&self) -> bool {
+    pub fn ended(&self) -> bool {
         self.case.len() <= self.at
     }
 }
@@ -276,7 +279,9 @@ impl<'a> Input<'a> {
 // ---- the gatherer
 
 /// The capacities that the Rust is compiled for: its buffer's length is a parameter of the type.
-pub const CAPACITIES: [usize; 22] = [0, 1, 2, 3, 4, 5, 6, 7, 8, 9, 12, 16, 17, 24, 32, 33, 64, 100, 128, 255, 256, 300];
+pub const CAPACITIES: [usize; 24] = [0, 1, 2, 3, 4, 5, 6, 7, 8, 9, 12, 16, 17, 24, 32, 33, 64, 100, 128, 255, 256, 300, 1100, 66_000];
+/// How many of them are short.
+pub const SHORT: usize = 22;
 
 /// Where the buffer lies in an accumulator of N bytes: measured on one that the Rust answers from its buffer. Below two bytes none is
 /// ever answered from there, nor written.
@@ -313,7 +318,7 @@ impl Oracle {
             } else {
                 let total = input.number(8) as usize;
                 let offset = input.number(8) as usize;
-                let len = input.number(2) as usize;
+                let len = input.number(4) as usize;
                 let chunk = input.bytes(len);
                 let held = acc.buffered();
                 tail = Some((total, offset, chunk, held));
@@ -324,7 +329,7 @@ impl Oracle {
                         // A part of no bytes may lie anywhere: it is the chunk's where the payload starts here.
                         let in_chunk = if part.is_empty() { offset == 0 } else { lies.contains(&(part.as_ptr() as usize)) };
                         out.push(if in_chunk { 1 } else { 2 });
-                        put16(out, part.len());
+                        put_len(out, part.len());
                         out.extend_from_slice(part);
                     }
                     Err(Error::Argument) => match self.fault.too_long(offset, held) {
@@ -334,7 +339,7 @@ impl Oracle {
                     Err(_) => return out.push(BROKEN),
                 }
             }
-            put16(out, acc.buffered());
+            put_len(out, acc.buffered());
             out.push(format!("{acc:?}").contains("complete: true") as u8);
             let mut buffer = buffer_of(&acc, place);
             self.fault.gathered(&mut buffer, tail);
@@ -346,13 +351,13 @@ impl Oracle {
         let mut input = Input { case, at: 0 };
         macro_rules! with_capacity {
             ($($n:literal)*) => {
-                match input.number(2) {
+                match input.number(4) {
                     $($n => self.gather::<$n>(&mut input, out),)*
                     _ => out.push(BROKEN),
                 }
             };
         }
-        with_capacity!(0 1 2 3 4 5 6 7 8 9 12 16 17 24 32 33 64 100 128 255 256 300);
+        with_capacity!(0 1 2 3 4 5 6 7 8 9 12 16 17 24 32 33 64 100 128 255 256 300 1100 66000);
     }
 }
 
@@ -365,15 +370,15 @@ pub fn fresh(length: usize) -> Vec<u8> {
 
 struct Sink<'l> {
     log: &'l RefCell<Vec<u8>>,
-    cut: bool,
+    fault: Fault,
 }
 
 impl Flush for Sink<'_> {
     fn flush(&mut self, data: &[u8]) {
         let mut log = self.log.borrow_mut();
         log.push(0x20);
-        let n = if self.cut { data.len() - 1 } else { data.len() };
-        put16(&mut log, n);
+        let n = if self.fault.cuts_drains() { data.len() - 1 } else { data.len() };
+        put_len(&mut log, if self.fault.drains_short() { n % 1024 } else { n });
         log.extend_from_slice(&data[..n]);
     }
 }
@@ -420,25 +425,25 @@ fn call<'a, F: Flush>(os: &mut OStream<'a, F>, input: &mut Input, buffers: Buffe
                 2 => FixlenType::Str,
                 _ => FixlenType::Blob,
             };
-            let n = input.number(2) as usize;
+            let n = input.number(4) as usize;
             outcome(os.write_fixlen(id, input.bytes(n), subtype), if subtype == FixlenType::Str { 7 } else { 9 })
         }
         5 => outcome(os.write_fp32(id, f32::from_bits(input.number(4) as u32)), 9),
         6 => outcome(os.write_fp64(id, f64::from_bits(input.number(8))), 9),
         7 => {
-            let n = input.number(2) as usize;
+            let n = input.number(4) as usize;
             match std::str::from_utf8(input.bytes(n)) {
                 Ok(text) => outcome(os.write_str(id, text), 9),
                 Err(_) => Outcome::Refused(BROKEN),
             }
         }
         8 => {
-            let n = input.number(2) as usize;
+            let n = input.number(4) as usize;
             outcome(os.write_blob(id, input.bytes(n)), 9)
         }
         9 => {
             let width = input.number(1);
-            let n = input.number(2);
+            let n = input.number(4);
             let data: Vec<u64> = (0..n).map(|_| input.number(8)).collect();
             let written = match width {
                 0 => widths::<u8>(&data).map(|d| os.write_array_unsigned(id, &d)),
@@ -450,7 +455,7 @@ fn call<'a, F: Flush>(os: &mut OStream<'a, F>, input: &mut Input, buffers: Buffe
         }
         10 => {
             let width = input.number(1);
-            let n = input.number(2);
+            let n = input.number(4);
             let data: Vec<i64> = (0..n).map(|_| input.number(8) as i64).collect();
             let written = match width {
                 0 => signed_widths::<i8>(&data).map(|d| os.write_array_signed(id, &d)),
@@ -461,17 +466,17 @@ fn call<'a, F: Flush>(os: &mut OStream<'a, F>, input: &mut Input, buffers: Buffe
             written.map_or(Outcome::Refused(BROKEN), |w| outcome(w, 9))
         }
         11 => {
-            let n = input.number(2);
+            let n = input.number(4);
             let data: Vec<f32> = (0..n).map(|_| f32::from_bits(input.number(4) as u32)).collect();
             outcome(os.write_array_fp32(id, &data), 9)
         }
         12 => {
-            let n = input.number(2);
+            let n = input.number(4);
             let data: Vec<f64> = (0..n).map(|_| f64::from_bits(input.number(8))).collect();
             outcome(os.write_array_fp64(id, &data), 9)
         }
         13 => {
-            let opened = outcome(os.write_sequence_begin_lazy(id), if *depth == 255 { 8 } else { 9 });
+            let opened = outcome(os.write_sequence_begin_lazy(id), if *depth == 255 && !fault.opens_as_id() { 8 } else { 9 });
             *depth += matches!(opened, Outcome::Done) as u32;
             opened
         }
@@ -483,7 +488,7 @@ fn call<'a, F: Flush>(os: &mut OStream<'a, F>, input: &mut Input, buffers: Buffe
         }
         16 => Outcome::Used(os.flush()),
         17 => {
-            let _ = input.number(2);
+            let _ = input.number(4);
             let offset = input.number(4) as usize;
             let used = os.bytes_used();
             let buffer = buffers.next().expect("a buffer for each change");
@@ -499,7 +504,7 @@ fn call<'a, F: Flush>(os: &mut OStream<'a, F>, input: &mut Input, buffers: Buffe
 /// The lengths of the buffers that a case names, opening first, and where each call starts.
 fn plan(case: &[u8]) -> (Vec<usize>, Vec<usize>) {
     let mut input = Input { case, at: 1 };
-    let mut lengths = vec![input.number(2) as usize];
+    let mut lengths = vec![input.number(4) as usize];
     input.number(4);
     let mut starts = Vec::new();
     while !input.ended() {
@@ -514,17 +519,17 @@ fn plan(case: &[u8]) -> (Vec<usize>, Vec<usize>) {
             5 => 4,
             4 => {
                 input.number(1);
-                input.number(2) as usize
+                input.number(4) as usize
             }
-            7 | 8 => input.number(2) as usize,
+            7 | 8 => input.number(4) as usize,
             9 | 10 => {
                 input.number(1);
-                input.number(2) as usize * 8
+                input.number(4) as usize * 8
             }
-            11 => input.number(2) as usize * 4,
-            12 => input.number(2) as usize * 8,
+            11 => input.number(4) as usize * 4,
+            12 => input.number(4) as usize * 8,
             17 => {
-                lengths.push(input.number(2) as usize);
+                lengths.push(input.number(4) as usize);
                 4
             }
             _ => 0,
@@ -552,7 +557,7 @@ struct Left {
 impl Oracle {
     /// Makes the first `calls` calls, on fresh buffers. The log then holds what the sink got in the last of them.
     fn replay<'a, F: Flush>(&self, mut os: OStream<'a, F>, case: &[u8], calls: usize, mut rest: std::slice::IterMut<'a, Vec<u8>>, log: &RefCell<Vec<u8>>) -> Left {
-        let mut input = Input { case, at: 7 };
+        let mut input = Input { case, at: 9 };
         let mut left = Left { outcome: Outcome::Done, before: os.bytes_used(), position: os.bytes_used(), active: 0 };
         let mut depth = 0;
         let mut changed = 0;
@@ -575,7 +580,7 @@ impl Oracle {
     pub fn writer(&mut self, case: &[u8], out: &mut Vec<u8>) {
         let (lengths, starts) = plan(case);
         let drained = case[0] != 0;
-        let offset = u32::from_le_bytes([case[3], case[4], case[5], case[6]]) as usize;
+        let offset = u32::from_le_bytes([case[5], case[6], case[7], case[8]]) as usize;
         let log = RefCell::new(Vec::new());
         for calls in 0..starts.len() {
             let mut buffers: Vec<Vec<u8>> = lengths.iter().map(|&n| fresh(n)).collect();
@@ -583,7 +588,7 @@ impl Oracle {
             let first = rest.next().expect("the first buffer");
             log.borrow_mut().clear();
             let opened = if drained {
-                OStream::with_flush(first, offset, Sink { log: &log, cut: self.fault.cuts_drains() }).map(|os| self.replay(os, case, calls, rest, &log))
+                OStream::with_flush(first, offset, Sink { log: &log, fault: self.fault }).map(|os| self.replay(os, case, calls, rest, &log))
             } else {
                 OStream::with_offset(first, offset).map(|os| self.replay(os, case, calls, rest, &log))
             };
@@ -609,8 +614,8 @@ impl Oracle {
                     put32(out, n as u32);
                 }
             }
-            put16(out, position);
-            put16(out, buffer.len());
+            put_len(out, position);
+            put_len(out, buffer.len());
             out.extend_from_slice(buffer);
             if matches!(left.outcome, Outcome::Full) {
                 return;

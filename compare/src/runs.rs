@@ -6,27 +6,32 @@ use crate::copier::{self, Act, Copier};
 use crate::fault::{Fault, FAULTS};
 use crate::gen::{self, Random};
 use crate::oracle::{self, Oracle};
-use crate::port;
+use crate::port::{self, Port};
+use crate::states::{self, Seen};
 
 pub struct Runs {
     oracle: Oracle,
+    pub port: Port,
     pub cases: u64,
     pub differences: u64,
     case: Vec<u8>,
     rust: Vec<u8>,
-    port: Vec<u8>,
+    told: Vec<u8>,
     quiet: bool,
 }
 
 /// Differences shown before a run goes on without showing more.
 const SHOWN: u64 = 5;
 
+/// How long a case that differs is made smaller.
+const SHRINKING: std::time::Duration = std::time::Duration::from_secs(20);
+
 /// Bytes behind an output that no copy may touch.
 const GUARD: usize = 16;
 
 impl Runs {
     pub fn new(fault: usize) -> Runs {
-        Runs { oracle: Oracle::new(Fault(fault)), cases: 0, differences: 0, case: Vec::new(), rust: Vec::new(), port: vec![0; 1 << 20], quiet: fault != 0 }
+        Runs { oracle: Oracle::new(Fault(fault)), port: Port::default(), cases: 0, differences: 0, case: Vec::new(), rust: Vec::new(), told: Vec::new(), quiet: fault != 0 }
     }
 
     pub fn rust(&mut self, kind: Kind, case: &[u8]) -> Vec<u8> {
@@ -36,8 +41,9 @@ impl Runs {
     }
 
     pub fn port(&mut self, kind: Kind, case: &[u8]) -> Vec<u8> {
-        let n = port::answer(kind, case, &mut self.port);
-        self.port[..n].to_vec()
+        let mut out = Vec::new();
+        self.port.answer(kind, case, &mut out);
+        out
     }
 
     /// Whether both sides answer the case alike.
@@ -50,8 +56,9 @@ impl Runs {
     fn same_bytes(&mut self, kind: Kind) -> bool {
         self.rust.clear();
         answer(&mut self.oracle, kind, &self.case, &mut self.rust);
-        let n = port::answer(kind, &self.case, &mut self.port);
-        self.rust == self.port[..n]
+        self.told.clear();
+        self.port.answer(kind, &self.case, &mut self.told);
+        self.rust == self.told
     }
 
     pub fn compare<C: Case>(&mut self, case: &C) {
@@ -63,18 +70,43 @@ impl Runs {
         if self.quiet || SHOWN < self.differences {
             return;
         }
-        let mut least = case.clone();
-        while let Some(c) = least.smaller().into_iter().find(|c| !self.same(c)) {
-            least = c;
-        }
+        let least = self.least(case);
         self.same(&least);
-        let n = port::answer(C::KIND, &self.case, &mut self.port);
-        println!("difference, {:?}: {}\n case {}\n rust {}\n port {}", C::KIND, least.show(), hex(&self.case), hex(&self.rust), hex(&self.port[..n]));
+        println!("difference, {:?}: {}\n case {}\n rust {}\n port {}", C::KIND, least.show(), hex(&self.case), hex(&self.rust), hex(&self.told));
+    }
+
+    /// A smaller case that still shows a difference: large parts are left out first, then small ones, for no longer than a time.
+    fn least<C: Case>(&mut self, case: &C) -> C {
+        let start = std::time::Instant::now();
+        let mut least = case.clone();
+        let mut n = least.parts() / 2;
+        while 0 < n {
+            let mut at = 0;
+            while at < least.parts() && start.elapsed() < SHRINKING {
+                let c = least.without(at, n);
+                if self.same(&c) {
+                    at += n;
+                } else {
+                    least = c;
+                }
+            }
+            n /= 2;
+        }
+        let mut more = true;
+        while more && least.parts() < 1000 {
+            let found = least.smaller().into_iter().find(|c| SHRINKING <= start.elapsed() || !self.same(c));
+            more = start.elapsed() < SHRINKING && found.is_some();
+            if let (true, Some(c)) = (more, found) {
+                least = c;
+            }
+        }
+        least
     }
 
     /// The export that gives the verdict on a whole message, on one ticket.
     fn verdict(&mut self, ticket: &[u8]) {
         self.cases += 1;
+        self.port.calls.exports += 1;
         let (rust, port) = (oracle::verdict(ticket), port::verdict(ticket));
         if rust != port {
             self.differences += 1;
@@ -105,6 +137,7 @@ impl Runs {
                 rust[n] ^= 1;
             }
             let answered = port::copy(ticket, &mut port[..room]);
+            self.port.calls.exports += 1;
             if said == answered && rust == port {
                 continue;
             }
@@ -202,6 +235,24 @@ impl Runs {
     }
 }
 
+impl Runs {
+    /// Calls on freely chosen states and from freely chosen places.
+    pub fn states(&mut self, seed: u64, size: u64) {
+        let mut seen = Seen::default();
+        for i in 0..size {
+            self.cases += 1;
+            if let Err(what) = states::turn(&mut case_seed(seed, i, 5), 0, &mut seen) {
+                self.differences += 1;
+                if self.differences <= SHOWN {
+                    println!("difference, {what}");
+                }
+            }
+        }
+        self.port.calls.states += seen.calls;
+        println!("states, seed {seed}: {} calls, of {} all that is due is known; due refusals by number: {:?}", seen.calls, seen.judged, &seen.numbers[1..]);
+    }
+}
+
 /// Every way to cut so many bytes into chunks that aren't empty.
 fn every_cut(len: usize) -> impl Iterator<Item = Vec<usize>> {
     let gaps = len.saturating_sub(1);
@@ -232,6 +283,32 @@ fn case_seed(seed: u64, i: u64, kind: u64) -> Random {
     r
 }
 
+/// Plants one fault, and shows the smallest case that shows it.
+pub fn show(fault: usize, seed: u64, size: u64) -> i32 {
+    let mut runs = Runs::new(fault);
+    runs.quiet = false;
+    let start = std::time::Instant::now();
+    let found = (0..size).any(|i| {
+        runs.turn(seed, i, "rgwc");
+        runs.differences != 0
+    });
+    println!("{}: {} after {} cases and {:.1} s", FAULTS[fault], if found { "found" } else { "not found" }, runs.cases, start.elapsed().as_secs_f64());
+    !found as i32
+}
+
+/// Random cases of all kinds until the first difference; answers 0 if there is one.
+pub fn find(seed: u64, size: u64) -> i32 {
+    let mut runs = Runs::new(0);
+    runs.quiet = true;
+    let mut i = 0;
+    while i < size && runs.differences == 0 {
+        runs.turn(seed, i, "rgwc");
+        i += 1;
+    }
+    println!("{} after {} cases", if runs.differences == 0 { "not found" } else { "found" }, runs.cases);
+    (runs.differences == 0) as i32
+}
+
 /// Plants each fault in turn; answers 0 if every one was found and the run without one finds nothing.
 pub fn faults(seed: u64, size: u64, kinds: &str) -> i32 {
     let mut missed = 0;
@@ -246,16 +323,22 @@ pub fn faults(seed: u64, size: u64, kinds: &str) -> i32 {
         missed += (found != (n != 0)) as i32;
         println!("{name}: {} after {} cases", if found { "found" } else { "not found" }, runs.cases);
     }
-    println!("{} faults, {missed} not as expected", FAULTS.len() - 1);
+    for (n, name) in states::FAULTS.iter().enumerate().filter(|_| kinds.len() == 4) {
+        let found = (0..10 * size).find(|&i| states::turn(&mut case_seed(seed, i, 5), n, &mut Seen::default()).is_err());
+        missed += (found.is_some() != (n != 0)) as i32;
+        println!("states: {name}: {}", found.map_or("not found".to_string(), |i| format!("found after {} calls", i + 1)));
+    }
+    println!("{} faults, {missed} not as expected", FAULTS.len() - 1 + states::FAULTS.len() - 1);
     (missed != 0) as i32
 }
 
-// ---- the list to replay: for each case its kind, two lengths, the case and the Rust's answer
+// ---- the list to replay: the calls of some cases in which the port tells what the Rust does, with what each told
 
-/// Most bytes of a list, and of a case with its answer in it; how often a feature is wanted.
+/// Most bytes of a list, of a case in it and of a call; how often a feature is wanted.
 const LIST: usize = 340_000;
-const LONGEST: usize = 240;
-const WANTED: u32 = 4;
+const LONGEST: usize = 700;
+const LONGEST_CALL: usize = 250;
+const WANTED: u32 = 3;
 
 /// What a case shows, each as a number: a case comes into the list where it shows something that the list hasn't shown often enough.
 fn features(kind: Kind, case: &[u8], answer: &[u8]) -> Vec<u64> {
@@ -270,17 +353,17 @@ fn features(kind: Kind, case: &[u8], answer: &[u8]) -> Vec<u64> {
             while at < answer.len() {
                 let tag = answer[at] as u64;
                 let (detail, len) = match tag {
-                    1 | 2 => (bits(number(at + 7, 8)), 15),
-                    3 => (number(at + 9, 2) / 8, 11),
-                    4 => (number(at + 13, 2) / 8, 15),
-                    5 | 6 => (number(at + 7, 1) * 64 + bits(number(at + 8, 4)), 12),
+                    1 | 2 => (bits(number(at + 9, 8)), 17),
+                    3 => (number(at + 11, 2) / 8, 13),
+                    4 => (number(at + 15, 2) / 8, 17),
+                    5 | 6 => (number(at + 9, 1) * 64 + bits(number(at + 10, 4)), 14),
                     7 => {
-                        let (total, offset, n) = (number(at + 8, 4), number(at + 12, 4), number(at + 16, 2));
-                        (number(at + 7, 1) * 16 + (n == 0) as u64 * 4 + (offset == 0) as u64 * 2 + (offset + n == total) as u64, 18 + n as usize)
+                        let (total, offset, n) = (number(at + 10, 4), number(at + 14, 4), number(at + 18, 4));
+                        (number(at + 9, 1) * 16 + (n == 0) as u64 * 4 + (offset == 0) as u64 * 2 + (offset + n == total) as u64, 22 + n as usize)
                     }
-                    8 => (bits(number(at + 3, 4)), 7),
-                    0x12 => (0, 4),
-                    _ => (0, 3),
+                    8 => (bits(number(at + 5, 4)), 9),
+                    0x12 => (0, 6),
+                    _ => (0, 5),
                 };
                 add(&[tag, detail, last[1]]);
                 add(&[tag, last[0], last[1], 1]);
@@ -290,7 +373,7 @@ fn features(kind: Kind, case: &[u8], answer: &[u8]) -> Vec<u64> {
         }
         Kind::Gatherer => {
             let capacity = case[0] as u64 + case[1] as u64 * 256;
-            let (mut from, mut held) = (2, 0);
+            let (mut from, mut held) = (4, 0);
             while at < answer.len() {
                 let tag = answer[at] as u64;
                 let small = |at: usize, n: usize| case[at..at + n].iter().rev().fold(0u64, |s, &b| s << 8 | b as u64);
@@ -298,21 +381,21 @@ fn features(kind: Kind, case: &[u8], answer: &[u8]) -> Vec<u64> {
                     from += 1;
                     [9, 9, 9]
                 } else {
-                    let (total, offset, n) = (small(from + 1, 8), small(from + 9, 8), small(from + 17, 2));
-                    from += 19 + n as usize;
+                    let (total, offset, n) = (small(from + 1, 8), small(from + 9, 8), small(from + 17, 4));
+                    from += 21 + n as usize;
                     let order = |a: u64, b: u64| 1 + (a > b) as u64 - (a < b) as u64;
                     [order(total, capacity) * 3 + order(total, held), (offset == 0) as u64 * 3 + order(offset, held), order(n + held, total)]
                 };
                 at += match tag {
-                    1 | 2 => 3 + number(at + 1, 2) as usize,
+                    1 | 2 => 5 + number(at + 1, 4) as usize,
                     3 => 2,
                     _ => 1,
                 };
-                held = number(at, 2);
+                held = number(at, 4);
                 add(&[tag, call[0], call[1], call[2]]);
-                add(&[tag, last[0], last[1], answer[at + 2] as u64, 1]);
+                add(&[tag, last[0], last[1], answer[at + 4] as u64, 1]);
                 last = [last[1], tag];
-                at += 3 + capacity as usize;
+                at += 5 + capacity as usize;
             }
         }
         Kind::Writer => {
@@ -323,7 +406,7 @@ fn features(kind: Kind, case: &[u8], answer: &[u8]) -> Vec<u64> {
                 let tag = answer[at] as u64;
                 if tag == 0x20 {
                     drains += 1;
-                    at += 3 + number(at + 1, 2) as usize;
+                    at += 5 + number(at + 1, 4) as usize;
                     continue;
                 }
                 let detail = if tag == 3 { number(at + 1, 1) } else { 0 };
@@ -339,7 +422,7 @@ fn features(kind: Kind, case: &[u8], answer: &[u8]) -> Vec<u64> {
                 call += 1;
                 drains = 0;
                 if at < answer.len() {
-                    at += 4 + number(at + 2, 2) as usize;
+                    at += 8 + number(at + 4, 4) as usize;
                 }
             }
         }
@@ -350,9 +433,9 @@ fn features(kind: Kind, case: &[u8], answer: &[u8]) -> Vec<u64> {
                 let (detail, len) = match tag {
                     0 => (0, 1),
                     3 => (number(at + 1, 1), 2),
-                    4 => (bits(number(at + 1, 2)), 3 + number(at + 1, 2) as usize),
-                    0x12 => (bits(number(at + 2, 2)), 6 + size as usize),
-                    _ => (bits(number(at + 1, 2)), 5 + size as usize),
+                    4 => (bits(number(at + 1, 4)), 5 + number(at + 1, 4) as usize),
+                    0x12 => (bits(number(at + 2, 4)), 10 + size as usize),
+                    _ => (bits(number(at + 1, 4)), 9 + size as usize),
                 };
                 add(&[tag, detail, last[1], bits(size)]);
                 add(&[tag, last[0], last[1], 1]);
@@ -364,73 +447,75 @@ fn features(kind: Kind, case: &[u8], answer: &[u8]) -> Vec<u64> {
     found
 }
 
-pub fn sample(seed: u64, file: &str) -> i32 {
-    let mut oracle = Oracle::new(Fault(0));
-    let mut list = Vec::new();
-    let mut shown: std::collections::HashMap<u64, u32> = std::collections::HashMap::new();
-    let mut count = 0;
-    let mut add = |kind: Kind, case: Vec<u8>, list: &mut Vec<u8>, any: bool, share: usize| {
-        let mut out = Vec::new();
-        answer(&mut oracle, kind, &case, &mut out);
-        if LONGEST < case.len() + out.len() || share < list.len() + case.len() + out.len() + 5 {
+/// The codes of a list's records, and their lengths.
+fn records(list: &[u8]) -> Vec<(u8, usize)> {
+    let mut found = Vec::new();
+    let mut at = 0;
+    while at < list.len() {
+        let n = 3 + u16::from_le_bytes([list[at + 1], list[at + 2]]) as usize;
+        found.push((list[at], n));
+        at += n;
+    }
+    found
+}
+
+/// Whether `replay` can make the call: it has no arrays of floats by value, and short ones of all others.
+fn replayed((code, n): (u8, usize)) -> bool {
+    n < LONGEST_CALL && !matches!(code, port::FP32S | port::FP64S)
+}
+
+struct Sample {
+    runs: Runs,
+    list: Vec<u8>,
+    shown: std::collections::HashMap<u64, u32>,
+    cases: [u64; 4],
+    calls: usize,
+}
+
+impl Sample {
+    /// Takes a case, where its calls are short enough, both sides answer it alike, and it shows something new or `any` will do.
+    fn add<C: Case>(&mut self, case: &C, any: bool, share: usize) {
+        self.runs.port.list = Some(Vec::new());
+        let same = self.runs.same(case);
+        let list = self.runs.port.list.take().unwrap_or_default();
+        if !same || LONGEST < list.len() {
             return;
         }
-        let features = features(kind, &case, &out);
-        if any || features.iter().any(|f| shown.get(f).copied().unwrap_or(0) < WANTED) {
-            features.into_iter().for_each(|f| *shown.entry(f).or_default() += 1);
-            list.push(kind as u8);
-            crate::bytes::put16(list, case.len());
-            crate::bytes::put16(list, out.len());
-            list.extend_from_slice(&case);
-            list.extend_from_slice(&out);
-            count += 1;
+        let records = records(&list);
+        if share < self.list.len() + list.len() || !records.iter().all(|&r| replayed(r)) {
+            return;
         }
-    };
-    let encode = |c: &dyn Fn(&mut Vec<u8>)| {
-        let mut v = Vec::new();
-        c(&mut v);
-        v
-    };
+        let features = features(C::KIND, &self.runs.case, &self.runs.rust);
+        if any || features.iter().any(|f| self.shown.get(f).copied().unwrap_or(0) < WANTED) {
+            features.into_iter().for_each(|f| *self.shown.entry(f).or_default() += 1);
+            self.list.extend_from_slice(&list);
+            self.cases[C::KIND as usize - 1] += 1;
+            self.calls += records.iter().filter(|r| !matches!(r.0, port::BUFFER | port::FRESH)).count();
+        }
+    }
+}
+
+pub fn sample(seed: u64, file: &str) -> i32 {
+    let mut s = Sample { runs: Runs::new(0), list: Vec::new(), shown: Default::default(), cases: [0; 4], calls: 0 };
     for ticket in gen::corpus() {
         let n = ticket.len();
         for chunks in [vec![n], vec![1; n], vec![n / 2, 0, n - n / 2]] {
-            let case = Reader { chunks, ticket: ticket.clone() };
-            add(Kind::Reader, encode(&|v| case.encode(v)), &mut list, n < 8, LIST * 3 / 10);
+            s.add(&Reader { chunks, ticket: ticket.clone() }, n < 6, LIST * 3 / 10);
         }
     }
     for i in 0..40_000 {
-        let c = gen::reader(&mut case_seed(seed, i, 1));
-        add(Kind::Reader, encode(&|v| c.encode(v)), &mut list, false, LIST * 7 / 20);
-        let c = gen::gatherer(&mut case_seed(seed, i, 2));
-        add(Kind::Gatherer, encode(&|v| c.encode(v)), &mut list, false, LIST * 11 / 20);
-        let c = gen::writer(&mut case_seed(seed, i, 3));
-        add(Kind::Writer, encode(&|v| c.encode(v)), &mut list, false, LIST * 9 / 10);
-        let c = copier::case(&mut case_seed(seed, i, 4));
-        add(Kind::Copier, encode(&|v| c.encode(v)), &mut list, false, LIST);
+        s.add(&gen::reader(&mut case_seed(seed, i, 1)), false, LIST * 7 / 20);
+        s.add(&gen::gatherer(&mut case_seed(seed, i, 2)), false, LIST * 11 / 20);
+        s.add(&gen::writer(&mut case_seed(seed, i, 3)), false, LIST * 16 / 20);
+        s.add(&copier::case(&mut case_seed(seed, i, 4)), false, LIST);
     }
-    println!("{count} cases, {} bytes", list.len());
-    match std::fs::write(file, list) {
+    let [r, g, w, c] = s.cases;
+    println!("{} cases ({r} of the reader, {g} of the gatherer, {w} of the writer, {c} of the copier), {} calls, {} bytes", r + g + w + c, s.calls, s.list.len());
+    match std::fs::write(file, s.list) {
         Ok(()) => 0,
         Err(e) => {
             println!("{file}: {e}");
             1
         }
     }
-}
-
-pub fn replay(file: &str) -> i32 {
-    let list = std::fs::read(file).expect("a list");
-    let mut runs = Runs::new(0);
-    let (mut at, mut cases, mut differences) = (0, 0, 0);
-    while at < list.len() {
-        let kind = [Kind::Reader, Kind::Gatherer, Kind::Writer, Kind::Copier][list[at] as usize - 1];
-        let c = u16::from_le_bytes([list[at + 1], list[at + 2]]) as usize;
-        let a = u16::from_le_bytes([list[at + 3], list[at + 4]]) as usize;
-        let case = &list[at + 5..at + 5 + c];
-        differences += (runs.port(kind, case) != list[at + 5 + c..at + 5 + c + a]) as u64;
-        cases += 1;
-        at += 5 + c + a;
-    }
-    println!("{cases} cases, {differences} differences");
-    (differences != 0) as i32
 }

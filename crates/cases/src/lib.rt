@@ -1,4 +1,43 @@
-// Numbers in cases and answers: little-endian. Reading beyond the end gives zeros, and writing beyond it writes nothing.
+// What the comparison's crates share: the words of a desk, on which a call finds its state and numbers and leaves its answer
+// (compare/PROTOCOL.md), and numbers in lists of bytes. Reading beyond the end gives zeros, and writing beyond it writes nothing.
+
+pub fn word(desk: &[u64], i: usize) -> u64 {
+    if i < desk.len() { desk[i] } else { 0 }
+}
+
+fn put_word(desk: &mut [u64], at: usize, n: u64) -> usize {
+    if at < desk.len() {
+        desk[at] = n;
+        return at + 1;
+    }
+    at
+}
+
+// Words from a place on.
+pub fn lay(desk: &mut [u64], at: usize, words: &[u64]) {
+    let mut next = at;
+    let mut i: usize = 0;
+    while i < words.len() {
+        next = put_word(desk, next, words[i]);
+        i += 1;
+    }
+}
+
+pub fn narrow(n: u64) -> u32 {
+    (n % 4294967296) as u32
+}
+
+pub fn byte(n: u64) -> u8 {
+    (n % 256) as u8
+}
+
+pub fn signed(n: u64) -> i64 {
+    if n < 9223372036854775808 {
+        n as i64
+    } else {
+        !((!n) as i64)
+    }
+}
 
 fn wide(b: u8) -> u64 {
     b as u64
@@ -48,28 +87,13 @@ pub fn between<'a>(s: &'a [u8], from: usize, to: usize) -> &'a [u8] {
     &s[..0]
 }
 
-// Each of these answers where the next byte goes.
-pub fn put8(out: &mut [u8], at: usize, b: u8) -> usize {
+// Answers where the next byte goes, as the next does.
+fn put8(out: &mut [u8], at: usize, b: u8) -> usize {
     if at < out.len() {
         out[at] = b;
         return at + 1;
     }
     at
-}
-
-pub fn put16(out: &mut [u8], at: usize, n: u64) -> usize {
-    let next = put8(out, at, (n % 256) as u8);
-    put8(out, next, (n / 256 % 256) as u8)
-}
-
-pub fn put32(out: &mut [u8], at: usize, n: u64) -> usize {
-    let next = put16(out, at, n % 65536);
-    put16(out, next, n / 65536 % 65536)
-}
-
-pub fn put64(out: &mut [u8], at: usize, n: u64) -> usize {
-    let next = put32(out, at, n % 4294967296);
-    put32(out, next, n / 4294967296)
 }
 
 pub fn put_bytes(out: &mut [u8], at: usize, s: &[u8]) -> usize {
@@ -88,14 +112,5 @@ pub fn count(n: usize) -> i64 {
         n as i64
     } else {
         -1
-    }
-}
-
-// What a fresh buffer holds: bytes that tell places apart.
-pub fn fresh(buf: &mut [u8]) {
-    let mut i: usize = 0;
-    while i < buf.len() {
-        buf[i] = 160 ^ ((i % 251) as u8);
-        i += 1;
     }
 }

@@ -1,119 +1,66 @@
-// Cases of the gatherer: a capacity, then pieces and resets. After each call: its answer, the state and the whole buffer.
-use cases::ahead;
-use cases::get8;
-use cases::get16;
-use cases::get64;
-use cases::part;
+// The gatherer's two calls. Its state are the desk's words 0 and 1: the length held, and whether the payload is whole.
+use cases::lay;
 use cases::put_bytes;
-use cases::put8;
-use cases::put16;
+use cases::word;
 use payload::Answer;
-use payload::Fed;
 use payload::PayloadAcc;
+use types::Error;
 
-// Where the case and the answer stand, and the gatherer's state.
-struct Turn {
-    at: usize,
-    next: usize,
-    acc: PayloadAcc,
-}
-
-fn answer(w: Answer, whole: &[u8], out: &mut [u8], at: usize) -> usize {
-    match w {
-        Answer::Nothing => put8(out, at, 0),
-        Answer::InChunk(n) => {
-            let tag = put8(out, at, 1);
-            let len = put16(out, tag, whole.len() as u64);
-            put_bytes(out, len, whole)
-        }
-        Answer::InBuffer(n) => {
-            let tag = put8(out, at, 2);
-            let len = put16(out, tag, whole.len() as u64);
-            put_bytes(out, len, whole)
-        }
-        Answer::Refused(e) => {
-            let tag = put8(out, at, 3);
-            put8(out, tag, e.number())
-        }
+fn acc(desk: &[u64]) -> PayloadAcc {
+    PayloadAcc {
+        len: word(desk, 0) as usize,
+        complete: word(desk, 1) != 0,
     }
 }
 
-fn state(acc: PayloadAcc, buf: &[u8], out: &mut [u8], at: usize) -> usize {
-    let held = put16(out, at, acc.buffered() as u64);
-    let complete = put8(out, held, if acc.complete { 1 } else { 0 });
-    put_bytes(out, complete, buf)
+// What a call tells, the desk's words 23 and 24.
+struct Tale {
+    tag: u64,
+    n: usize,
 }
 
-// One piece, whose numbers stand at a place in the case.
-fn piece(case: &[u8], t: Turn, buf: &mut [u8], out: &mut [u8]) -> Turn {
-    let at = t.at;
-    let total = get64(case, at) as usize;
-    let offset = get64(case, ahead(case, at, 8)) as usize;
-    let len = get16(case, ahead(case, at, 16)) as usize;
-    let from = ahead(case, at, 18);
-    let chunk = part(case, from, len);
-    let acc = t.acc;
-    let f = acc.feed(buf, total, offset, chunk);
-    let w = f.answer;
-    let left = f.acc;
-    let told = answer(w, payload::payload(w, left, buf, chunk), out, t.next);
-    Turn {
-        at: ahead(case, from, len),
-        next: state(left, buf, out, told),
-        acc: left,
-    }
-}
-
-fn step(case: &[u8], t: Turn, buf: &mut [u8], out: &mut [u8]) -> Turn {
-    let at = t.at;
-    let acc = t.acc;
-    let code = get8(case, at);
-    let after = ahead(case, at, 1);
-    if code == 1 {
-        let left = acc.reset();
-        let told = put8(out, t.next, 4);
-        return Turn {
-            at: after,
-            next: state(left, buf, out, told),
-            acc: left,
-        };
-    }
-    piece(
-        case,
-        Turn {
-            at: after,
-            next: t.next,
-            acc,
+fn told(a: Answer) -> Tale {
+    match a {
+        Answer::Nothing => Tale { tag: 0, n: 0 },
+        Answer::InChunk(n) => Tale { tag: 1, n },
+        Answer::InBuffer(n) => Tale { tag: 2, n },
+        Answer::Refused(e) => Tale {
+            tag: 3,
+            n: e.number() as usize,
         },
-        buf,
-        out,
-    )
-}
-
-fn calls(case: &[u8], buf: &mut [u8], out: &mut [u8]) -> usize {
-    let mut t = Turn {
-        at: ahead(case, 0, 2),
-        next: 0,
-        acc: PayloadAcc::new(),
-    };
-    let mut turns = case.len();
-    while turns > 0 && t.at < case.len() {
-        t = step(case, t, buf, out);
-        turns -= 1;
     }
-    t.next
 }
 
-fn on(case: &[u8], room: &mut [u8], out: &mut [u8]) -> usize {
-    let capacity = get16(case, 0) as usize;
-    if capacity <= room.len() {
-        return calls(case, &mut room[..capacity], out);
+fn store(left: PayloadAcc, t: Tale, desk: &mut [u64]) {
+    let complete: u64 = if left.complete { 1 } else { 0 };
+    lay(desk, 0, &[left.buffered() as u64, complete]);
+    lay(desk, 23, &[t.tag, t.n as u64]);
+}
+
+// A piece: word 27 is its total, word 28 its offset. Where word 31 isn't 0, a reset.
+pub fn gather(desk: &mut [u64], buf: &mut [u8], chunk: &[u8]) {
+    let held = acc(desk);
+    if word(desk, 31) != 0 {
+        store(held.reset(), Tale { tag: 4, n: 0 }, desk);
+        return;
     }
-    0
+    let f = held.feed(buf, word(desk, 27) as usize, word(desk, 28) as usize, chunk);
+    let a = f.answer;
+    let left = f.acc;
+    store(left, told(a), desk);
 }
 
-// A capacity beyond 512 bytes has no answer.
-pub fn trace(case: &[u8], out: &mut [u8]) -> usize {
-    let mut room = [0u8; 512];
-    on(case, &mut room, out)
+fn said(desk: &[u64]) -> Answer {
+    let n = word(desk, 24) as usize;
+    match word(desk, 23) {
+        1 => Answer::InChunk(n),
+        2 => Answer::InBuffer(n),
+        3 => Answer::Refused(Error::PayloadTooLong),
+        _ => Answer::Nothing,
+    }
+}
+
+// The second call, on the answer that words 23 and 24 tell.
+pub fn part<'a>(desk: &[u64], buf: &'a [u8], chunk: &'a [u8], out: &mut [u8]) -> usize {
+    put_bytes(out, 0, payload::payload(said(desk), acc(desk), buf, chunk))
 }

@@ -1,14 +1,9 @@
-// Cases of the reader: chunk lengths, then the bytes that the chunks join to. For each event, its values and how many bytes were read so
-// far; after each chunk, the verdict.
-use cases::ahead;
-use cases::between;
-use cases::get16;
-use cases::part;
-use cases::put_bytes;
-use cases::put8;
-use cases::put16;
-use cases::put32;
-use cases::put64;
+// One call of the reader. Its state are the desk's words 0 to 6: the phase's number, the depth, a kind, the id, a count, the bytes taken
+// of what is under way, and its value.
+use cases::byte;
+use cases::lay;
+use cases::narrow;
+use cases::word;
 use event::Bounds;
 use event::Event;
 use event::fp32_bits;
@@ -17,99 +12,192 @@ use istream::Answer;
 use istream::Fed;
 use istream::IStream;
 use istream::Status;
+use phase::Phase;
+use types::FloatType;
+use types::RawType;
+use varint::Acc;
 
 // The 64 bits of a signed number.
-fn bits(v: i64) -> u64 {
+pub fn bits(v: i64) -> u64 {
     if v < 0 { !((!v) as u64) } else { v as u64 }
 }
 
-// Where an answer goes: the place in `out`, and the bytes read so far.
-struct Place {
-    at: usize,
-    read: usize,
-}
-
-fn head(p: Place, tag: u8, id: u32, out: &mut [u8]) -> usize {
-    let told = put8(out, p.at, tag);
-    let read = put16(out, told, p.read as u64);
-    put32(out, read, id as u64)
-}
-
-fn number(p: Place, tag: u8, id: u32, value: u64, out: &mut [u8]) -> usize {
-    let body = head(p, tag, id, out);
-    put64(out, body, value)
-}
-
-fn short(p: Place, tag: u8, id: u32, value: u32, out: &mut [u8]) -> usize {
-    let body = head(p, tag, id, out);
-    put32(out, body, value as u64)
-}
-
-// An announcement: a kind or subtype, and a count or length.
-fn announced(p: Place, tag: u8, id: u32, kind: u8, count: u32, out: &mut [u8]) -> usize {
-    let body = head(p, tag, id, out);
-    let named = put8(out, body, kind);
-    put32(out, named, count as u64)
-}
-
-fn piece(p: Place, id: u32, subtype: u8, b: Bounds, chunk: &[u8], out: &mut [u8]) -> usize {
-    let bytes = between(chunk, b.from, b.to);
-    let named = announced(p, 7, id, subtype, b.total, out);
-    let offset = put32(out, named, b.offset as u64);
-    let len = put16(out, offset, bytes.len() as u64);
-    put_bytes(out, len, bytes)
-}
-
-fn ended(p: Place, out: &mut [u8]) -> usize {
-    let told = put8(out, p.at, 9);
-    put16(out, told, p.read as u64)
-}
-
-fn event(p: Place, e: Event, chunk: &[u8], out: &mut [u8]) -> usize {
-    match e {
-        Event::Unsigned(id, v) => number(p, 1, id, v, out),
-        Event::Signed(id, v) => number(p, 2, id, bits(v), out),
-        Event::Fp32(id, x) => short(p, 3, id, fp32_bits(x), out),
-        Event::Fp32Nan(id, n) => short(p, 3, id, n, out),
-        Event::Fp64(id, x) => number(p, 4, id, fp64_bits(x), out),
-        Event::Fp64Nan(id, n) => number(p, 4, id, n, out),
-        Event::Array(id, k, n) => announced(p, 5, id, k.raw(), n, out),
-        Event::Fixlen(id, t, n) => announced(p, 6, id, t.raw(), n, out),
-        Event::Str(id, b) => piece(p, id, 2, b, chunk, out),
-        Event::Blob(id, b) => piece(p, id, 3, b, chunk, out),
-        Event::Begin(id) => head(p, 8, id, out),
-        Event::End => ended(p, out),
+pub fn float_type(n: u64) -> FloatType {
+    if n == 0 {
+        FloatType::Fp32
+    } else {
+        FloatType::Fp64
     }
 }
 
-fn verdict(p: Place, s: Status, out: &mut [u8]) -> usize {
-    let tag: u8 = match s {
+pub fn raw_type(n: u64) -> RawType {
+    if n == 2 { RawType::Str } else { RawType::Blob }
+}
+
+fn phase(desk: &[u64]) -> Phase {
+    let kind = word(desk, 2);
+    let id = narrow(word(desk, 3));
+    let count = narrow(word(desk, 4));
+    let taken = byte(word(desk, 5));
+    let value = word(desk, 6);
+    let acc = Acc { value, taken };
+    match word(desk, 0) {
+        0 => Phase::Header(acc),
+        1 => Phase::Unsigned(id, count, acc),
+        2 => Phase::Signed(id, count, acc),
+        3 => Phase::Word(id, acc),
+        4 => Phase::UnsignedCount(id, acc),
+        5 => Phase::SignedCount(id, acc),
+        6 => Phase::FloatCount(id, acc),
+        7 => Phase::ArrayWord(id, count, acc),
+        8 => Phase::Float(id, float_type(kind), count, taken, value),
+        9 => Phase::Payload(id, raw_type(kind), count, narrow(value)),
+        10 => Phase::Empty(id, raw_type(kind)),
+        _ => Phase::Broken,
+    }
+}
+
+pub fn reader(desk: &[u64]) -> IStream {
+    IStream {
+        phase: phase(desk),
+        depth: byte(word(desk, 1)),
+    }
+}
+
+// A phase as words, the depth left out.
+fn within(phase: u64, id: u32, count: u32, a: Acc) -> [u64; 6] {
+    [phase, 0, id as u64, count as u64, a.taken as u64, a.value]
+}
+
+fn other(phase: u64, kind: u8, id: u32, count: u32, taken: u8, value: u64) -> [u64; 6] {
+    [
+        phase,
+        kind as u64,
+        id as u64,
+        count as u64,
+        taken as u64,
+        value,
+    ]
+}
+
+fn numbers(p: Phase) -> [u64; 6] {
+    match p {
+        Phase::Header(a) => within(0, 0, 0, a),
+        Phase::Unsigned(id, left, a) => within(1, id, left, a),
+        Phase::Signed(id, left, a) => within(2, id, left, a),
+        Phase::Word(id, a) => within(3, id, 0, a),
+        Phase::UnsignedCount(id, a) => within(4, id, 0, a),
+        Phase::SignedCount(id, a) => within(5, id, 0, a),
+        Phase::FloatCount(id, a) => within(6, id, 0, a),
+        Phase::ArrayWord(id, n, a) => within(7, id, n, a),
+        Phase::Float(id, t, left, k, v) => other(8, t.fixlen().raw(), id, left, k, v),
+        Phase::Payload(id, r, n, o) => other(9, r.fixlen().raw(), id, n, 0, o as u64),
+        Phase::Empty(id, r) => other(10, r.fixlen().raw(), id, 0, 0, 0),
+        Phase::Broken => other(11, 0, 0, 0, 0, 0),
+    }
+}
+
+pub fn store(stream: IStream, desk: &mut [u64]) {
+    let p = stream.phase;
+    let w = numbers(p);
+    lay(
+        desk,
+        0,
+        &[w[0], stream.depth as u64, w[1], w[2], w[3], w[4], w[5]],
+    );
+}
+
+// What a call tells, the desk's words 23 to 30 with the bytes read at 24.
+struct Tale {
+    tag: u64,
+    id: u32,
+    kind: u8,
+    value: u64,
+    piece: Bounds,
+}
+
+fn no_piece() -> Bounds {
+    Bounds {
+        total: 0,
+        offset: 0,
+        from: 0,
+        to: 0,
+    }
+}
+
+fn told(tag: u64, id: u32, kind: u8, value: u64) -> Tale {
+    Tale {
+        tag,
+        id,
+        kind,
+        value,
+        piece: no_piece(),
+    }
+}
+
+fn piece(id: u32, kind: u8, b: Bounds) -> Tale {
+    Tale {
+        tag: 7,
+        id,
+        kind,
+        value: b.total as u64,
+        piece: b,
+    }
+}
+
+fn event(e: Event) -> Tale {
+    match e {
+        Event::Unsigned(id, v) => told(1, id, 0, v),
+        Event::Signed(id, v) => told(2, id, 0, bits(v)),
+        Event::Fp32(id, x) => told(3, id, 0, fp32_bits(x) as u64),
+        Event::Fp32Nan(id, n) => told(3, id, 0, n as u64),
+        Event::Fp64(id, x) => told(4, id, 0, fp64_bits(x)),
+        Event::Fp64Nan(id, n) => told(4, id, 0, n),
+        Event::Array(id, k, n) => told(5, id, k.raw(), n as u64),
+        Event::Fixlen(id, t, n) => told(6, id, t.raw(), n as u64),
+        Event::Str(id, b) => piece(id, 2, b),
+        Event::Blob(id, b) => piece(id, 3, b),
+        Event::Begin(id) => told(8, id, 0, 0),
+        Event::End => told(9, 0, 0, 0),
+    }
+}
+
+pub fn verdict(s: Status) -> u64 {
+    match s {
         Status::Complete => 16,
         Status::Incomplete => 17,
-    };
-    let told = put8(out, p.at, tag);
-    put16(out, told, p.read as u64)
+    }
 }
 
-fn refusal(p: Place, number: u8, out: &mut [u8]) -> usize {
-    let told = put8(out, p.at, 18);
-    let read = put16(out, told, p.read as u64);
-    put8(out, read, number)
+fn answer(a: Answer) -> Tale {
+    match a {
+        Answer::Event(e) => event(e),
+        Answer::Status(s) => told(verdict(s), 0, 0, 0),
+        Answer::Refused(e) => told(18, 0, 0, e.number() as u64),
+    }
 }
 
-// Where the next chunk byte stands, how many bytes were read, where the answer goes on, the reader, and whether the chunk is still to be
-// called on.
-struct Turn {
-    at: usize,
-    read: usize,
-    next: usize,
-    stream: IStream,
-    open: bool,
+fn tell(t: Tale, read: usize, desk: &mut [u64]) {
+    let b = t.piece;
+    lay(
+        desk,
+        23,
+        &[
+            t.tag,
+            read as u64,
+            t.id as u64,
+            t.kind as u64,
+            t.value,
+            b.offset as u64,
+            b.from as u64,
+            b.to as u64,
+        ],
+    );
 }
 
-// The same call by value and by the thin feed, in turns: at odd counts of bytes read the reader is lent by reference.
-fn fed(stream: IStream, chunk: &[u8], read: usize) -> Fed {
-    if read % 2 == 0 {
+// By value or, where word 31 isn't 0, by the thin feed.
+fn fed(stream: IStream, how: u64, chunk: &[u8]) -> Fed {
+    if how == 0 {
         return stream.feed(chunk);
     }
     let k = istream::lent(stream, chunk);
@@ -123,78 +211,10 @@ fn fed(stream: IStream, chunk: &[u8], read: usize) -> Fed {
     }
 }
 
-fn call(bytes: &[u8], end: usize, t: Turn, out: &mut [u8]) -> Turn {
-    let at = t.at;
-    let stream = t.stream;
-    let rest = between(bytes, at, end);
-    let f = fed(stream, rest, t.read);
-    let w = f.answer;
+pub fn read(desk: &mut [u64], chunk: &[u8]) {
+    let f = fed(reader(desk), word(desk, 31), chunk);
+    let a = f.answer;
     let left = f.stream;
-    let read = ahead(bytes, t.read, f.read);
-    let p = Place { at: t.next, read };
-    match w {
-        Answer::Event(e) => Turn {
-            at: ahead(bytes, at, f.read),
-            read,
-            next: event(p, e, rest, out),
-            stream: left,
-            open: true,
-        },
-        Answer::Status(s) => Turn {
-            at: end,
-            read,
-            next: verdict(p, s, out),
-            stream: left,
-            open: false,
-        },
-        Answer::Refused(e) => Turn {
-            at: end,
-            read,
-            next: refusal(p, e.number(), out),
-            stream: left,
-            open: false,
-        },
-    }
-}
-
-// One chunk, to its verdict. Nothing here says that a chunk's calls end, so the turns are counted down from a number that no run uses up.
-fn chunk(bytes: &[u8], end: usize, from: Turn, out: &mut [u8]) -> Turn {
-    let mut t = from;
-    let mut turns = u64::MAX;
-    while turns > 0 && t.open {
-        t = call(bytes, end, t, out);
-        turns -= 1;
-    }
-    t
-}
-
-fn opened(mut t: Turn) -> Turn {
-    t.open = true;
-    t
-}
-
-fn chunks(case: &[u8], count: usize, bytes: &[u8], out: &mut [u8]) -> usize {
-    let mut t = Turn {
-        at: 0,
-        read: 0,
-        next: 0,
-        stream: IStream::new(),
-        open: true,
-    };
-    let mut word = ahead(case, 0, 2);
-    let mut left = count;
-    while left > 0 {
-        let end = ahead(bytes, t.at, get16(case, word) as usize);
-        t = chunk(bytes, end, opened(t), out);
-        word = ahead(case, word, 2);
-        left -= 1;
-    }
-    t.next
-}
-
-pub fn trace(case: &[u8], out: &mut [u8]) -> usize {
-    let count = get16(case, 0) as usize;
-    let half = ahead(case, ahead(case, 0, 2), count);
-    let from = ahead(case, half, count);
-    chunks(case, count, part(case, from, case.len()), out)
+    store(left, desk);
+    tell(answer(a), f.read, desk);
 }

@@ -1,289 +1,144 @@
-// Cases of the copier: a buffer's length, the caller's acts, and the ticket. For each feed its answer, the bytes used, the position and
-// the whole buffer; for each drain the bytes sent; for each call over another buffer its refusal.
-use cases::ahead;
-use cases::between;
-use cases::fresh;
-use cases::get8;
-use cases::get16;
-use cases::part;
-use cases::put_bytes;
-use cases::put8;
-use cases::put16;
+// One call of the copier. Its state are the reader's words and the writer's, then at 18 to 22 what is owed: its number, an id, a kind, a
+// value, and the place reached in it. A call tells its answer at 23, the bytes used or to be sent at 24, and a refusal's number at 27 (of drain and change at 24).
+use cases::byte;
+use cases::lay;
+use cases::narrow;
+use cases::signed;
+use cases::word;
 use copier::Answer;
-use copier::Copied;
 use copier::Copier;
 use copier::Drained;
 use copier::Opening;
-use istream::Status;
-use ostream::Count;
+use owed::Owed;
+use trace::reader::bits;
+use trace::reader::float_type;
+use trace::reader::raw_type;
+use trace::reader::reader;
+use trace::reader::verdict;
+use trace_writer::writer::writer;
+use types::ArrayKind;
 
-// Where the ticket's next byte stands, where the chunk under way ends, where the answer goes on, the copier, and whether it last said
-// "full".
-struct Desk {
-    at: usize,
-    end: usize,
-    next: usize,
-    copier: Copier,
-    full: bool,
-}
-
-fn verdict(s: Status) -> u8 {
-    match s {
-        Status::Complete => 16,
-        Status::Incomplete => 17,
+fn array_kind(n: u64) -> ArrayKind {
+    match n {
+        0 => ArrayKind::Unsigned,
+        1 => ArrayKind::Signed,
+        2 => ArrayKind::Fp32,
+        _ => ArrayKind::Fp64,
     }
 }
 
-fn tag(a: Answer) -> u8 {
-    match a {
-        Answer::Full => 1,
-        Answer::Status(s) => verdict(s),
-        Answer::Refused(_) => 18,
+fn owed(desk: &[u64]) -> Owed {
+    let id = narrow(word(desk, 19));
+    let kind = word(desk, 20);
+    let value = word(desk, 21);
+    match word(desk, 18) {
+        0 => Owed::Nothing,
+        1 => Owed::Unsigned(id, value),
+        2 => Owed::Signed(id, signed(value)),
+        3 => Owed::Element(value),
+        4 => Owed::SignedElement(signed(value)),
+        5 => Owed::Fp32(narrow(value)),
+        6 => Owed::Fp64(value),
+        7 => Owed::Float(id, float_type(kind)),
+        8 => Owed::Payload(id, raw_type(kind), narrow(value)),
+        9 => Owed::Array(id, array_kind(kind), narrow(value)),
+        10 => Owed::Begin(id),
+        _ => Owed::End,
     }
 }
 
-fn number(a: Answer) -> u8 {
-    match a {
-        Answer::Full => 0,
-        Answer::Status(_) => 0,
-        Answer::Refused(e) => e.number(),
+fn copier(desk: &[u64]) -> Copier {
+    Copier {
+        reader: reader(desk),
+        writer: writer(desk),
+        owed: owed(desk),
+        place: byte(word(desk, 22)),
     }
 }
 
-fn told(tag: u8, number: u8, out: &mut [u8], at: usize) -> usize {
-    let next = put8(out, at, tag);
-    if tag == 18 || tag == 3 {
-        put8(out, next, number)
-    } else {
-        next
+fn of(owed: u64, id: u32, kind: u8, value: u64) -> [u64; 4] {
+    [owed, id as u64, kind as u64, value]
+}
+
+fn numbers(o: Owed) -> [u64; 4] {
+    match o {
+        Owed::Nothing => of(0, 0, 0, 0),
+        Owed::Unsigned(id, v) => of(1, id, 0, v),
+        Owed::Signed(id, v) => of(2, id, 0, bits(v)),
+        Owed::Element(v) => of(3, 0, 0, v),
+        Owed::SignedElement(v) => of(4, 0, 0, bits(v)),
+        Owed::Fp32(n) => of(5, 0, 0, n as u64),
+        Owed::Fp64(n) => of(6, 0, 0, n),
+        Owed::Float(id, t) => of(7, id, t.fixlen().raw(), 0),
+        Owed::Payload(id, r, n) => of(8, id, r.fixlen().raw(), n as u64),
+        Owed::Array(id, k, n) => of(9, id, k.raw(), n as u64),
+        Owed::Begin(id) => of(10, id, 0, 0),
+        Owed::End => of(11, 0, 0, 0),
     }
 }
 
-fn position(k: Copier) -> usize {
+fn store(k: Copier, desk: &mut [u64]) {
+    let r = k.reader;
     let w = k.writer;
-    w.offset
+    let o = k.owed;
+    let n = numbers(o);
+    trace::reader::store(r, desk);
+    trace_writer::writer::store(w, desk);
+    lay(desk, 18, &[n[0], n[1], n[2], n[3], k.place as u64]);
 }
 
-fn told_call(used: usize, position: usize, buf: &[u8], out: &mut [u8], at: usize) -> usize {
-    let first = put16(out, at, used as u64);
-    let second = put16(out, first, position as u64);
-    put_bytes(out, second, buf)
-}
-
-// The rest of the chunk under way, to the copier.
-fn feed(ticket: &[u8], d: Desk, buf: &mut [u8], out: &mut [u8]) -> Desk {
-    let at = d.at;
-    let end = d.end;
-    let k = d.copier;
-    let r = k.feed(between(ticket, at, end), buf);
-    let answer = r.answer;
-    let left = r.copier;
-    let code = tag(answer);
-    let next = told(code, number(answer), out, d.next);
-    Desk {
-        at: if code == 1 {
-            ahead(ticket, at, r.used)
-        } else {
-            end
-        },
-        end,
-        next: told_call(r.used, position(left), buf, out, next),
-        copier: left,
-        full: code == 1,
+// What a call tells: the answer and a refusal's number.
+fn said(a: Answer) -> [u64; 2] {
+    match a {
+        Answer::Full => [1, 0],
+        Answer::Status(s) => [verdict(s), 0],
+        Answer::Refused(e) => [18, e.number() as u64],
     }
 }
 
-// The next chunk, of n bytes, or the rest of the one under way.
-fn feed_next(ticket: &[u8], n: usize, d: Desk, buf: &mut [u8], out: &mut [u8]) -> Desk {
-    let k = d.copier;
-    let end = if d.full {
-        d.end
-    } else {
-        ahead(ticket, d.end, n)
-    };
-    feed(
-        ticket,
-        Desk {
-            at: d.at,
-            end,
-            next: d.next,
-            copier: k,
-            full: d.full,
-        },
-        buf,
-        out,
-    )
-}
-
-fn count(c: Count) -> usize {
-    match c {
-        Count::Bytes(n) => n,
-        Count::Refused(_) => 0,
+fn opened(a: Opening) -> [u64; 2] {
+    match a {
+        Opening::Open => [0, 0],
+        Opening::Refused(e) => [3, e.number() as u64],
     }
 }
 
-fn refused(c: Count) -> u8 {
-    match c {
-        Count::Bytes(_) => 0,
-        Count::Refused(e) => e.number(),
-    }
+fn tell(said: [u64; 2], n: usize, desk: &mut [u64]) {
+    lay(desk, 23, &[said[0], n as u64, 0, 0, said[1]]);
 }
 
-fn drain(d: Desk, buf: &[u8], out: &mut [u8]) -> Desk {
-    let k = d.copier;
-    let r = k.flush(buf);
-    let answer = r.answer;
-    let left = r.copier;
-    let n = count(answer);
-    let first = put8(out, d.next, 4);
-    let second = put16(out, first, n as u64);
-    Desk {
-        at: d.at,
-        end: d.end,
-        next: put_bytes(out, second, part(buf, 0, n)),
-        copier: left,
-        full: d.full,
-    }
+// The offset is at 28.
+pub fn open(desk: &mut [u64], buf: &[u8]) {
+    let o = Copier::new(buf, word(desk, 28) as usize);
+    let a = o.answer;
+    let left = o.copier;
+    store(left, desk);
+    tell(opened(a), 0, desk);
 }
 
-// A call over another buffer: its refusal is told, and the state that it returned gone on with.
-fn refusal(d: Desk, k: Copier, number: u8, out: &mut [u8]) -> Desk {
-    Desk {
-        at: d.at,
-        end: d.end,
-        next: told(3, number, out, d.next),
-        copier: k,
-        full: d.full,
-    }
+pub fn feed(desk: &mut [u64], chunk: &[u8], buf: &mut [u8]) {
+    let k = copier(desk);
+    let f = k.feed(chunk, buf);
+    let a = f.answer;
+    let left = f.copier;
+    store(left, desk);
+    tell(said(a), f.used, desk);
 }
 
-fn stray_feed(chunk: &[u8], d: Desk, other: &mut [u8], out: &mut [u8]) -> Desk {
-    let k = d.copier;
-    let r = k.feed(chunk, other);
-    let answer = r.answer;
-    let left = r.copier;
-    refusal(d, left, number(answer), out)
+fn sent(d: Drained, desk: &mut [u64]) {
+    let a = d.answer;
+    let left = d.copier;
+    store(left, desk);
+    lay(desk, 23, &trace_writer::writer::counted(a));
 }
 
-fn drained(d: Desk, r: Drained, out: &mut [u8]) -> Desk {
-    let answer = r.answer;
-    let left = r.copier;
-    refusal(d, left, refused(answer), out)
+pub fn drain(desk: &mut [u64], buf: &[u8]) {
+    let k = copier(desk);
+    sent(k.flush(buf), desk);
 }
 
-// One made where the other buffer is shorter than the position.
-fn stray(code: u64, chunk: &[u8], d: Desk, buf: &[u8], other: &mut [u8], out: &mut [u8]) -> Desk {
-    let k = d.copier;
-    if position(k) <= other.len() {
-        return Desk {
-            at: d.at,
-            end: d.end,
-            next: put8(out, d.next, 0),
-            copier: k,
-            full: d.full,
-        };
-    }
-    match code {
-        2 => stray_feed(chunk, d, other, out),
-        3 => drained(d, k.flush(other), out),
-        _ => drained(d, k.buffer_set(other, buf, 0), out),
-    }
-}
-
-// The same over a buffer of n bytes.
-fn stray_over(code: u64, n: usize, chunk: &[u8], d: Desk, buf: &[u8], out: &mut [u8]) -> Desk {
-    let mut room = [0u8; 512];
-    if 512 < n {
-        return d;
-    }
-    stray(code, chunk, d, buf, &mut room[..n], out)
-}
-
-fn unfit(n: usize, d: Desk, buf: &[u8], out: &mut [u8]) -> Desk {
-    let k = d.copier;
-    let room = [0u8; 512];
-    let new = part(&room, 0, n);
-    drained(d, k.buffer_set(buf, new, new.len()), out)
-}
-
-fn act(code: u64, n: usize, ticket: &[u8], d: Desk, buf: &mut [u8], out: &mut [u8]) -> Desk {
-    match code {
-        0 => feed_next(ticket, n, d, buf, out),
-        1 => drain(d, buf, out),
-        5 => unfit(n, d, buf, out),
-        _ => stray_over(code, n, between(ticket, d.at, ticket.len()), d, buf, out),
-    }
-}
-
-fn acts(
-    case: &[u8],
-    count: usize,
-    ticket: &[u8],
-    from: Desk,
-    buf: &mut [u8],
-    out: &mut [u8],
-) -> Desk {
-    let mut d = from;
-    let mut at = ahead(case, 0, 4);
-    let mut left = count;
-    while left > 0 {
-        let code = get8(case, at);
-        let n = get16(case, ahead(case, at, 1)) as usize;
-        d = act(code, n, ticket, d, buf, out);
-        at = ahead(case, at, 3);
-        left -= 1;
-    }
-    d
-}
-
-// What is left, with a drain after each feed. Nothing here says that it ends, so the turns are counted down from a number that no run
-// uses up.
-fn finish(ticket: &[u8], from: Desk, buf: &mut [u8], out: &mut [u8]) -> usize {
-    let mut d = from;
-    let mut turns = u64::MAX;
-    let mut open = true;
-    while turns > 0 && open {
-        d = feed_next(ticket, ticket.len(), d, buf, out);
-        open = d.full;
-        d = drain(d, buf, out);
-        turns -= 1;
-    }
-    d.next
-}
-
-fn run(case: &[u8], count: usize, ticket: &[u8], buf: &mut [u8], out: &mut [u8]) -> usize {
-    let o = Copier::new(buf, 0);
-    let answer = o.answer;
-    let k = o.copier;
-    let Opening::Open = answer else {
-        return told(3, 5, out, 0);
-    };
-    let d = Desk {
-        at: 0,
-        end: 0,
-        next: 0,
-        copier: k,
-        full: false,
-    };
-    let done = acts(case, count, ticket, d, buf, out);
-    finish(ticket, done, buf, out)
-}
-
-pub fn trace(case: &[u8], out: &mut [u8]) -> usize {
-    let mut room = [0u8; 512];
-    fresh(&mut room);
-    let size = get16(case, 0) as usize;
-    let count = get16(case, ahead(case, 0, 2)) as usize;
-    let once = ahead(case, ahead(case, 0, 4), count);
-    let from = ahead(case, ahead(case, once, count), count);
-    if 512 < size {
-        return 0;
-    }
-    run(
-        case,
-        count,
-        part(case, from, case.len()),
-        &mut room[..size],
-        out,
-    )
+// The offset is at 28.
+pub fn change(desk: &mut [u64], old: &[u8], new: &[u8]) {
+    let k = copier(desk);
+    sent(k.buffer_set(old, new, word(desk, 28) as usize), desk);
 }

@@ -4,4 +4,3 @@ pub mod Varints
 pub mod Runs
 pub mod Bodies
 pub mod Places
-pub mod Copies

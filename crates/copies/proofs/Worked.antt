@@ -2,7 +2,9 @@
 -- calls for other buffers between. And worked refusals, where two tests or three fail.
 use Prim.Native.Nat.{ℕ}
 use mathlib.Core.Path.{_≡_, refl}
+use mathlib.Core.Bool.{true}
 use mathlib.Core.List.{List, [], _∷_, _++_}
+use lib.ListN.{replicate}
 use Rattle.layout.specs.Varint.{push, shortestIn, shortest}
 use Rattle.layout.specs.Field.{lowBytes}
 use Rattle.layout.specs.Message.{complete, incomplete}
@@ -77,9 +79,24 @@ wild = record { phase = Header (record { value = 0; taken = 10 }); depth = 0 }
 abbrev refused : Copier → ℕ
 refused k = saidNumber (copied k (0x08 ∷ []) (0xEE ∷ []) .said)
 
+-- a sound reader at depth 1, and a writer that is sound but holds the id of its open sequence
+abbrev holding : Copier
+holding =
+    record {
+      reader = record { phase = Header (record { value = 0; taken = 0 }); depth = 1 };
+      writer = record { offset = 0; depth = 1; pending = 5 ∷ replicate 7 0; npending = 1 };
+      owed = Nothing;
+      place = 0;
+    }
+
 -- "The copier gives 1, then 6, then 2", over a buffer of one byte: an unsound reader and a broken one, with the writer beyond the buffer and
--- within it
-pub worked-refusals : refused (at wild 2) ∷ refused (at wild 0) ∷ refused (at (streamIn broke) 2) ∷ refused (at (streamIn broke) 0) ∷ []
-    ≡ 1 ∷ 1 ∷ 6 ∷ 2 ∷ []
+-- within it; and 6 for an id held
+pub worked-refusals : refused (at wild 2) ∷ refused (at wild 0) ∷ refused (at (streamIn broke) 2) ∷ refused (at (streamIn broke) 0) ∷ refused holding ∷ []
+    ≡ 1 ∷ 1 ∷ 6 ∷ 2 ∷ 6 ∷ []
 unfolding copied soundWriter writer.opened writer.soundStream writer.every reader.soundStream soundAcc soundOwed
 worked-refusals = refl
+
+-- it is the id alone: the writer by itself is sound
+pub held-sound : writer.soundStream (holding .writer) 1 ≡ true
+unfolding writer.soundStream writer.every
+held-sound = refl

@@ -12,9 +12,8 @@ pub struct Sum {
     pub complete: bool,
 }
 
-// The list under way, the last number drawn, the chunk, the sum so far, and whether it is over.
-pub struct Back {
-    listing: Listing,
+// The last number drawn, the chunk, the sum so far, and whether it is over.
+pub struct Place {
     random: u64,
     from: usize,
     to: usize,
@@ -23,36 +22,48 @@ pub struct Back {
     over: bool,
 }
 
+// The list under way.
+pub struct Back {
+    listing: Listing,
+    place: Place,
+}
+
 // Before the first chunk.
 fn start(seed: u64) -> Back {
     Back {
         listing: Listing::new(),
-        random: seed,
-        from: 0,
-        to: 0,
-        sum: 0,
-        bytes: 0,
-        over: false,
+        place: Place {
+            random: seed,
+            from: 0,
+            to: 0,
+            sum: 0,
+            bytes: 0,
+            over: false,
+        },
     }
 }
 
-// The chunk is spent: another one, also an empty one, or the end, where the verdict stays.
-fn next_chunk(b: Back, len: usize, asked: bool) -> Back {
-    let listing = b.listing;
-    let random = draw::next(b.random);
-    let from = b.to;
+// The chunk is spent: another one, also an empty one, or the end.
+fn further(mut p: Place, len: usize, asked: bool) -> Place {
+    let random = draw::next(p.random);
+    let from = p.to;
     let left = if from <= len { len - from } else { 0 };
-    let over = left == 0 && draw::rarely(random >> 8);
     let n = draw::length(random, left);
     draw::show(asked, n);
+    p.random = random;
+    p.from = from;
+    p.to = wrapping_add_usize(from, n);
+    p.over = left == 0 && draw::rarely(random >> 8);
+    p
+}
+
+// At the end the verdict stays.
+fn next_chunk(b: Back, len: usize, asked: bool) -> Back {
+    let place = further(b.place, len, asked);
+    let listing = b.listing;
     Back {
-        listing: if over { listing } else { listing.chunk() },
-        random,
-        from,
-        to: wrapping_add_usize(from, n),
-        sum: b.sum,
-        bytes: b.bytes,
-        over,
+        listing: if place.over { listing } else { listing.chunk() },
+        place,
     }
 }
 
@@ -71,45 +82,40 @@ fn add(start: u64, text: &[u8]) -> u64 {
     sum
 }
 
+fn summed(mut p: Place, text: &[u8], at: usize) -> Place {
+    p.sum = if at <= text.len() {
+        add(p.sum, &text[0..at])
+    } else {
+        0
+    };
+    p.bytes = wrapping_add_u64(p.bytes, at as u64);
+    p
+}
+
 // The lines of the chunk, as far as there is room for them.
 fn lines_of(b: Back, chunk: &[u8], text: &mut [u8]) -> Back {
     let l = listing::list(b.listing, chunk, text);
-    let at = l.at;
     Back {
         listing: l.emptied(),
-        random: b.random,
-        from: b.from,
-        to: b.to,
-        sum: if at <= text.len() {
-            add(b.sum, &text[0..at])
-        } else {
-            0
-        },
-        bytes: wrapping_add_u64(b.bytes, at as u64),
-        over: b.over,
+        place: summed(b.place, text, l.at),
     }
 }
 
 fn turn(b: Back, bytes: &[u8], text: &mut [u8], asked: bool) -> Back {
-    let listing = b.listing;
-    let from = b.from;
-    let to = b.to;
-    if !listing.more {
-        return next_chunk(b, bytes.len(), asked);
+    let from = b.place.from;
+    let to = b.place.to;
+    if b.listing.more && from <= to && to <= bytes.len() {
+        return lines_of(b, &bytes[from..to], text);
     }
-    if from <= to && to <= bytes.len() {
-        lines_of(b, &bytes[from..to], text)
-    } else {
-        next_chunk(b, bytes.len(), asked)
-    }
+    next_chunk(b, bytes.len(), asked)
 }
 
 fn end(b: Back) -> Sum {
     let listing = b.listing;
     let verdict = listing.verdict;
     Sum {
-        sum: b.sum,
-        bytes: b.bytes,
+        sum: b.place.sum,
+        bytes: b.place.bytes,
         complete: match verdict {
             Verdict::Complete => true,
             _ => false,
@@ -122,7 +128,7 @@ pub fn read(bytes: &[u8], text: &mut [u8], seed: u64, asked: bool) -> Sum {
     let mut b = start(seed);
     let mut turns = u64::MAX;
     while 0 < turns {
-        if b.over {
+        if b.place.over {
             return end(b);
         }
         b = turn(b, bytes, text, asked);

@@ -5,9 +5,8 @@ use copier::Copier;
 use ostream::Count;
 use std::num::wrapping_add_usize;
 
-// The copier, the last number drawn, the chunk's rest, how much was sent, and whether all of it was as expected; whether it is over.
-pub struct Torn {
-    copier: Copier,
+// The last number drawn, the chunk's rest, how much was sent, whether all of it was as expected, and whether it is over.
+pub struct Cut {
     random: u64,
     from: usize,
     to: usize,
@@ -16,17 +15,24 @@ pub struct Torn {
     over: bool,
 }
 
+pub struct Torn {
+    copier: Copier,
+    cut: Cut,
+}
+
 fn start(buf: &[u8], seed: u64) -> Torn {
     let opened = Copier::new(buf, 0);
     let copier = opened.copier;
     Torn {
         copier,
-        random: seed,
-        from: 0,
-        to: 0,
-        sent: 0,
-        same: true,
-        over: false,
+        cut: Cut {
+            random: seed,
+            from: 0,
+            to: 0,
+            sent: 0,
+            same: true,
+            over: false,
+        },
     }
 }
 
@@ -35,105 +41,95 @@ fn right(manifest: &[u8], sent: usize, buf: &[u8], n: usize) -> bool {
     n <= buf.len() && draw::stands(manifest, sent, &buf[0..n])
 }
 
-// The buffer's bytes are sent.
-fn drain(t: Torn, buf: &[u8], manifest: &[u8]) -> Torn {
-    let copier = t.copier;
-    let drained = copier.flush(buf);
-    let answer = drained.answer;
-    let next = drained.copier;
-    let n = match answer {
+// The bytes that a drain sends; more than any buffer has where it is refused.
+fn count(c: Count) -> usize {
+    match c {
         Count::Bytes(n) => n,
         Count::Refused(_) => usize::MAX,
-    };
+    }
+}
+
+fn sent(mut c: Cut, n: usize, same: bool) -> Cut {
+    c.sent = wrapping_add_usize(c.sent, n);
+    c.same = c.same && same;
+    c
+}
+
+// The buffer's bytes are sent.
+fn drain(t: Torn, buf: &[u8], manifest: &[u8]) -> Torn {
+    let drained = t.copier.flush(buf);
+    let answer = drained.answer;
+    let n = count(answer);
+    let cut = t.cut;
+    let copier = drained.copier;
     Torn {
-        copier: next,
-        random: t.random,
-        from: t.from,
-        to: t.to,
-        sent: wrapping_add_usize(t.sent, n),
-        same: t.same && right(manifest, t.sent, buf, n),
-        over: t.over,
+        copier,
+        cut: sent(cut, n, right(manifest, cut.sent, buf, n)),
     }
 }
 
 // The chunk is spent: another one, also an empty one, or the end.
-fn next_chunk(t: Torn, len: usize, asked: bool) -> Torn {
-    let copier = t.copier;
-    let random = draw::next(t.random);
-    let from = t.from;
-    let left = if from <= len { len - from } else { 0 };
+fn next_chunk(mut c: Cut, len: usize, asked: bool) -> Cut {
+    let random = draw::next(c.random);
+    let left = if c.from <= len { len - c.from } else { 0 };
     let n = draw::length(random, left);
     draw::show(asked, n);
-    Torn {
-        copier,
-        random,
-        from,
-        to: wrapping_add_usize(from, n),
-        sent: t.sent,
-        same: t.same,
-        over: left == 0 && n == 0 && draw::rarely(random >> 8),
-    }
+    c.random = random;
+    c.to = wrapping_add_usize(c.from, n);
+    c.over = left == 0 && n == 0 && draw::rarely(random >> 8);
+    c
+}
+
+fn refused(mut c: Cut) -> Cut {
+    c.same = false;
+    c.over = true;
+    c
 }
 
 // What a call comes to.
-fn heard(t: Torn, answer: Answer, ticket: &[u8], manifest: &[u8], buf: &[u8], asked: bool) -> Torn {
+fn heard(c: Cut, answer: Answer, len: usize, asked: bool) -> Cut {
     match answer {
-        Answer::Full => drain(t, buf, manifest),
-        Answer::Status(_) => {
-            let next = next_chunk(t, ticket.len(), asked);
-            if next.over || draw::rarely(next.random >> 5) {
-                drain(next, buf, manifest)
-            } else {
-                next
-            }
-        }
-        Answer::Refused(_) => {
-            let copier = t.copier;
-            Torn {
-                copier,
-                random: t.random,
-                from: t.from,
-                to: t.to,
-                sent: t.sent,
-                same: false,
-                over: true,
-            }
-        }
+        Answer::Full => c,
+        Answer::Status(_) => next_chunk(c, len, asked),
+        Answer::Refused(_) => refused(c),
     }
 }
 
-// One call on the chunk's rest.
-fn call(t: Torn, rest: &[u8], ticket: &[u8], manifest: &[u8], buf: &mut [u8], asked: bool) -> Torn {
-    let copier = t.copier;
-    let copied = copier.feed(rest, buf);
-    let next = copied.copier;
+// Whether a drain follows it: at "full", at the end, and now and then between.
+fn drains(c: Cut, answer: Answer) -> bool {
+    match answer {
+        Answer::Full => true,
+        Answer::Status(_) => c.over || draw::rarely(c.random >> 5),
+        Answer::Refused(_) => false,
+    }
+}
+
+// One call on the chunk's rest, of a message of `len` bytes.
+fn call(t: Torn, rest: &[u8], len: usize, manifest: &[u8], buf: &mut [u8], asked: bool) -> Torn {
+    let copied = t.copier.feed(rest, buf);
     let answer = copied.answer;
-    let after = Torn {
-        copier: next,
-        random: t.random,
-        from: wrapping_add_usize(t.from, copied.used),
-        to: t.to,
-        sent: t.sent,
-        same: t.same,
-        over: false,
-    };
-    heard(after, answer, ticket, manifest, buf, asked)
+    let mut cut = t.cut;
+    cut.from = wrapping_add_usize(cut.from, copied.used);
+    let next = heard(cut, answer, len, asked);
+    let copier = copied.copier;
+    let after = Torn { copier, cut: next };
+    if drains(next, answer) {
+        return drain(after, buf, manifest);
+    }
+    after
 }
 
 fn turn(t: Torn, ticket: &[u8], manifest: &[u8], buf: &mut [u8], asked: bool) -> Torn {
-    let from = t.from;
-    let to = t.to;
+    let from = t.cut.from;
+    let to = t.cut.to;
     if from <= to && to <= ticket.len() {
-        call(t, &ticket[from..to], ticket, manifest, buf, asked)
-    } else {
-        heard(
-            t,
-            Answer::Refused(types::Error::InvalidMsg),
-            ticket,
-            manifest,
-            buf,
-            asked,
-        )
+        return call(t, &ticket[from..to], ticket.len(), manifest, buf, asked);
+    }
+    let cut = t.cut;
+    let copier = t.copier;
+    Torn {
+        copier,
+        cut: refused(cut),
     }
 }
 
@@ -142,8 +138,8 @@ pub fn copies(ticket: &[u8], manifest: &[u8], buf: &mut [u8], seed: u64, asked: 
     let mut t = start(buf, seed);
     let mut turns = u64::MAX;
     while 0 < turns {
-        if t.over || !t.same {
-            return t.same && t.sent == manifest.len();
+        if t.cut.over || !t.cut.same {
+            return t.cut.same && t.cut.sent == manifest.len();
         }
         t = turn(t, ticket, manifest, buf, asked);
         turns -= 1;

@@ -117,7 +117,7 @@ module _ {A : Type 0} (f : A → List ℕ) (l : List A) where
 -- ---- one element more, less the bytes of it that are out
 
 module _ {A : Type 0} (f : A → List ℕ) (l : List A) (b : List ℕ) (pos : ℕ) (o d : List ℕ) (at i : ℕ) where
-  pub left-next : (part : ℕ) (x : A) (s d′ : List ℕ) (end : ℕ) → Left b pos o d at (drop part (each f (drop i l))) → at ≤ length d → i < length l → part ≤ length (f (getD l i x)) → s ≡ drop part (f (getD l i x))
+  left-next : (part : ℕ) (x : A) (s d′ : List ℕ) (end : ℕ) → Left b pos o d at (drop part (each f (drop i l))) → at ≤ length d → i < length l → part ≤ length (f (getD l i x)) → s ≡ drop part (f (getD l i x))
       → Whole d at s d′ end → Left b pos o d′ end (each f (drop (i + 1) l)) × (end ≤ length d′)
   left-next part x s d′ end w h k j q g =
       let e : drop part (each f (drop i l)) ≡ s ++ each f (drop (i + 1) l) = ap (drop part) (each-at f l i x k) ∙ drop-append-le part (f (getD l i x)) (each f (drop (i + 1) l)) j ∙ ap (λ (u : List ℕ). u ++ each f (drop (i + 1) l)) (sym q) in
@@ -128,10 +128,27 @@ module _ {A : Type 0} (f : A → List ℕ) (l : List A) (b : List ℕ) (pos : �
       let z : length d′ ≡ length b = m .size in
       (m, omega arith)
 
-  pub left-end : Left b pos o d at (each f (drop i l)) → length l ≤ i → Whole b pos o d at
-  left-end w h = none-left b pos o d at (each f (drop i l)) w (ap length (each-end f l i h))
+-- ---- the loop that writes: the elements of l from the i-th on are left to write
 
--- ---- the loop that writes: the elements of l from the i-th on are left to write, less the first `part` bytes of it
+pub record Going {A : Type 0} (f : A → List ℕ) (l : List A) (b : List ℕ) (pos : ℕ) (o d : List ℕ) (at i : ℕ) : Type 0 where
+  pub left : Left b pos o d at (each f (drop i l))
+  pub inside : at ≤ length d
+
+module _ {A : Type 0} (f : A → List ℕ) (l : List A) (b : List ℕ) (pos : ℕ) where
+  pub going-start : (from : ℕ) → pos ≤ length b → Going f l b pos (each f (drop from l)) b pos from
+  going-start from h = record { left = start b pos (each f (drop from l)); inside = h }
+
+  module _ (o d : List ℕ) (at i : ℕ) (w : Going f l b pos o d at i) where
+    pub going-next : (x : A) (s d′ : List ℕ) (end : ℕ) → i < length l → s ≡ f (getD l i x) → Whole d at s d′ end → Going f l b pos o d′ end (i + 1)
+    going-next x s d′ end h q g = let (m, t) = left-next f l b pos o d at i 0 x s d′ end (w .left) (w .inside) h (omega arith) q g in record { left = m; inside = t }
+
+    pub going-end : length l ≤ i → Whole b pos o d at
+    going-end h = none-left b pos o d at (each f (drop i l)) (w .left) (ap length (each-end f l i h))
+
+    pub going-full : length d ≤ at → Whole b pos o d at
+    going-full h = no-room b pos o d at (each f (drop i l)) (w .left) h
+
+-- ---- the same from a place on, where the first `part` bytes of the i-th are out
 
 pub record Onward {A : Type 0} (f : A → List ℕ) (l : List A) (c : Cursor) (b d : List ℕ) (at i part : ℕ) : Type 0 where
   pub left : Left b (c .pos) (drop (c .skip) (each f l)) d at (drop part (each f (drop i l)))

@@ -14,7 +14,7 @@ use varint::zigzag_encode;
 ghost use mathlib.Core.Path.{_≡_};
 ghost use Prim.Native.Nat.{_+_, _-_, _*_, _≤_, _<_};
 ghost use lib.Dec.{ltb};
-ghost use lib.ListN.{length};
+ghost use lib.ListN.{length, drop};
 ghost use lib.Ieee.{binary32, binary64, toBits};
 ghost use Rattle.layout.specs.Varint.{shortest};
 ghost use Rattle.layout.specs.Field.{lowBytes, each};
@@ -139,6 +139,21 @@ pub fn counted(out: Out, n: usize, most: usize) -> usize
     most - part
 }
 
+// The varints of an unsigned array's elements from the place `from` on, until the buffer is full.
+fn varints_from(buf: &mut [u8], pos: usize, items: &[u64], from: usize) -> usize
+    requires { ⌜ pos ≤ length (now buf) ⌝ }
+    ensures { λ r. ⌜ (r ≡ reached (now (buf .entry)) pos (each shortest (drop from (now (items .entry))))) × (now (buf .exit) ≡ put (now (buf .entry)) pos (each shortest (drop from (now (items .entry))))) ⌝ }
+{
+    let mut at = pos;
+    let mut i = from;
+    while i < items.len() && at < buf.len() {
+        let v = items[i];
+        at = put_next(buf, at, v);
+        i += 1;
+    }
+    at
+}
+
 // The varints of an unsigned array's elements.
 pub fn put_varints(cursor: Cursor, buf: &mut [u8], items: &[u64]) -> Cursor
     requires { ⌜ cursor .pos ≤ length (now buf) ⌝ }
@@ -146,6 +161,10 @@ pub fn put_varints(cursor: Cursor, buf: &mut [u8], items: &[u64]) -> Cursor
 {
     let pos = cursor.pos;
     let skip = cursor.skip;
+    if skip == 0 {
+        let end = varints_from(buf, pos, items, 0);
+        return Cursor { pos: end, skip: 0 };
+    }
     let out = varints_out(items, skip);
     let first = out.whole;
     let part = out.part;
@@ -153,14 +172,24 @@ pub fn put_varints(cursor: Cursor, buf: &mut [u8], items: &[u64]) -> Cursor
         return Cursor { pos, skip: part };
     }
     let head = items[first];
-    let mut at = put_next(buf, pos, head >> (part * 7));
-    let mut i = first + 1;
+    let next = put_whole(buf, pos, head >> (part * 7));
+    let end = varints_from(buf, next, items, first + 1);
+    Cursor { pos: end, skip: 0 }
+}
+
+// Those of a signed array's.
+fn zigzags_from(buf: &mut [u8], pos: usize, items: &[i64], from: usize) -> usize
+    requires { ⌜ pos ≤ length (now buf) ⌝ }
+    ensures { λ r. ⌜ (r ≡ reached (now (buf .entry)) pos (each (λ z. shortest (zigzag z)) (drop from (now (items .entry))))) × (now (buf .exit) ≡ put (now (buf .entry)) pos (each (λ z. shortest (zigzag z)) (drop from (now (items .entry))))) ⌝ }
+{
+    let mut at = pos;
+    let mut i = from;
     while i < items.len() && at < buf.len() {
         let v = items[i];
-        at = put_next(buf, at, v);
+        at = put_next(buf, at, zigzag_encode(v));
         i += 1;
     }
-    Cursor { pos: at, skip: 0 }
+    at
 }
 
 // Those of a signed array's.
@@ -170,6 +199,10 @@ pub fn put_zigzags(cursor: Cursor, buf: &mut [u8], items: &[i64]) -> Cursor
 {
     let pos = cursor.pos;
     let skip = cursor.skip;
+    if skip == 0 {
+        let end = zigzags_from(buf, pos, items, 0);
+        return Cursor { pos: end, skip: 0 };
+    }
     let out = zigzags_out(items, skip);
     let first = out.whole;
     let part = out.part;
@@ -177,14 +210,9 @@ pub fn put_zigzags(cursor: Cursor, buf: &mut [u8], items: &[i64]) -> Cursor
         return Cursor { pos, skip: part };
     }
     let head = items[first];
-    let mut at = put_next(buf, pos, zigzag_encode(head) >> (part * 7));
-    let mut i = first + 1;
-    while i < items.len() && at < buf.len() {
-        let v = items[i];
-        at = put_next(buf, at, zigzag_encode(v));
-        i += 1;
-    }
-    Cursor { pos: at, skip: 0 }
+    let next = put_whole(buf, pos, zigzag_encode(head) >> (part * 7));
+    let end = zigzags_from(buf, next, items, first + 1);
+    Cursor { pos: end, skip: 0 }
 }
 
 // The elements of a float array of 32 bits, by their bits, where there is room for all: no test at each byte.

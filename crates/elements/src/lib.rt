@@ -1,5 +1,5 @@
-// Arrays' elements, in bulk: all at once where there is room for them, else one after another from the first byte on that is not out until
-// the buffer is full. Those that are out already are only counted, and those beyond the buffer's end not looked at.
+// Arrays' elements, in bulk: all at once where there is room for them, else from the first byte on that is not out until the buffer is
+// full. Those that are out already are only counted, and those beyond the buffer's end not looked at.
 use emit::Cursor;
 use emit::least;
 use emit::put_eight;
@@ -287,34 +287,31 @@ fn evenly_out(n: usize, skip: usize, width: usize) -> Out
     }
 }
 
-// The elements of a float array of 32 bits, by their bits.
+// The elements of a float array of 32 bits, by their bits: the rest of the first that is not all out, as many whole ones as there is room
+// for, which go as a block, and what goes of the next.
 pub fn put_fp32s(cursor: Cursor, buf: &mut [u8], items: &[u32]) -> Cursor
     requires { ⌜ cursor .pos ≤ length (now buf) ⌝ }
     ensures { λ r. ⌜ (r ≡ moved cursor (now (buf .entry)) (each (lowBytes 4) (now (items .entry)))) × (now (buf .exit) ≡ placed cursor (now (buf .entry)) (each (lowBytes 4) (now (items .entry)))) ⌝ }
 {
     let pos = cursor.pos;
     let skip = cursor.skip;
-    if skip == 0 && items.len() <= (buf.len() - pos) / 4 {
-        let end = put_fours(buf, pos, items);
+    let out = evenly_out(items.len(), skip, 4);
+    let first = out.whole;
+    let part = out.part;
+    if items.len() <= first {
+        return Cursor { pos, skip: part };
+    }
+    let head = items[first];
+    let at = put_part(buf, pos, head as u64, 4, part);
+    let next = first + 1;
+    let last = next + least((buf.len() - at) / 4, items.len() - next);
+    let end = put_fours(buf, at, &items[next..last]);
+    if items.len() <= last {
         return Cursor { pos: end, skip: 0 };
     }
-    let out = evenly_out(items.len(), skip, 4);
-    let mut i = out.whole;
-    let mut part = out.part;
-    let mut at = pos;
-    while i < items.len() {
-        if buf.len() <= at {
-            return Cursor { pos: at, skip: 0 };
-        }
-        let bits = items[i];
-        at = put_part(buf, at, bits as u64, 4, part);
-        part = 0;
-        i += 1;
-    }
-    Cursor {
-        pos: at,
-        skip: part,
-    }
+    let tail = items[last];
+    let stop = put_part(buf, end, tail as u64, 4, 0);
+    Cursor { pos: stop, skip: 0 }
 }
 
 // The same of 64 bits.
@@ -324,27 +321,23 @@ pub fn put_fp64s(cursor: Cursor, buf: &mut [u8], items: &[u64]) -> Cursor
 {
     let pos = cursor.pos;
     let skip = cursor.skip;
-    if skip == 0 && items.len() <= (buf.len() - pos) / 8 {
-        let end = put_eights(buf, pos, items);
+    let out = evenly_out(items.len(), skip, 8);
+    let first = out.whole;
+    let part = out.part;
+    if items.len() <= first {
+        return Cursor { pos, skip: part };
+    }
+    let head = items[first];
+    let at = put_part(buf, pos, head, 8, part);
+    let next = first + 1;
+    let last = next + least((buf.len() - at) / 8, items.len() - next);
+    let end = put_eights(buf, at, &items[next..last]);
+    if items.len() <= last {
         return Cursor { pos: end, skip: 0 };
     }
-    let out = evenly_out(items.len(), skip, 8);
-    let mut i = out.whole;
-    let mut part = out.part;
-    let mut at = pos;
-    while i < items.len() {
-        if buf.len() <= at {
-            return Cursor { pos: at, skip: 0 };
-        }
-        let bits = items[i];
-        at = put_part(buf, at, bits, 8, part);
-        part = 0;
-        i += 1;
-    }
-    Cursor {
-        pos: at,
-        skip: part,
-    }
+    let tail = items[last];
+    let stop = put_part(buf, end, tail, 8, 0);
+    Cursor { pos: stop, skip: 0 }
 }
 
 // The same of 32 bits by value; a NaN's bits are the one pattern that the logic knows.
@@ -354,27 +347,23 @@ pub fn put_f32s(cursor: Cursor, buf: &mut [u8], items: &[f32]) -> Cursor
 {
     let pos = cursor.pos;
     let skip = cursor.skip;
-    if skip == 0 && items.len() <= (buf.len() - pos) / 4 {
-        let end = put_four_floats(buf, pos, items);
+    let out = evenly_out(items.len(), skip, 4);
+    let first = out.whole;
+    let part = out.part;
+    if items.len() <= first {
+        return Cursor { pos, skip: part };
+    }
+    let head = items[first];
+    let at = put_part(buf, pos, fp32_bits(head) as u64, 4, part);
+    let next = first + 1;
+    let last = next + least((buf.len() - at) / 4, items.len() - next);
+    let end = put_four_floats(buf, at, &items[next..last]);
+    if items.len() <= last {
         return Cursor { pos: end, skip: 0 };
     }
-    let out = evenly_out(items.len(), skip, 4);
-    let mut i = out.whole;
-    let mut part = out.part;
-    let mut at = pos;
-    while i < items.len() {
-        if buf.len() <= at {
-            return Cursor { pos: at, skip: 0 };
-        }
-        let value = items[i];
-        at = put_part(buf, at, fp32_bits(value) as u64, 4, part);
-        part = 0;
-        i += 1;
-    }
-    Cursor {
-        pos: at,
-        skip: part,
-    }
+    let tail = items[last];
+    let stop = put_part(buf, end, fp32_bits(tail) as u64, 4, 0);
+    Cursor { pos: stop, skip: 0 }
 }
 
 // The same of 64 bits by value.
@@ -384,25 +373,21 @@ pub fn put_f64s(cursor: Cursor, buf: &mut [u8], items: &[f64]) -> Cursor
 {
     let pos = cursor.pos;
     let skip = cursor.skip;
-    if skip == 0 && items.len() <= (buf.len() - pos) / 8 {
-        let end = put_eight_floats(buf, pos, items);
+    let out = evenly_out(items.len(), skip, 8);
+    let first = out.whole;
+    let part = out.part;
+    if items.len() <= first {
+        return Cursor { pos, skip: part };
+    }
+    let head = items[first];
+    let at = put_part(buf, pos, fp64_bits(head), 8, part);
+    let next = first + 1;
+    let last = next + least((buf.len() - at) / 8, items.len() - next);
+    let end = put_eight_floats(buf, at, &items[next..last]);
+    if items.len() <= last {
         return Cursor { pos: end, skip: 0 };
     }
-    let out = evenly_out(items.len(), skip, 8);
-    let mut i = out.whole;
-    let mut part = out.part;
-    let mut at = pos;
-    while i < items.len() {
-        if buf.len() <= at {
-            return Cursor { pos: at, skip: 0 };
-        }
-        let value = items[i];
-        at = put_part(buf, at, fp64_bits(value), 8, part);
-        part = 0;
-        i += 1;
-    }
-    Cursor {
-        pos: at,
-        skip: part,
-    }
+    let tail = items[last];
+    let stop = put_part(buf, end, fp64_bits(tail), 8, 0);
+    Cursor { pos: stop, skip: 0 }
 }

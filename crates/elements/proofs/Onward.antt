@@ -5,12 +5,12 @@ use mathlib.Core.List.{List, [], _∷_, _++_}
 use mathlib.Core.Bool.{Bool, true, false}
 use mathlib.Core.Logic.{_⊎_, inl, inr}
 use Prim.Native.Nat.{ℕ, _+_, _-_, _*_, _/_, _^_, _≤_, _<_, min}
-use native.Mathlib.Nat.{div-add-mod', mod-lt, mul-le-mul-left, mul-le-mul-right}
+use native.Mathlib.Nat.{div-add-mod', mod-lt, mul-comm, mul-le-mul-left, mul-le-mul-right}
 use native.Mathlib.Omega.{arith}
-use lib.Dec.{ltb}
+use lib.Dec.{leb, ltb}
 use lib.ListN.{length, take, drop, getD, length-append, length-drop, take-append-drop}
-use lib.Seq.{take-all, length-take-le, drop-append-le, drop-append-add}
-use borrow.Author.Tests.{ltb-true, ltb-false}
+use lib.Seq.{take-all, length-take-le, drop-append-le, drop-append-add, drop-drop}
+use borrow.Author.Tests.{leb-true, leb-false, ltb-true, ltb-false}
 use Rattle.layout.specs.Limits.{pick}
 use Rattle.layout.specs.Varint.{shortest}
 use Rattle.layout.specs.Field.{each}
@@ -18,8 +18,8 @@ use Rattle.varint.proofs.Shortest.{drop-shortest}
 use Rattle.varint.proofs.Digits.{pow128}
 use Rattle.emit.specs.declared.Cursor.{Cursor}
 use Rattle.emit.specs.Put.{reached}
-use Rattle.emit.proofs.Writes.{reached-le}
-use Rattle.emit.proofs.Turns.{Left, Whole, start, none-left, no-room, followed, followed-by}
+use Rattle.emit.proofs.Writes.{reached-is, reached-le}
+use Rattle.emit.proofs.Turns.{Left, Whole, start, none-left, no-room, followed, followed-by, same-size}
 use Rattle.emit.proofs.Segments.{Emitted, some-left}
 use Rattle.emit.proofs.Elements.{each-at, each-end, each-append, length-each}
 use Rattle.elements.specs.Standing.{Standing}
@@ -117,7 +117,7 @@ module _ {A : Type 0} (f : A → List ℕ) (l : List A) where
 -- ---- one element more, less the bytes of it that are out
 
 module _ {A : Type 0} (f : A → List ℕ) (l : List A) (b : List ℕ) (pos : ℕ) (o d : List ℕ) (at i : ℕ) where
-  pub left-next : (part : ℕ) (x : A) (s d′ : List ℕ) (end : ℕ) → Left b pos o d at (drop part (each f (drop i l))) → at ≤ length d → i < length l → part ≤ length (f (getD l i x)) → s ≡ drop part (f (getD l i x))
+  left-next : (part : ℕ) (x : A) (s d′ : List ℕ) (end : ℕ) → Left b pos o d at (drop part (each f (drop i l))) → at ≤ length d → i < length l → part ≤ length (f (getD l i x)) → s ≡ drop part (f (getD l i x))
       → Whole d at s d′ end → Left b pos o d′ end (each f (drop (i + 1) l)) × (end ≤ length d′)
   left-next part x s d′ end w h k j q g =
       let e : drop part (each f (drop i l)) ≡ s ++ each f (drop (i + 1) l) = ap (drop part) (each-at f l i x k) ∙ drop-append-le part (f (getD l i x)) (each f (drop (i + 1) l)) j ∙ ap (λ (u : List ℕ). u ++ each f (drop (i + 1) l)) (sym q) in
@@ -128,10 +128,27 @@ module _ {A : Type 0} (f : A → List ℕ) (l : List A) (b : List ℕ) (pos : �
       let z : length d′ ≡ length b = m .size in
       (m, omega arith)
 
-  pub left-end : Left b pos o d at (each f (drop i l)) → length l ≤ i → Whole b pos o d at
-  left-end w h = none-left b pos o d at (each f (drop i l)) w (ap length (each-end f l i h))
+-- ---- the loop that writes: the elements of l from the i-th on are left to write
 
--- ---- the loop that writes: the elements of l from the i-th on are left to write, less the first `part` bytes of it
+pub record Going {A : Type 0} (f : A → List ℕ) (l : List A) (b : List ℕ) (pos : ℕ) (o d : List ℕ) (at i : ℕ) : Type 0 where
+  pub left : Left b pos o d at (each f (drop i l))
+  pub inside : at ≤ length d
+
+module _ {A : Type 0} (f : A → List ℕ) (l : List A) (b : List ℕ) (pos : ℕ) where
+  pub going-start : (from : ℕ) → pos ≤ length b → Going f l b pos (each f (drop from l)) b pos from
+  going-start from h = record { left = start b pos (each f (drop from l)); inside = h }
+
+  module _ (o d : List ℕ) (at i : ℕ) (w : Going f l b pos o d at i) where
+    pub going-next : (x : A) (s d′ : List ℕ) (end : ℕ) → i < length l → s ≡ f (getD l i x) → Whole d at s d′ end → Going f l b pos o d′ end (i + 1)
+    going-next x s d′ end h q g = let (m, t) = left-next f l b pos o d at i 0 x s d′ end (w .left) (w .inside) h (omega arith) q g in record { left = m; inside = t }
+
+    pub going-end : length l ≤ i → Whole b pos o d at
+    going-end h = none-left b pos o d at (each f (drop i l)) (w .left) (ap length (each-end f l i h))
+
+    pub going-full : length d ≤ at → Whole b pos o d at
+    going-full h = no-room b pos o d at (each f (drop i l)) (w .left) h
+
+-- ---- the same from a place on, where the first `part` bytes of the i-th are out
 
 pub record Onward {A : Type 0} (f : A → List ℕ) (l : List A) (c : Cursor) (b d : List ℕ) (at i part : ℕ) : Type 0 where
   pub left : Left b (c .pos) (drop (c .skip) (each f l)) d at (drop part (each f (drop i l)))
@@ -181,6 +198,62 @@ module _ {A : Type 0} (f : A → List ℕ) (l : List A) (c : Cursor) (b : List �
         let n = from-here f l i x h in
         let o : part - length (each f (drop i l)) ≡ c .skip - length (each f l) = w .rest in
         whole (no-room b (c .pos) _ d at _ (w .left) g) 0 (omega arith)
+
+  module _ (d : List ℕ) (at i : ℕ) (w : Onward f l c b d at i 0) where
+    -- n elements more go at once
+    pub onward-run : ((x : A) → 1 ≤ length (f x)) → (n : ℕ) (d′ : List ℕ) (end : ℕ) → Whole d at (each f (take n (drop i l))) d′ end → Onward f l c b d′ end (i + n) 0
+    onward-run some n d′ end g =
+        let s : List ℕ = each f (take n (drop i l)) in
+        let e : each f (drop i l) ≡ s ++ each f (drop (i + n) l) = halves f (drop i l) n ∙ ap (λ (u : List A). s ++ each f u) (drop-drop n i l) in
+        let m = followed-by b (c .pos) _ d at s (each f (drop (i + n) l)) d′ end (subst (λ (u : List ℕ). Left b (c .pos) (drop (c .skip) (each f l)) d at u) e (w .left)) (w .inside) g in
+        let r : reached d at s ≤ length d = reached-le d at s (w .inside) in
+        let v : end ≡ reached d at s = g .0 in
+        let y : length d ≡ length b = w .left .size in
+        let z : length d′ ≡ length b = m .size in
+        let o : 0 - length (each f (drop i l)) ≡ c .skip - length (each f l) = w .rest in
+        record { left = m; inside = omega arith; short = λ u j. some (getD l (i + n) u); rest = omega arith }
+
+    -- as many of k bytes each as there is room for: they fit, and where others follow there is no room for one of those
+    module _ (k : ℕ) (j : 0 < k) (e : (x : A) → length (f x) ≡ k) (n : ℕ) (q : n ≡ min ((length d - at) / k) (length l - i)) where
+      many : length (take n (drop i l)) ≡ n
+      many = length-take-le n (drop i l) (let a = length-drop i l in omega arith)
+
+      pub run-fits : at + k * length (take n (drop i l)) ≤ length d
+      run-fits =
+          let h : at ≤ length d = w .inside in
+          let a = div-add-mod' (length d - at) k in
+          let m : n * k ≤ (length d - at) / k * k = mul-le-mul-right k (omega arith) in
+          let t : k * length (take n (drop i l)) ≡ n * k = ap (λ (y : ℕ). k * y) many ∙ mul-comm k n in
+          omega arith
+
+      pub run-ends : i + n < length l → (d′ : List ℕ) (end : ℕ) → Whole d at (each f (take n (drop i l))) d′ end → length d′ ≤ end + k
+      run-ends h d′ end g =
+          let u : at ≤ length d = w .inside in
+          let a = div-add-mod' (length d - at) k in
+          let b = mod-lt (length d - at) j in
+          let p : n ≡ (length d - at) / k = omega arith in
+          let t : n * k ≡ (length d - at) / k * k = ap (λ (y : ℕ). y * k) p in
+          let c = length-each f k e (take n (drop i l)) ∙ ap (λ (y : ℕ). y * k) many in
+          let r : end ≡ at + min (length (each f (take n (drop i l)))) (length d - at) = g .0 ∙ reached-is d at _ in
+          let z = same-size d at _ d′ end u g in
+          omega arith
+
+    -- one more, in which the buffer ends
+    pub onward-last : ((x : A) → 1 ≤ length (f x)) → (k : ℕ) → ((x : A) → length (f x) ≡ k) → (x : A) (s d′ : List ℕ) (end : ℕ) → i < length l → s ≡ f (getD l i x) → length d ≤ at + k → Whole d at s d′ end → Emitted c b (each f l) (record { pos = end; skip = 0 }) d′
+    onward-last some k j x s d′ end h q m g = go (leb (length l) (i + 1)) refl
+      where
+        n : Onward f l c b d′ end (i + 1) 0
+        n = onward-next d at i 0 w some x s d′ end h q g
+
+        go : (t : Bool) → leb (length l) (i + 1) ≡ t → Emitted c b (each f l) (record { pos = end; skip = 0 }) d′
+        go true e = onward-end d′ end (i + 1) 0 n (leb-true _ _ e)
+        go false e =
+            let r : end ≡ at + min (length s) (length d - at) = g .0 ∙ reached-is d at s in
+            let y : length d ≡ length b = w .left .size in
+            let z : length d′ ≡ length b = n .left .size in
+            let p : at ≤ length d = w .inside in
+            let u : length s ≡ k = ap length q ∙ j (getD l i x) in
+            onward-full d′ end (i + 1) 0 n (leb-false _ _ e) (omega arith)
 
   -- what is left goes by another loop
   pub onward-went : (d : List ℕ) (at i : ℕ) → Onward f l c b d at i 0 → (d′ : List ℕ) (end : ℕ) → Whole d at (each f (drop i l)) d′ end → Emitted c b (each f l) (record { pos = end; skip = 0 }) d′

@@ -1,25 +1,15 @@
 -- A loop that writes a list's elements where there is room for all: m bytes for each that is still to write, so that no turn meets the
 -- buffer's end.
 use mathlib.Core.Path.{_≡_, refl, sym, ap, _∙_, subst}
-use mathlib.Core.Bool.{true}
 use mathlib.Core.List.{List, _++_}
-use Prim.Native.Nat.{ℕ, suc, _+_, _-_, _*_, _/_, _≤_, _<_, min}
+use Prim.Native.Nat.{ℕ, suc, _+_, _-_, _*_, _≤_, _<_, min}
 use native.Mathlib.Nat.{mul-suc}
 use native.Mathlib.Omega.{arith}
-use lib.Dec.{leb}
 use lib.ListN.{length, drop, getD, length-append}
-use borrow.Author.Tests.{leb-true}
 use Rattle.layout.specs.Field.{each}
 use Rattle.emit.proofs.Writes.{reached-is}
 use Rattle.emit.proofs.Turns.{Left, Whole, start, none-left, followed-by}
 use Rattle.emit.proofs.Elements.{each-at, each-end}
-
--- the test for room, which stays within the machine's numbers
-pub fours-fit : (k pos n : ℕ) → pos ≤ n → leb k ((n - pos) / 4) ≡ true → pos + 4 * k ≤ n
-fours-fit k pos n h g = let t : k ≤ (n - pos) / 4 = leb-true k ((n - pos) / 4) g in omega arith
-
-pub eights-fit : (k pos n : ℕ) → pos ≤ n → leb k ((n - pos) / 8) ≡ true → pos + 8 * k ≤ n
-eights-fit k pos n h g = let t : k ≤ (n - pos) / 8 = leb-true k ((n - pos) / 8) g in omega arith
 
 -- the elements of l from the i-th on are left to write from `at` on over d
 pub record Roomy {A : Type 0} (f : A → List ℕ) (m : ℕ) (l : List A) (b : List ℕ) (pos : ℕ) (d : List ℕ) (at i : ℕ) : Type 0 where

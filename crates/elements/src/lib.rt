@@ -1,5 +1,5 @@
-// Arrays' elements, in bulk: all at once where there is room for them, else one after another from the first byte on that is not out until
-// the buffer is full. Those that are out already are only counted, and those beyond the buffer's end not looked at.
+// Arrays' elements, in bulk: all at once where there is room for them, else from the first byte on that is not out until the buffer is
+// full. Those that are out already are only counted, and those beyond the buffer's end not looked at.
 use emit::Cursor;
 use emit::least;
 use emit::put_eight;
@@ -14,7 +14,7 @@ use varint::zigzag_encode;
 ghost use mathlib.Core.Path.{_≡_};
 ghost use Prim.Native.Nat.{_+_, _-_, _*_, _≤_, _<_};
 ghost use lib.Dec.{ltb};
-ghost use lib.ListN.{length};
+ghost use lib.ListN.{length, drop};
 ghost use lib.Ieee.{binary32, binary64, toBits};
 ghost use Rattle.layout.specs.Varint.{shortest};
 ghost use Rattle.layout.specs.Field.{lowBytes, each};
@@ -139,6 +139,21 @@ pub fn counted(out: Out, n: usize, most: usize) -> usize
     most - part
 }
 
+// The varints of an unsigned array's elements from the place `from` on, until the buffer is full.
+fn varints_from(buf: &mut [u8], pos: usize, items: &[u64], from: usize) -> usize
+    requires { ⌜ pos ≤ length (now buf) ⌝ }
+    ensures { λ r. ⌜ (r ≡ reached (now (buf .entry)) pos (each shortest (drop from (now (items .entry))))) × (now (buf .exit) ≡ put (now (buf .entry)) pos (each shortest (drop from (now (items .entry))))) ⌝ }
+{
+    let mut at = pos;
+    let mut i = from;
+    while i < items.len() && at < buf.len() {
+        let v = items[i];
+        at = put_next(buf, at, v);
+        i += 1;
+    }
+    at
+}
+
 // The varints of an unsigned array's elements.
 pub fn put_varints(cursor: Cursor, buf: &mut [u8], items: &[u64]) -> Cursor
     requires { ⌜ cursor .pos ≤ length (now buf) ⌝ }
@@ -146,6 +161,10 @@ pub fn put_varints(cursor: Cursor, buf: &mut [u8], items: &[u64]) -> Cursor
 {
     let pos = cursor.pos;
     let skip = cursor.skip;
+    if skip == 0 {
+        let end = varints_from(buf, pos, items, 0);
+        return Cursor { pos: end, skip: 0 };
+    }
     let out = varints_out(items, skip);
     let first = out.whole;
     let part = out.part;
@@ -153,14 +172,24 @@ pub fn put_varints(cursor: Cursor, buf: &mut [u8], items: &[u64]) -> Cursor
         return Cursor { pos, skip: part };
     }
     let head = items[first];
-    let mut at = put_next(buf, pos, head >> (part * 7));
-    let mut i = first + 1;
+    let next = put_whole(buf, pos, head >> (part * 7));
+    let end = varints_from(buf, next, items, first + 1);
+    Cursor { pos: end, skip: 0 }
+}
+
+// Those of a signed array's.
+fn zigzags_from(buf: &mut [u8], pos: usize, items: &[i64], from: usize) -> usize
+    requires { ⌜ pos ≤ length (now buf) ⌝ }
+    ensures { λ r. ⌜ (r ≡ reached (now (buf .entry)) pos (each (λ z. shortest (zigzag z)) (drop from (now (items .entry))))) × (now (buf .exit) ≡ put (now (buf .entry)) pos (each (λ z. shortest (zigzag z)) (drop from (now (items .entry))))) ⌝ }
+{
+    let mut at = pos;
+    let mut i = from;
     while i < items.len() && at < buf.len() {
         let v = items[i];
-        at = put_next(buf, at, v);
+        at = put_next(buf, at, zigzag_encode(v));
         i += 1;
     }
-    Cursor { pos: at, skip: 0 }
+    at
 }
 
 // Those of a signed array's.
@@ -170,6 +199,10 @@ pub fn put_zigzags(cursor: Cursor, buf: &mut [u8], items: &[i64]) -> Cursor
 {
     let pos = cursor.pos;
     let skip = cursor.skip;
+    if skip == 0 {
+        let end = zigzags_from(buf, pos, items, 0);
+        return Cursor { pos: end, skip: 0 };
+    }
     let out = zigzags_out(items, skip);
     let first = out.whole;
     let part = out.part;
@@ -177,14 +210,9 @@ pub fn put_zigzags(cursor: Cursor, buf: &mut [u8], items: &[i64]) -> Cursor
         return Cursor { pos, skip: part };
     }
     let head = items[first];
-    let mut at = put_next(buf, pos, zigzag_encode(head) >> (part * 7));
-    let mut i = first + 1;
-    while i < items.len() && at < buf.len() {
-        let v = items[i];
-        at = put_next(buf, at, zigzag_encode(v));
-        i += 1;
-    }
-    Cursor { pos: at, skip: 0 }
+    let next = put_whole(buf, pos, zigzag_encode(head) >> (part * 7));
+    let end = zigzags_from(buf, next, items, first + 1);
+    Cursor { pos: end, skip: 0 }
 }
 
 // The elements of a float array of 32 bits, by their bits, where there is room for all: no test at each byte.
@@ -259,34 +287,31 @@ fn evenly_out(n: usize, skip: usize, width: usize) -> Out
     }
 }
 
-// The elements of a float array of 32 bits, by their bits.
+// The elements of a float array of 32 bits, by their bits: the rest of the first that is not all out, as many whole ones as there is room
+// for, which go as a block, and what goes of the next.
 pub fn put_fp32s(cursor: Cursor, buf: &mut [u8], items: &[u32]) -> Cursor
     requires { ⌜ cursor .pos ≤ length (now buf) ⌝ }
     ensures { λ r. ⌜ (r ≡ moved cursor (now (buf .entry)) (each (lowBytes 4) (now (items .entry)))) × (now (buf .exit) ≡ placed cursor (now (buf .entry)) (each (lowBytes 4) (now (items .entry)))) ⌝ }
 {
     let pos = cursor.pos;
     let skip = cursor.skip;
-    if skip == 0 && items.len() <= (buf.len() - pos) / 4 {
-        let end = put_fours(buf, pos, items);
+    let out = evenly_out(items.len(), skip, 4);
+    let first = out.whole;
+    let part = out.part;
+    if items.len() <= first {
+        return Cursor { pos, skip: part };
+    }
+    let head = items[first];
+    let at = put_part(buf, pos, head as u64, 4, part);
+    let next = first + 1;
+    let last = next + least((buf.len() - at) / 4, items.len() - next);
+    let end = put_fours(buf, at, &items[next..last]);
+    if items.len() <= last {
         return Cursor { pos: end, skip: 0 };
     }
-    let out = evenly_out(items.len(), skip, 4);
-    let mut i = out.whole;
-    let mut part = out.part;
-    let mut at = pos;
-    while i < items.len() {
-        if buf.len() <= at {
-            return Cursor { pos: at, skip: 0 };
-        }
-        let bits = items[i];
-        at = put_part(buf, at, bits as u64, 4, part);
-        part = 0;
-        i += 1;
-    }
-    Cursor {
-        pos: at,
-        skip: part,
-    }
+    let tail = items[last];
+    let stop = put_part(buf, end, tail as u64, 4, 0);
+    Cursor { pos: stop, skip: 0 }
 }
 
 // The same of 64 bits.
@@ -296,27 +321,23 @@ pub fn put_fp64s(cursor: Cursor, buf: &mut [u8], items: &[u64]) -> Cursor
 {
     let pos = cursor.pos;
     let skip = cursor.skip;
-    if skip == 0 && items.len() <= (buf.len() - pos) / 8 {
-        let end = put_eights(buf, pos, items);
+    let out = evenly_out(items.len(), skip, 8);
+    let first = out.whole;
+    let part = out.part;
+    if items.len() <= first {
+        return Cursor { pos, skip: part };
+    }
+    let head = items[first];
+    let at = put_part(buf, pos, head, 8, part);
+    let next = first + 1;
+    let last = next + least((buf.len() - at) / 8, items.len() - next);
+    let end = put_eights(buf, at, &items[next..last]);
+    if items.len() <= last {
         return Cursor { pos: end, skip: 0 };
     }
-    let out = evenly_out(items.len(), skip, 8);
-    let mut i = out.whole;
-    let mut part = out.part;
-    let mut at = pos;
-    while i < items.len() {
-        if buf.len() <= at {
-            return Cursor { pos: at, skip: 0 };
-        }
-        let bits = items[i];
-        at = put_part(buf, at, bits, 8, part);
-        part = 0;
-        i += 1;
-    }
-    Cursor {
-        pos: at,
-        skip: part,
-    }
+    let tail = items[last];
+    let stop = put_part(buf, end, tail, 8, 0);
+    Cursor { pos: stop, skip: 0 }
 }
 
 // The same of 32 bits by value; a NaN's bits are the one pattern that the logic knows.
@@ -326,27 +347,23 @@ pub fn put_f32s(cursor: Cursor, buf: &mut [u8], items: &[f32]) -> Cursor
 {
     let pos = cursor.pos;
     let skip = cursor.skip;
-    if skip == 0 && items.len() <= (buf.len() - pos) / 4 {
-        let end = put_four_floats(buf, pos, items);
+    let out = evenly_out(items.len(), skip, 4);
+    let first = out.whole;
+    let part = out.part;
+    if items.len() <= first {
+        return Cursor { pos, skip: part };
+    }
+    let head = items[first];
+    let at = put_part(buf, pos, fp32_bits(head) as u64, 4, part);
+    let next = first + 1;
+    let last = next + least((buf.len() - at) / 4, items.len() - next);
+    let end = put_four_floats(buf, at, &items[next..last]);
+    if items.len() <= last {
         return Cursor { pos: end, skip: 0 };
     }
-    let out = evenly_out(items.len(), skip, 4);
-    let mut i = out.whole;
-    let mut part = out.part;
-    let mut at = pos;
-    while i < items.len() {
-        if buf.len() <= at {
-            return Cursor { pos: at, skip: 0 };
-        }
-        let value = items[i];
-        at = put_part(buf, at, fp32_bits(value) as u64, 4, part);
-        part = 0;
-        i += 1;
-    }
-    Cursor {
-        pos: at,
-        skip: part,
-    }
+    let tail = items[last];
+    let stop = put_part(buf, end, fp32_bits(tail) as u64, 4, 0);
+    Cursor { pos: stop, skip: 0 }
 }
 
 // The same of 64 bits by value.
@@ -356,25 +373,21 @@ pub fn put_f64s(cursor: Cursor, buf: &mut [u8], items: &[f64]) -> Cursor
 {
     let pos = cursor.pos;
     let skip = cursor.skip;
-    if skip == 0 && items.len() <= (buf.len() - pos) / 8 {
-        let end = put_eight_floats(buf, pos, items);
+    let out = evenly_out(items.len(), skip, 8);
+    let first = out.whole;
+    let part = out.part;
+    if items.len() <= first {
+        return Cursor { pos, skip: part };
+    }
+    let head = items[first];
+    let at = put_part(buf, pos, fp64_bits(head), 8, part);
+    let next = first + 1;
+    let last = next + least((buf.len() - at) / 8, items.len() - next);
+    let end = put_eight_floats(buf, at, &items[next..last]);
+    if items.len() <= last {
         return Cursor { pos: end, skip: 0 };
     }
-    let out = evenly_out(items.len(), skip, 8);
-    let mut i = out.whole;
-    let mut part = out.part;
-    let mut at = pos;
-    while i < items.len() {
-        if buf.len() <= at {
-            return Cursor { pos: at, skip: 0 };
-        }
-        let value = items[i];
-        at = put_part(buf, at, fp64_bits(value), 8, part);
-        part = 0;
-        i += 1;
-    }
-    Cursor {
-        pos: at,
-        skip: part,
-    }
+    let tail = items[last];
+    let stop = put_part(buf, end, fp64_bits(tail), 8, 0);
+    Cursor { pos: stop, skip: 0 }
 }

@@ -1,16 +1,17 @@
 -- Two varints and what follows them, written one after another where there is room for the longest that they can be.
 use mathlib.Core.Path.{_≡_, _∙_}
 use mathlib.Core.List.{List, _++_}
-use mathlib.Core.Bool.{true}
+use mathlib.Core.Bool.{Bool, true}
 use Prim.Native.Nat.{ℕ, _+_, _^_, _≤_, _<_}
 use native.Mathlib.Omega.{arith}
 use lib.ListN.{length, length-append}
 use Rattle.layout.specs.Varint.{shortest}
 use Rattle.varint.proofs.Shortest.{length-64}
+use Rattle.emit.specs.Put.{put, reached}
 use Rattle.emit.proofs.Writes.{reached-is}
 use Rattle.emit.proofs.Turns.{Whole, in-a-row, same-size}
 use Rattle.straight.specs.Straight.{roomFor}
-use Rattle.straight.proofs.Straight.{has-room}
+use Rattle.straight.proofs.Straight.{ArrayIf, has-room, made-array}
 
 -- a varint ends where it should, where there is room for the longest
 module _ (b : List ℕ) (pos v : ℕ) (d : List ℕ) (end n : ℕ) (h : pos + 10 + n ≤ length b) (f : v < 2 ^ 64) (w : Whole b pos (shortest v) d end) where
@@ -40,7 +41,7 @@ module _ (b : List ℕ) (pos n header : ℕ) (b1 : List ℕ) (mid : ℕ) (r : ro
     pub row-made : (u b3 : List ℕ) (end : ℕ) → Whole b2 at u b3 end → Whole b pos (shortest header ++ (shortest v ++ u)) b3 end
     row-made u b3 end k = let h = second in pair-made (shortest v ++ u) b3 end (in-a-row b1 mid (shortest v) b2 at (omega arith) m u b3 end k)
 
-    pub row-fits : (u : List ℕ) → at + length u ≤ length b2 → pos + length (shortest header ++ (shortest v ++ u)) ≤ length b
+    row-fits : (u : List ℕ) → at + length u ≤ length b2 → pos + length (shortest header ++ (shortest v ++ u)) ≤ length b
     row-fits u k =
         let h = room in
         let x = ends b pos header b1 mid (10 + n) (omega arith) f w in
@@ -48,3 +49,7 @@ module _ (b : List ℕ) (pos n header : ℕ) (b1 : List ℕ) (mid : ℕ) (r : ro
         let a = length-append (shortest header) (shortest v ++ u) in
         let c = length-append (shortest v) u in
         omega arith
+
+    -- an array's, which says beside that there was room for it
+    pub array-made : (t : Bool) → t ≡ true → (u b3 : List ℕ) (end : ℕ) → (end ≡ reached b2 at u) × (b3 ≡ put b2 at u) × (at + length u ≤ length b2) → ArrayIf t b pos (shortest header ++ (shortest v ++ u)) b3 end
+    array-made t e u b3 end (p, q, k) = made-array t b pos _ b3 end e (row-fits u k) (row-made u b3 end (p, q))

@@ -6,8 +6,8 @@ use lib.ListN.{length}
 use borrow.Author.Needs.{needs}
 use Rattle.layout.specs.Varint.{shortest}
 use Rattle.layout.specs.Field.{each}
-use Rattle.straight.proofs.Straight.{Tested, has-room, tight, unclean, passed, made-array, unmade-array}
-use Rattle.straight.proofs.Rows.{second-fits, rest-fits, row-made, row-fits}
+use Rattle.straight.proofs.Straight.{Tested, has-room, tight, unclean, passed, unmade-array}
+use Rattle.straight.proofs.Rows.{second-fits, rest-fits, array-made}
 use Rattle.straight.proofs.put_unsigneds.Statement.{statement}
 use Rattle.straight.proofs.put_unsigneds.Tie as tie
 use Rattle.straight.proofs.put_unsigneds.Reads as reads
@@ -48,10 +48,7 @@ returns-3 c =
     let a = z .args in
     let p = z .pre in
     let t = tested (c .before .before .before .before .before .before .before .before .before .before .before .before) in
-    let e = c .before .before .put-fittings .ensures in
-    made-array _ _ _ _ _ _ (t .1)
-    (row-fits (a .buf .now) (a .pos) (10 * length (a .items .now)) (a .header) _ _ (t .0) (z .fits .header .fits) (c .before .before .before .before .before .before .before .before .before .before .put-fitting .ensures) (length (a .items .now)) _ _ (omega arith) (c .before .before .before .before .before .before .put-fitting2 .ensures) _ (e .2))
-    (row-made (a .buf .now) (a .pos) (10 * length (a .items .now)) (a .header) _ _ (t .0) (z .fits .header .fits) (c .before .before .before .before .before .before .before .before .before .before .put-fitting .ensures) (length (a .items .now)) _ _ (omega arith) (c .before .before .before .before .before .before .put-fitting2 .ensures) _ _ _ (e .0, e .1))
+    array-made (a .buf .now) (a .pos) (10 * length (a .items .now)) (a .header) _ _ (t .0) (z .fits .header .fits) (c .before .before .before .before .before .before .before .before .before .before .put-fitting .ensures) (length (a .items .now)) _ _ (omega arith) (c .before .before .before .before .before .before .put-fitting2 .ensures) _ (t .1) _ _ _ (c .before .before .put-fittings .ensures)
 
 pub put-unsigneds-spec : {M : Type 1} → statement M
 put-unsigneds-spec =

@@ -28,7 +28,7 @@ compare/run DIR COMMAND
   faults SEED SIZE [KINDS]
                         each planted fault in turn, until it is found
   show FAULT SEED SIZE  one planted fault, with the smallest case that shows it
-  edits SEED SIZE       each edit of edits.txt in a copy of the Rust's source, until the fault shows
+  edits SEED SIZE [N]   each edit of edits.txt, from the Nth on, in a copy of the Rust's source, until the fault shows
   sample SEED FILE      writes the list that the crate `replay` replays
   listing ..            the program that lists events (`listing help`)
   answer KIND HEX       both answers to one case (KIND: reader, gatherer, writer, copier)

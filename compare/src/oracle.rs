@@ -285,14 +285,14 @@ pub const SHORT: usize = 22;
 
 /// Where the buffer lies in an accumulator of N bytes: measured on one that the Rust answers from its buffer. Below two bytes none is
 /// ever answered from there, nor written.
-fn place_of_buffer<const N: usize>() -> usize {
+fn place_of_buffer<const N: usize>() -> Option<usize> {
     let mut probe = PayloadAcc::<N>::new();
     let start = &probe as *const PayloadAcc<N> as usize;
     let bytes = [0u8; N];
     let _ = probe.feed(N, 0, &bytes[..N - 1]);
     match probe.feed(N, N - 1, &bytes[..1]) {
-        Ok(Some(part)) => part.as_ptr() as usize - start,
-        _ => unreachable!("a payload in two pieces is whole"),
+        Ok(Some(part)) => Some(part.as_ptr() as usize - start),
+        _ => None,
     }
 }
 
@@ -308,7 +308,7 @@ fn buffer_of<const N: usize>(acc: &PayloadAcc<N>, place: usize) -> [u8; N] {
 
 impl Oracle {
     fn gather<const N: usize>(&self, input: &mut Input, out: &mut Vec<u8>) {
-        let place = if 2 <= N { place_of_buffer::<N>() } else { 0 };
+        let Some(place) = (if 2 <= N { place_of_buffer::<N>() } else { Some(0) }) else { return out.push(BROKEN) };
         let mut acc = PayloadAcc::<N>::new();
         while !input.ended() {
             let mut tail = None;

@@ -188,6 +188,15 @@ fn told(event: [u64; 7]) -> Vec<(usize, u64)> {
     [23, 25, 26, 27, 28, 29, 30].into_iter().zip(event).collect()
 }
 
+/// How many bytes of the chunk a reader that comes this way reads, one by one, up to its first event or refusal.
+fn first_byte(way: &[u8], chunk: &[u8]) -> u64 {
+    let mut reader = IStream::new();
+    let _ = reader.feed(way, &mut First::default());
+    let mut first = First::default();
+    let stops = chunk.iter().position(|b| reader.feed(std::slice::from_ref(b), &mut first).is_err() || first.event.is_some());
+    stops.map_or(chunk.len(), |i| i + 1) as u64
+}
+
 /// What is due of a reader's call, where it is known.
 fn read_due(d: &Desk, chunk: &[u8]) -> Option<Due> {
     if !sound_reader(d) {
@@ -207,12 +216,13 @@ fn read_due(d: &Desk, chunk: &[u8]) -> Option<Due> {
     if way.len() != 0 && reader.feed(&way, &mut First::default()).is_err() {
         return None;
     }
+    let read = first_byte(&way, chunk);
     let mut first = First { event: None, chunk: chunk.as_ptr() as usize };
     let words = match (reader.feed(chunk, &mut first), first.event) {
-        (_, Some(event)) => told(event),
+        (_, Some(event)) => [told(event), vec![(24, if event[0] == 7 { event[6] } else { read })]].concat(),
         (Ok(Status::Complete), None) => vec![(23, 16), (24, chunk.len() as u64)],
         (Ok(Status::Incomplete), None) => vec![(23, 17), (24, chunk.len() as u64)],
-        (Err(_), None) => vec![(23, 18), (27, 2), (0, 11), (1, 0)],
+        (Err(_), None) => vec![(23, 18), (24, read), (27, 2), (0, 11), (1, 0)],
     };
     Some(Due { words, buf: Vec::new() })
 }
@@ -393,6 +403,46 @@ fn change_due(change: Option<usize>, drained: bool, d: &Desk, buf: &[u8], words:
     due
 }
 
+/// A write that goes on, at each "full", in another buffer instead of after a drain: together the buffers hold its output.
+fn changes(r: &mut Random, seen: &mut Seen) -> Result<(), String> {
+    let mut d: Desk = [0; 32];
+    let mut buf = vec![0; 1 + r.below(6)];
+    writer_state(r, &mut d, buf.len());
+    let code = r.pick(&[1, 2, 6, 7, 8, port::UNSIGNEDS, port::SIGNEDS, port::FP32_BITS, 13, 14, 15]);
+    d[25] = id(r) & 0xffff_ffff;
+    d[27] = crate::gen::value(r);
+    let n = 8 * r.below(5);
+    let data = r.bytes(n);
+    if !sound_writer(&d, buf.len()) {
+        return Ok(());
+    }
+    let Ok((out, ..)) = output(code, &d, &data) else { return Ok(()) };
+    let before = d;
+    let mut sent = Vec::new();
+    let mut from = d[7] as usize;
+    loop {
+        port::call(code, &mut d, &data, &mut buf);
+        seen.calls += 1;
+        let (said, place) = (d[23], d[24]);
+        sent.extend_from_slice(buf.get(from..d[7] as usize).unwrap_or(&[]));
+        if said != 1 || out.len() < sent.len() {
+            break;
+        }
+        let new = vec![0; 2 + r.below(6)];
+        from = r.below(2);
+        (d[26], d[28]) = (1, from as u64);
+        port::call(port::CHANGE, &mut d, &new, &mut buf);
+        seen.calls += 1;
+        buf = new;
+        d[31] = place;
+    }
+    seen.judged += 1;
+    if d[23] == 0 && sent == out {
+        return Ok(());
+    }
+    Err(format!("call {code} on {before:?}, {}, in other buffers at \"full\": due {}, sent {}", hex(&data), hex(&out), hex(&sent)))
+}
+
 // ---- the copier
 
 /// The bytes of what is owed; nothing where the layout does not allow it.
@@ -512,6 +562,9 @@ pub struct Seen {
 
 /// One call on a state; answers whether it was as due, or what it was.
 pub fn turn(r: &mut Random, fault: usize, seen: &mut Seen) -> Result<(), String> {
+    if r.one_in(12) {
+        return changes(r, seen);
+    }
     let room = r.pick(&[0, 1, 2, 5, 20, 40]);
     let mut buf = r.bytes(room);
     let n = r.below(14);

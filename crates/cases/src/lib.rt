@@ -114,3 +114,107 @@ pub fn count(n: usize) -> i64 {
         -1
     }
 }
+
+pub fn same(a: &[u8], b: &[u8]) -> bool {
+    if a.len() != b.len() {
+        return false;
+    }
+    let mut i: usize = 0;
+    while i < a.len() && i < b.len() {
+        if a[i] != b[i] {
+            return false;
+        }
+        i += 1;
+    }
+    true
+}
+
+// ---- the records of the crate `replay`
+
+// A number takes no byte, one, four or eight, as two bits say.
+fn number(body: &[u8], at: usize, width: u64) -> u64 {
+    match width {
+        0 => 0,
+        1 => get8(body, at),
+        2 => get32(body, at),
+        _ => get64(body, at),
+    }
+}
+
+fn bytes_of(width: u64) -> usize {
+    match width {
+        0 => 0,
+        1 => 1,
+        2 => 4,
+        _ => 8,
+    }
+}
+
+// Numbers one after another; answers where they end.
+pub fn fill(body: &[u8], at: usize, widths: u64, words: &mut [u64]) -> usize {
+    let mut from = at;
+    let mut left = widths;
+    let mut i: usize = 0;
+    while i < words.len() {
+        words[i] = number(body, from, left % 4);
+        from = ahead(body, from, bytes_of(left % 4));
+        left /= 4;
+        i += 1;
+    }
+    from
+}
+
+// Whether a call told this, after the two words of its state: its answer, from word 23 of the desk on.
+pub fn tells(desk: &[u64], told: &[u64]) -> bool {
+    let mut i: usize = 2;
+    while i < told.len() {
+        if word(desk, i + 21) != told[i] {
+            return false;
+        }
+        i += 1;
+    }
+    true
+}
+
+// An array's elements.
+pub fn fill_unsigned(data: &[u8], elements: &mut [u64]) {
+    let mut from: usize = 0;
+    let mut i: usize = 0;
+    while i < elements.len() {
+        elements[i] = get64(data, from);
+        from = ahead(data, from, 8);
+        i += 1;
+    }
+}
+
+pub fn fill_signed(data: &[u8], elements: &mut [i64]) {
+    let mut from: usize = 0;
+    let mut i: usize = 0;
+    while i < elements.len() {
+        elements[i] = signed(get64(data, from));
+        from = ahead(data, from, 8);
+        i += 1;
+    }
+}
+
+pub fn fill_short(data: &[u8], elements: &mut [u32]) {
+    let mut from: usize = 0;
+    let mut i: usize = 0;
+    while i < elements.len() {
+        elements[i] = narrow(get32(data, from));
+        from = ahead(data, from, 4);
+        i += 1;
+    }
+}
+
+pub fn first_u64<'a>(s: &'a [u64], n: usize) -> &'a [u64] {
+    if n <= s.len() { &s[..n] } else { s }
+}
+
+pub fn first_i64<'a>(s: &'a [i64], n: usize) -> &'a [i64] {
+    if n <= s.len() { &s[..n] } else { s }
+}
+
+pub fn first_u32<'a>(s: &'a [u32], n: usize) -> &'a [u32] {
+    if n <= s.len() { &s[..n] } else { s }
+}

@@ -1,15 +1,20 @@
 // Replays the list of calls that stands in the file `stdin` of this crate: makes each call of the port, compares what it tells with what the
 // Rust told, and writes how many calls there were and how many differ. README.md says how the list was made and what a record has.
 use cases::ahead;
-use cases::get8;
+use cases::fill;
+use cases::fill_short;
+use cases::fill_signed;
+use cases::fill_unsigned;
+use cases::first_i64;
+use cases::first_u32;
+use cases::first_u64;
 use cases::get16;
 use cases::get32;
-use cases::get64;
 use cases::lay;
-use cases::narrow;
 use cases::part;
 use cases::put_bytes;
-use cases::signed;
+use cases::same;
+use cases::tells;
 use cases::word;
 
 // How many calls, how many that differ, the active buffer's length, and whether the list goes on.
@@ -20,20 +25,6 @@ struct Tally {
     open: bool,
 }
 
-fn same(a: &[u8], b: &[u8]) -> bool {
-    if a.len() != b.len() {
-        return false;
-    }
-    let mut i: usize = 0;
-    while i < a.len() && i < b.len() {
-        if a[i] != b[i] {
-            return false;
-        }
-        i += 1;
-    }
-    true
-}
-
 // The next n bytes of the list, and whether they were there.
 fn take(buf: &mut [u8], n: usize) -> bool {
     if n <= buf.len() {
@@ -42,84 +33,7 @@ fn take(buf: &mut [u8], n: usize) -> bool {
     false
 }
 
-// ---- numbers in a record
-
-// A number takes no byte, one, four or eight, as two bits say.
-fn number(body: &[u8], at: usize, width: u64) -> u64 {
-    match width {
-        0 => 0,
-        1 => get8(body, at),
-        2 => get32(body, at),
-        _ => get64(body, at),
-    }
-}
-
-fn bytes_of(width: u64) -> usize {
-    match width {
-        0 => 0,
-        1 => 1,
-        2 => 4,
-        _ => 8,
-    }
-}
-
-// Numbers one after another; answers where they end.
-fn fill(body: &[u8], at: usize, widths: u64, words: &mut [u64]) -> usize {
-    let mut from = at;
-    let mut left = widths;
-    let mut i: usize = 0;
-    while i < words.len() {
-        words[i] = number(body, from, left % 4);
-        from = ahead(body, from, bytes_of(left % 4));
-        left /= 4;
-        i += 1;
-    }
-    from
-}
-
-// ---- the elements of an array: at most 32, or 64 of 32 bits
-
-fn fill_unsigned(data: &[u8], elements: &mut [u64]) {
-    let mut from: usize = 0;
-    let mut i: usize = 0;
-    while i < elements.len() {
-        elements[i] = get64(data, from);
-        from = ahead(data, from, 8);
-        i += 1;
-    }
-}
-
-fn fill_signed(data: &[u8], elements: &mut [i64]) {
-    let mut from: usize = 0;
-    let mut i: usize = 0;
-    while i < elements.len() {
-        elements[i] = signed(get64(data, from));
-        from = ahead(data, from, 8);
-        i += 1;
-    }
-}
-
-fn fill_short(data: &[u8], elements: &mut [u32]) {
-    let mut from: usize = 0;
-    let mut i: usize = 0;
-    while i < elements.len() {
-        elements[i] = narrow(get32(data, from));
-        from = ahead(data, from, 4);
-        i += 1;
-    }
-}
-
-fn first_u64<'a>(s: &'a [u64], n: usize) -> &'a [u64] {
-    if n <= s.len() { &s[..n] } else { s }
-}
-
-fn first_i64<'a>(s: &'a [i64], n: usize) -> &'a [i64] {
-    if n <= s.len() { &s[..n] } else { s }
-}
-
-fn first_u32<'a>(s: &'a [u32], n: usize) -> &'a [u32] {
-    if n <= s.len() { &s[..n] } else { s }
-}
+// ---- arrays: at most 32 elements, or 64 of 32 bits
 
 fn unsigneds(floats: bool, desk: &mut [u64], data: &[u8], buf: &mut [u8]) {
     let mut elements = [0u64; 32];
@@ -200,17 +114,6 @@ fn shows(code: u8, desk: &[u64], told: [u64; 10]) -> bool {
     }
 }
 
-fn tells(desk: &[u64], told: [u64; 10]) -> bool {
-    word(desk, 23) == told[2]
-        && word(desk, 24) == told[3]
-        && word(desk, 25) == told[4]
-        && word(desk, 26) == told[5]
-        && word(desk, 27) == told[6]
-        && word(desk, 28) == told[7]
-        && word(desk, 29) == told[8]
-        && word(desk, 30) == told[9]
-}
-
 fn gathered<'a>(desk: &[u64], buf: &'a [u8], chunk: &'a [u8], told: &[u8]) -> bool {
     let mut out = [0u8; 512];
     let n = trace::gatherer::part(desk, buf, chunk, &mut out);
@@ -254,7 +157,7 @@ fn step(code: u8, body: &[u8], t: Tally, desk: &mut [u64], room: &mut [u8]) -> T
     let bytes = part(body, ahead(body, from, n), body.len());
     lay(desk, 24, &given);
     let right = made(code, t.size, desk, data, bytes, room);
-    counted(t, right && tells(desk, told) && shows(code, desk, told))
+    counted(t, right && tells(desk, &told) && shows(code, desk, told))
 }
 
 // A fresh state, or another buffer; else a call.

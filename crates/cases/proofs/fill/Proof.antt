@@ -1,10 +1,10 @@
--- `replay::fill` is safe and ends: `i` counts to the length of `words`.
+-- `cases::fill` is safe and ends: `i` counts to the length of `words`.
 use borrow.Author.Needs.{needs}
 use mathlib.Core.Path.{_≡_}
 use lib.ListN.{length}
 use Prim.Native.Nat.{_-_, _≤_}
-use Rattle.replay.proofs.fill.Statement.{statement}
-use Rattle.replay.proofs.fill.Tie as tie
+use Rattle.cases.proofs.fill.Statement.{statement}
+use Rattle.cases.proofs.fill.Tie as tie
 
 abbrev Inv-loop : tie.InvT-loop
 Inv-loop body at widths words₀ from₀ left₀ i₀ words from left i = (length words ≡ length words₀) × (i ≤ length words₀)

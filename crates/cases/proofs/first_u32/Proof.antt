@@ -1,9 +1,9 @@
--- `replay::first_u32` is safe: the part has the length that is asked for.
+-- `cases::first_u32` is safe: the part has the length that is asked for.
 use borrow.Author.Needs.{needs}
 use mathlib.Core.Path.{sym}
 use lib.Seq.{length-take-le}
-use Rattle.replay.proofs.first_u32.Statement.{statement}
-use Rattle.replay.proofs.first_u32.Tie as tie
+use Rattle.cases.proofs.first_u32.Statement.{statement}
+use Rattle.cases.proofs.first_u32.Tie as tie
 
 slice-aggregate-result : tie.Need-slice-aggregate-result
 slice-aggregate-result c = sym (length-take-le _ _ (c .before .if1 .taken))

@@ -1,9 +1,9 @@
--- `replay::same` is safe and ends: `i` counts to the length of `a`.
+-- `cases::same` is safe and ends: `i` counts to the length of `a`.
 use borrow.Author.Needs.{needs}
 use lib.ListN.{length}
 use Prim.Native.Nat.{_-_, _≤_}
-use Rattle.replay.proofs.same.Statement.{statement}
-use Rattle.replay.proofs.same.Tie as tie
+use Rattle.cases.proofs.same.Statement.{statement}
+use Rattle.cases.proofs.same.Tie as tie
 
 abbrev Inv-loop : tie.InvT-loop
 Inv-loop a b i₀ i = i ≤ length a

@@ -2,12 +2,11 @@
 -- stay sound.
 use mathlib.Core.Path.{_≡_, refl, sym, ap, _∙_}
 use mathlib.Core.Bool.{Bool, true, false}
-use mathlib.Core.List.{List, [], _∷_}
 use Prim.Native.Nat.{ℕ, _≤_, _<_}
 use native.Mathlib.Omega.{arith}
 use lib.Dec.{leb, eqb}
-use lib.ListN.{length, drop, replicate}
-use borrow.Author.Tests.{leb-false, ltb-false, eqb-true, le-leb, lt-leb, le-ltb}
+use lib.ListN.{drop}
+use borrow.Author.Tests.{leb-false, ltb-false, le-leb, lt-leb, le-ltb}
 use Rattle.types.specs.Types.{refusal}
 use Rattle.held.specs.Places.{clean}
 use Rattle.straight.proofs.Straight.{clean-zeros}
@@ -15,7 +14,7 @@ use Rattle.buffers.specs.Moved.{movedBy}
 use Rattle.ostream.specs.declared.OStream.{OStream}
 use Rattle.ostream.specs.declared.Answer.the-variants.{Done}
 use Rattle.ostream.specs.declared.Count.the-variants.{Bytes, Refused}
-use Rattle.ostream.specs.Stream.{every, lazyDepth, soundStream, at, opened}
+use Rattle.ostream.specs.Stream.{every, soundStream, at, opened}
 use Rattle.ostream.specs.Emission.{Verdict, accepted, refusedWith, refused}
 use Rattle.ostream.specs.Buffer.{badBuffer, countedAt, countedBy, opening, draining, changing}
 use Rattle.ostream.proofs.Called.{both, is-sound}
@@ -32,26 +31,8 @@ pub opened-sound : (offset size : ℕ) → offset ≤ size → soundStream (open
 unfolding opened
 opened-sound offset size h = quiet (opened offset) size h refl (omega arith) clean-zeros
 
--- where no id is held, every place is zero
-zeros : (l : List ℕ) → clean l ≡ true → l ≡ replicate (length l) 0
-unfolding every
-zeros [] h = refl
-zeros (x ∷ xs) h =
-    let (a, b) = both (eqb x 0) (every (λ x. eqb x 0) xs) h in
-    ap (λ (y : ℕ). y ∷ xs) (eqb-true x 0 a) ∙ ap (λ (t : List ℕ). 0 ∷ t) (zeros xs b)
-
 pub unheld-clean : (s : OStream) (size : ℕ) → soundStream s size ≡ true → s .npending ≡ 0 → clean (s .pending) ≡ true
 unheld-clean s size h e = sym (ap (λ (n : ℕ). every (λ x. eqb x 0) (drop n (s .pending))) e) ∙ is-sound s size h .zeros
-
-pub unheld-zeros : (s : OStream) (size : ℕ) → soundStream s size ≡ true → s .npending ≡ 0 → length (s .pending) ≡ lazyDepth → s .pending ≡ replicate lazyDepth 0
-unheld-zeros s size h e n = zeros (s .pending) (unheld-clean s size h e) ∙ ap (λ (k : ℕ). replicate k 0) n
-
--- such a state is its position and its depth
-pub unheld-is : (s : OStream) (size : ℕ) → soundStream s size ≡ true → s .npending ≡ 0 → length (s .pending) ≡ lazyDepth
-    → s ≡ record { offset = s .offset; depth = s .depth; pending = replicate lazyDepth 0; npending = 0 }
-unheld-is s size h e n =
-    ap (λ (l : List ℕ). record { offset = s .offset; depth = s .depth; pending = l; npending = s .npending }) (unheld-zeros s size h e n)
-    ∙ ap (λ (k : ℕ). record { offset = s .offset; depth = s .depth; pending = replicate lazyDepth 0; npending = k }) e
 
 -- ---- by numbers
 
@@ -75,10 +56,6 @@ drain-refused s size h = simp h
 pub fit : (size offset : ℕ) (drained : Bool) → badBuffer size offset drained .fails ≡ false → offset ≤ size
 fit size offset true h = omega (arith, leb-false size offset h)
 fit size offset false h = ltb-false size offset h
-
--- one that is drained has a byte free
-pub fit-drained : (size offset : ℕ) → badBuffer size offset true .fails ≡ false → offset < size
-fit-drained size offset h = leb-false size offset h
 
 pub fits : (size offset : ℕ) (drained : Bool) → offset < size → badBuffer size offset drained .fails ≡ false
 fits size offset true h = lt-leb size offset h

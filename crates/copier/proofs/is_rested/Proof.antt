@@ -1,7 +1,6 @@
 -- `copier::is_rested`: the tests one after another.
 use Prim.Native.Nat.{ℕ, _+_}
 use mathlib.Core.Path.{_≡_, ap, _∙_}
-use native.Mathlib.Omega.{arith}
 use lib.ListN.{length, getD}
 use Rattle.copier.proofs.Rested.{beyond-buffer, too-deep, all-rested}
 use borrow.Author.Needs.{needs}

@@ -15,7 +15,7 @@ use Rattle.arrays.proofs.put_fp64_bits_array.Reads as reads
 use Rattle.arrays.proofs.put_fp64_bits_array.Lts as lts
 use Rattle.arrays.proofs.finish_floats.Reads as finish-floats-reads
 use Rattle.arrays.proofs.put_announced.Reads as put-announced-reads
-use Rattle.elements.proofs.put_fp64s.Reads as put-fp64s-reads
+use Rattle.floats.proofs.put_fp64s.Reads as put-fp64s-reads
 use Rattle.held.proofs.tagged.Reads as tagged-reads
 
 put-fp64s-requires : tie.Need-put-fp64s-requires

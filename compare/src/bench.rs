@@ -379,7 +379,7 @@ fn row(name: &str, bytes: &[u8], mut rust: impl FnMut() -> u64, mut port: impl F
     let [r, p, c] = best.map(|d| d.as_secs_f64());
     let rate = |t: f64| bytes.len() as f64 / t / 1e6;
     println!(
-        "| {name} | {} | {:.0} | {:.0} | {:.2} | {:.0} |{}",
+        "| {name} | {} | {:.0} | {:.0} | {:.2} | {:.1} |{}",
         bytes.len(),
         rate(r),
         rate(p),

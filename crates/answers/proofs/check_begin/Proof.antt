@@ -8,26 +8,14 @@ use Rattle.answers.proofs.check_begin.Lts as lts
 use Rattle.answers.proofs.failed.Reads as failed-reads
 use Rattle.answers.proofs.passed.Reads as passed-reads
 
-failed-requires : tie.Need-failed-requires
-failed-requires c κs = search needs
-
 returns : tie.Need-returns
 returns c = simp (c .before .if1 .taken) (c .failed .ensures)
-
-failed-requires-2 : tie.Need-failed-requires-2
-failed-requires-2 c κs = search needs
 
 returns-2 : tie.Need-returns-2
 returns-2 c = simp (c .before .before .if1 .left, le-leb _ _ (c .before .if2 .taken)) (c .failed2 .ensures)
 
-failed-requires-3 : tie.Need-failed-requires-3
-failed-requires-3 c κs = search needs
-
 returns-3 : tie.Need-returns-3
 returns-3 c = simp (c .before .before .before .if1 .left, lt-leb _ _ (c .before .before .if2 .left), lt-ltb _ _ (c .before .if3 .taken)) (c .failed3 .ensures)
-
-passed-requires : tie.Need-passed-requires
-passed-requires c κs = search needs
 
 returns-4 : tie.Need-returns-4
 returns-4 c = simp (c .before .before .before .if1 .left, lt-leb _ _ (c .before .before .if2 .left), le-ltb _ _ (c .before .if3 .left)) (c .passed .ensures)
@@ -36,11 +24,5 @@ pub check-begin-spec : {M : Type 1} → statement M
 check-begin-spec =
     tie.close
     (tie.spec
-    failed-requires
-    returns
-    failed-requires-2
-    returns-2
-    failed-requires-3
-    returns-3
-    passed-requires
-    returns-4)
+    (λ c κs. search needs) returns (λ c κs. search needs) returns-2 (λ c κs. search needs) returns-3
+    (λ c κs. search needs) returns-4)

@@ -9,23 +9,11 @@ use Rattle.answers.proofs.failed.Reads as failed-reads
 use Rattle.answers.proofs.passed.Reads as passed-reads
 use Rattle.answers.proofs.unfit.Reads as unfit-reads
 
-unfit-requires : tie.Need-unfit-requires
-unfit-requires c κs = search needs
-
-failed-requires : tie.Need-failed-requires
-failed-requires c κs = search needs
-
 returns : tie.Need-returns
 returns c = simp (sym (c .before .before .unfit .ensures) ∙ c .before .if1 .taken) (c .failed .ensures)
 
-failed-requires-2 : tie.Need-failed-requires-2
-failed-requires-2 c κs = search needs
-
 returns-2 : tie.Need-returns-2
 returns-2 c = simp (sym (c .before .before .before .unfit .ensures) ∙ c .before .before .if1 .left, c .before .if2 .taken) (c .failed2 .ensures)
-
-passed-requires : tie.Need-passed-requires
-passed-requires c κs = search needs
 
 returns-3 : tie.Need-returns-3
 returns-3 c = simp (sym (c .before .before .before .unfit .ensures) ∙ c .before .before .if1 .left, c .before .if2 .left) (c .passed .ensures)
@@ -34,10 +22,5 @@ pub check-change-spec : {M : Type 1} → statement M
 check-change-spec =
     tie.close
     (tie.spec
-    unfit-requires
-    failed-requires
-    returns
-    failed-requires-2
-    returns-2
-    passed-requires
+    (λ c κs. search needs) (λ c κs. search needs) returns (λ c κs. search needs) returns-2 (λ c κs. search needs)
     returns-3)

@@ -8,20 +8,11 @@ use Rattle.answers.proofs.check_end.Lts as lts
 use Rattle.answers.proofs.failed.Reads as failed-reads
 use Rattle.answers.proofs.passed.Reads as passed-reads
 
-failed-requires : tie.Need-failed-requires
-failed-requires c κs = search needs
-
 returns : tie.Need-returns
 returns c = simp (c .before .if1 .taken) (c .failed .ensures)
 
-failed-requires-2 : tie.Need-failed-requires-2
-failed-requires-2 c κs = search needs
-
 returns-2 : tie.Need-returns-2
 returns-2 c = simp (c .before .before .if1 .left, eq-eqb _ _ (c .before .if2 .taken)) (c .failed2 .ensures)
-
-passed-requires : tie.Need-passed-requires
-passed-requires c κs = search needs
 
 returns-3 : tie.Need-returns-3
 returns-3 c = simp (c .before .before .if1 .left, ne-eqb _ _ (c .before .if2 .left)) (c .passed .ensures)
@@ -29,4 +20,5 @@ returns-3 c = simp (c .before .before .if1 .left, ne-eqb _ _ (c .before .if2 .le
 pub check-end-spec : {M : Type 1} → statement M
 check-end-spec =
     tie.close
-    (tie.spec failed-requires returns failed-requires-2 returns-2 passed-requires returns-3)
+    (tie.spec
+    (λ c κs. search needs) returns (λ c κs. search needs) returns-2 (λ c κs. search needs) returns-3)

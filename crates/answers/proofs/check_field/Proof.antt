@@ -8,29 +8,14 @@ use Rattle.answers.proofs.check_field.Lts as lts
 use Rattle.answers.proofs.failed.Reads as failed-reads
 use Rattle.answers.proofs.passed.Reads as passed-reads
 
-failed-requires : tie.Need-failed-requires
-failed-requires c κs = search needs
-
 returns : tie.Need-returns
 returns c = simp (c .before .if1 .taken) (c .failed .ensures)
-
-failed-requires-2 : tie.Need-failed-requires-2
-failed-requires-2 c κs = search needs
 
 returns-2 : tie.Need-returns-2
 returns-2 c = simp (c .before .before .if1 .left, lt-ltb _ _ (c .before .if2 .taken)) (c .failed2 .ensures)
 
-cast-if3 : tie.Need-cast-if3
-cast-if3 c = search needs
-
-failed-requires-3 : tie.Need-failed-requires-3
-failed-requires-3 c κs = search needs
-
 returns-3 : tie.Need-returns-3
 returns-3 c = simp (c .before .before .before .if1 .left, le-ltb _ _ (c .before .before .if2 .left), lt-ltb _ _ (c .before .if3 .taken)) (c .failed3 .ensures)
-
-passed-requires : tie.Need-passed-requires
-passed-requires c κs = search needs
 
 returns-4 : tie.Need-returns-4
 returns-4 c = simp (c .before .before .before .if1 .left, le-ltb _ _ (c .before .before .if2 .left), le-ltb _ _ (c .before .if3 .left)) (c .passed .ensures)
@@ -39,12 +24,5 @@ pub check-field-spec : {M : Type 1} → statement M
 check-field-spec =
     tie.close
     (tie.spec
-    failed-requires
-    returns
-    failed-requires-2
-    returns-2
-    cast-if3
-    failed-requires-3
-    returns-3
-    passed-requires
-    returns-4)
+    (λ c κs. search needs) returns (λ c κs. search needs) returns-2 (λ c. search needs) (λ c κs. search needs)
+    returns-3 (λ c κs. search needs) returns-4)

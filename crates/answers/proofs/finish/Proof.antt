@@ -11,18 +11,6 @@ use Rattle.answers.proofs.least.Reads as least-reads
 returns : tie.Need-returns
 returns c = reaches-beyond _ _ _ _ (omega arith)
 
-sub-room : tie.Need-sub-room
-sub-room c = search needs
-
-least-requires : tie.Need-least-requires
-least-requires c κs = search needs
-
-add-end : tie.Need-add-end
-add-end c = search needs
-
-add-count : tie.Need-add-count
-add-count c = search needs
-
 returns-2 : tie.Need-returns-2
 returns-2 c =
     let m = c .before .least .ensures in
@@ -35,4 +23,6 @@ returns-3 c =
 
 pub finish-spec : {M : Type 1} → statement M
 finish-spec =
-    tie.close (tie.spec returns sub-room least-requires add-end add-count returns-2 returns-3)
+    tie.close
+    (tie.spec
+    returns (λ c. search needs) (λ c κs. search needs) (λ c. search needs) (λ c. search needs) returns-2 returns-3)

@@ -11,4 +11,5 @@ returns-2 : tie.Need-returns-2
 returns-2 c = simp (c .if1 .left)
 
 pub unfit-spec : {M : Type 1} → statement M
-unfit-spec = tie.close (tie.spec returns returns-2)
+unfit-spec =
+    tie.close (tie.spec returns returns-2)

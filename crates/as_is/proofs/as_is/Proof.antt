@@ -11,20 +11,8 @@ use Rattle.as_is.proofs.signed_elements.Reads as signed-elements-reads
 use Rattle.as_is.proofs.unsigned_elements.Reads as unsigned-elements-reads
 use Rattle.as_is.proofs.whole_fields.Reads as whole-fields-reads
 
-enum-known-phase : tie.Need-enum-known-phase
-enum-known-phase c = search needs
-
-whole-fields-requires : tie.Need-whole-fields-requires
-whole-fields-requires c κs = search needs
-
 returns : tie.Need-returns
 returns c = ahead-from _ _ _ _ _ (at-header (c .before .before .before .before .before .before .before .args .reader) _ (c .before .before .before .before .before .before .before .pre .0) (c .before .before .before .before .phase .given .1) (c .before .if1 .taken)) (c .whole-fields .ensures)
-
-none-requires : tie.Need-none-requires
-none-requires c κs = search needs
-
-enum-known-phase-2 : tie.Need-enum-known-phase-2
-enum-known-phase-2 c = search needs
 
 unsigned-elements-requires : tie.Need-unsigned-elements-requires
 unsigned-elements-requires c κs = let p = at-unsigned (c .before .before .before .before .before .before .before .args .reader) _ _ _ (c .before .before .before .before .before .before .before .pre .0) (c .before .before .before .before .phase2 .given .1) (c .before .if2 .taken) in (p .0, (p .1, c .if3 .taken))
@@ -32,35 +20,17 @@ unsigned-elements-requires c κs = let p = at-unsigned (c .before .before .befor
 returns-2 : tie.Need-returns-2
 returns-2 c = ahead-from _ _ _ _ _ (at-unsigned (c .before .before .before .before .before .before .before .before .args .reader) _ _ _ (c .before .before .before .before .before .before .before .before .pre .0) (c .before .before .before .before .before .phase2 .given .1) (c .before .before .if2 .taken) .2) (c .unsigned-elements .ensures)
 
-none-requires-2 : tie.Need-none-requires-2
-none-requires-2 c κs = search needs
-
-enum-known-phase-3 : tie.Need-enum-known-phase-3
-enum-known-phase-3 c = search needs
-
 signed-elements-requires : tie.Need-signed-elements-requires
 signed-elements-requires c κs = let p = at-signed (c .before .before .before .before .before .before .before .args .reader) _ _ _ (c .before .before .before .before .before .before .before .pre .0) (c .before .before .before .before .phase3 .given .1) (c .before .if4 .taken) in (p .0, (p .1, c .if5 .taken))
 
 returns-3 : tie.Need-returns-3
 returns-3 c = ahead-from _ _ _ _ _ (at-signed (c .before .before .before .before .before .before .before .before .args .reader) _ _ _ (c .before .before .before .before .before .before .before .before .pre .0) (c .before .before .before .before .before .phase3 .given .1) (c .before .before .if4 .taken) .2) (c .signed-elements .ensures)
 
-none-requires-3 : tie.Need-none-requires-3
-none-requires-3 c κs = search needs
-
-enum-known-phase-4 : tie.Need-enum-known-phase-4
-enum-known-phase-4 c = search needs
-
 float-elements-requires : tie.Need-float-elements-requires
 float-elements-requires c κs = let p = at-float (c .before .before .before .before .before .before .args .reader) _ _ _ _ _ (c .before .before .before .before .before .before .pre .0) (c .before .before .before .phase4 .given .1) (c .before .if6 .taken) in (p .0, (p .1, c .if7 .taken))
 
 returns-4 : tie.Need-returns-4
 returns-4 c = ahead-from _ _ _ _ _ (at-float (c .before .before .before .before .before .before .before .args .reader) _ _ _ _ _ (c .before .before .before .before .before .before .before .pre .0) (c .before .before .before .before .phase4 .given .1) (c .before .before .if6 .taken) .2) (c .float-elements .ensures)
-
-none-requires-4 : tie.Need-none-requires-4
-none-requires-4 c κs = search needs
-
-none-requires-5 : tie.Need-none-requires-5
-none-requires-5 c κs = search needs
 
 returns-5 : tie.Need-returns-5
 returns-5 c = none-is _ _ _ (c .before .before .before .before .before .before .before .pre .0) (c .before .before .before .before .before .before .before .pre .1) (c .none .ensures)
@@ -81,25 +51,7 @@ pub as-is-spec : {M : Type 1} → statement M
 as-is-spec =
     tie.close
     (tie.spec
-    enum-known-phase
-    whole-fields-requires
-    returns
-    none-requires
-    enum-known-phase-2
-    unsigned-elements-requires
-    returns-2
-    none-requires-2
-    enum-known-phase-3
-    signed-elements-requires
-    returns-3
-    none-requires-3
-    enum-known-phase-4
-    float-elements-requires
-    returns-4
-    none-requires-4
-    none-requires-5
-    returns-5
-    returns-6
-    returns-7
-    returns-8
-    returns-9)
+    (λ c. search needs) (λ c κs. search needs) returns (λ c κs. search needs) (λ c. search needs)
+    unsigned-elements-requires returns-2 (λ c κs. search needs) (λ c. search needs) signed-elements-requires returns-3
+    (λ c κs. search needs) (λ c. search needs) float-elements-requires returns-4 (λ c κs. search needs)
+    (λ c κs. search needs) returns-5 returns-6 returns-7 returns-8 returns-9)

@@ -11,15 +11,6 @@ use Rattle.as_is.proofs.signed_elements.Lts as lts
 use Rattle.own.proofs.elements.Reads as elements-reads
 use Rattle.phase.proofs.signeds.Reads as signeds-reads
 
-elements-requires : tie.Need-elements-requires
-elements-requires c κs = search needs
-
-sub-signeds : tie.Need-sub-signeds
-sub-signeds c = search needs
-
-signeds-requires : tie.Need-signeds-requires
-signeds-requires c κs = search needs
-
 returns : tie.Need-returns
 returns c =
     let f : Fits w8 (c .before .before .before .before .args .depth) = search needs in
@@ -27,4 +18,5 @@ returns c =
     (signeds-ahead _ _ _ _ _ _ (omega (arith, f .fits)) (c .before .before .before .before .pre .0) (c .before .before .before .before .pre .1 .0) (c .before .before .before .before .pre .1 .1) (c .before .before .elements .ensures .1) (c .before .before .elements .ensures .0) (c .before .before .elements .ensures .2))
 
 pub signed-elements-spec : {M : Type 1} → statement M
-signed-elements-spec = tie.close (tie.spec elements-requires sub-signeds signeds-requires returns)
+signed-elements-spec =
+    tie.close (tie.spec (λ c κs. search needs) (λ c. search needs) (λ c κs. search needs) returns)

@@ -8,17 +8,8 @@ use Rattle.as_is.proofs.some_floats.Reads as reads
 use Rattle.as_is.proofs.some_floats.Lts as lts
 use Rattle.types.proofs.FloatType.bytes.Reads as bytes-reads
 
-bytes-requires : tie.Need-bytes-requires
-bytes-requires c κs = search needs
-
-cast-whole : tie.Need-cast-whole
-cast-whole c = search needs
-
 div-whole : tie.Need-div-whole
 div-whole c = let p = float-width (c .before .args .w) in omega (arith, p .0, c .bytes .ensures)
-
-cast-result : tie.Need-cast-result
-cast-result c = search needs
 
 returns : tie.Need-returns
 returns c = (search needs, whole-floats (c .before .before .args .w) _ _ _ (c .before .bytes .ensures) (omega arith))
@@ -28,4 +19,4 @@ returns-2 c = (search needs, whole-floats (c .before .before .args .w) _ _ _ (c 
 
 pub some-floats-spec : {M : Type 1} → statement M
 some-floats-spec =
-    tie.close (tie.spec bytes-requires cast-whole div-whole cast-result returns returns-2)
+    tie.close (tie.spec (λ c κs. search needs) (λ c. search needs) div-whole (λ c. search needs) returns returns-2)

@@ -11,15 +11,6 @@ use Rattle.as_is.proofs.unsigned_elements.Lts as lts
 use Rattle.own.proofs.elements.Reads as elements-reads
 use Rattle.phase.proofs.unsigneds.Reads as unsigneds-reads
 
-elements-requires : tie.Need-elements-requires
-elements-requires c κs = search needs
-
-sub-unsigneds : tie.Need-sub-unsigneds
-sub-unsigneds c = search needs
-
-unsigneds-requires : tie.Need-unsigneds-requires
-unsigneds-requires c κs = search needs
-
 returns : tie.Need-returns
 returns c =
     let f : Fits w8 (c .before .before .before .before .args .depth) = search needs in
@@ -28,4 +19,4 @@ returns c =
 
 pub unsigned-elements-spec : {M : Type 1} → statement M
 unsigned-elements-spec =
-    tie.close (tie.spec elements-requires sub-unsigneds unsigneds-requires returns)
+    tie.close (tie.spec (λ c κs. search needs) (λ c. search needs) (λ c κs. search needs) returns)

@@ -11,16 +11,11 @@ use Rattle.as_is.proofs.whole_fields.Lts as lts
 use Rattle.own.proofs.fields.Reads as fields-reads
 use Rattle.phase.proofs.idle.Reads as idle-reads
 
-fields-requires : tie.Need-fields-requires
-fields-requires c κs = search needs
-
-idle-requires : tie.Need-idle-requires
-idle-requires c κs = search needs
-
 returns : tie.Need-returns
 returns c =
     let f : Fits w8 (c .before .fields .result .depth) = search needs in
     by-phase _ _ _ _ _ _ (c .idle .ensures) (fields-ahead _ _ _ _ (omega (arith, f .fits)) (c .before .fields .ensures .0) (c .before .fields .ensures .1))
 
 pub whole-fields-spec : {M : Type 1} → statement M
-whole-fields-spec = tie.close (tie.spec fields-requires idle-requires returns)
+whole-fields-spec =
+    tie.close (tie.spec (λ c κs. search needs) (λ c κs. search needs) returns)

@@ -9,48 +9,6 @@ use borrow.Author.Needs.{needs}
 use Rattle.at_once.proofs.field_at.Statement.{statement}
 use Rattle.at_once.proofs.field_at.Tie as tie
 
-varint-requires : tie.Need-varint-requires
-varint-requires c κs = search needs
-
-enum-known-found : tie.Need-enum-known-found
-enum-known-found c = search needs
-
-enum-told : tie.Need-enum-told
-enum-told c = search needs
-
-returns : tie.Need-returns
-returns c = search needs
-
-cast-if1 : tie.Need-cast-if1
-cast-if1 c = search needs
-
-returns-2 : tie.Need-returns-2
-returns-2 c = search needs
-
-cast-id : tie.Need-cast-id
-cast-id c = search needs
-
-cast-wire : tie.Need-cast-wire
-cast-wire c = search needs
-
-sequence-begin-requires : tie.Need-sequence-begin-requires
-sequence-begin-requires c κs = search needs
-
-raised-requires : tie.Need-raised-requires
-raised-requires c κs = search needs
-
-sequence-end-requires : tie.Need-sequence-end-requires
-sequence-end-requires c κs = search needs
-
-raised-requires-2 : tie.Need-raised-requires-2
-raised-requires-2 c κs = search needs
-
-value-at-requires : tie.Need-value-at-requires
-value-at-requires c κs = search needs
-
-returns-3 : tie.Need-returns-3
-returns-3 c = search needs
-
 returns-4 : tie.Need-returns-4
 returns-4 c =
     let f : Fits w8 (c .before .before .before .before .before .before .before .before .before .args .depth) = search needs in
@@ -69,20 +27,7 @@ pub field-at-spec : {M : Type 1} → statement M
 field-at-spec =
     tie.close
     (tie.spec
-    varint-requires
-    enum-known-found
-    enum-told
-    returns
-    cast-if1
-    returns-2
-    cast-id
-    cast-wire
-    sequence-begin-requires
-    raised-requires
-    sequence-end-requires
-    raised-requires-2
-    value-at-requires
-    returns-3
-    returns-4
-    returns-5
+    (λ c κs. search needs) (λ c. search needs) (λ c. search needs) (λ c. search needs) (λ c. search needs)
+    (λ c. search needs) (λ c. search needs) (λ c. search needs) (λ c κs. search needs) (λ c κs. search needs)
+    (λ c κs. search needs) (λ c κs. search needs) (λ c κs. search needs) (λ c. search needs) returns-4 returns-5
     returns-6)

@@ -6,19 +6,14 @@ use borrow.Author.Needs.{needs}
 use Rattle.at_once.proofs.raised.Statement.{statement}
 use Rattle.at_once.proofs.raised.Tie as tie
 
-enum-known-s : tie.Need-enum-known-s
-enum-known-s c = search needs
-
 returns : tie.Need-returns
 returns c =
     none-raised (c .before .args .n) (c .before .args .s) (c .match .keys2)
-
-done-requires : tie.Need-done-requires
-done-requires c κs = search needs
 
 returns-2 : tie.Need-returns-2
 returns-2 c =
     c .done .ensures ∙ sym (ap (raisedOf (c .before .before .before .before .args .n)) (c .before .before .s .given .1))
 
 pub raised-spec : {M : Type 1} → statement M
-raised-spec = tie.close (tie.spec enum-known-s returns done-requires returns-2)
+raised-spec =
+    tie.close (tie.spec (λ c. search needs) returns (λ c κs. search needs) returns-2)

@@ -15,30 +15,6 @@ use borrow.Author.Needs.{needs}
 use Rattle.at_once.proofs.signed_at.Statement.{statement}
 use Rattle.at_once.proofs.signed_at.Tie as tie
 
-varint-requires : tie.Need-varint-requires
-varint-requires c κs = search needs
-
-enum-known-found : tie.Need-enum-known-found
-enum-known-found c = search needs
-
-enum-told : tie.Need-enum-told
-enum-told c = search needs
-
-returns : tie.Need-returns
-returns c = search needs
-
-less-requires : tie.Need-less-requires
-less-requires c κs = search needs
-
-signeds-requires : tie.Need-signeds-requires
-signeds-requires c κs = search needs
-
-zigzag-decode-requires : tie.Need-zigzag-decode-requires
-zigzag-decode-requires c κs = search needs
-
-done-requires : tie.Need-done-requires
-done-requires c κs = search needs
-
 returns-2 : tie.Need-returns-2
 returns-2 c =
     let z : toZ w64 (ofZ w64 (c .before .before .before .zigzag-decode .result)) ≡ c .before .before .before .zigzag-decode .result = search needs in
@@ -48,12 +24,5 @@ pub signed-at-spec : {M : Type 1} → statement M
 signed-at-spec =
     tie.close
     (tie.spec
-    varint-requires
-    enum-known-found
-    enum-told
-    returns
-    zigzag-decode-requires
-    less-requires
-    signeds-requires
-    done-requires
-    returns-2)
+    (λ c κs. search needs) (λ c. search needs) (λ c. search needs) (λ c. search needs) (λ c κs. search needs)
+    (λ c κs. search needs) (λ c κs. search needs) (λ c κs. search needs) returns-2)

@@ -12,42 +12,6 @@ use borrow.Author.Needs.{needs}
 use Rattle.at_once.proofs.value_at.Statement.{statement}
 use Rattle.at_once.proofs.value_at.Tie as tie
 
-varint-requires : tie.Need-varint-requires
-varint-requires c κs = search needs
-
-enum-known-found : tie.Need-enum-known-found
-enum-known-found c = search needs
-
-enum-told : tie.Need-enum-told
-enum-told c = search needs
-
-returns : tie.Need-returns
-returns c = search needs
-
-idle-requires : tie.Need-idle-requires
-idle-requires c κs = search needs
-
-done-requires : tie.Need-done-requires
-done-requires c κs = search needs
-
-zigzag-decode-requires : tie.Need-zigzag-decode-requires
-zigzag-decode-requires c κs = search needs
-
-idle-requires-2 : tie.Need-idle-requires-2
-idle-requires-2 c κs = search needs
-
-done-requires-2 : tie.Need-done-requires-2
-done-requires-2 c κs = search needs
-
-cast-fixlen : tie.Need-cast-fixlen
-cast-fixlen c = search needs
-
-fixlen-requires : tie.Need-fixlen-requires
-fixlen-requires c κs = search needs
-
-raised-requires : tie.Need-raised-requires
-raised-requires c κs = search needs
-
 returns-2 : tie.Need-returns-2
 returns-2 c =
     unsigned-after (c .before .before .before .before .before .before .before .before .args .chunk .now) (c .before .before .before .before .before .before .before .before .args .at) (c .before .before .before .before .before .before .before .before .args .depth) (c .before .before .before .before .before .before .before .before .args .id) (c .before .before .before .before .before .before .before .before .args .wire) _ _ (c .done .result) (subst (λ (x : Found). Stands (c .before .before .before .before .before .before .before .before .args .chunk .now) (c .before .before .before .before .before .before .before .before .args .at) x) (c .before .before .before .before .found .given .1) (c .before .before .before .before .before .before .varint .ensures)) _ (c .before .before .match2 .keys1) (c .before .idle .ensures) (c .done .ensures)
@@ -62,26 +26,10 @@ returns-4 c =
     let f : Fits w8 (c .before .before .before .before .before .before .before .before .args .depth) = search needs in
     word-after (c .before .before .before .before .before .before .before .before .args .chunk .now) (c .before .before .before .before .before .before .before .before .args .at) (c .before .before .before .before .before .before .before .before .args .depth) (c .before .before .before .before .before .before .before .before .args .id) (c .before .before .before .before .before .before .before .before .args .wire) _ _ (c .raised .result) (subst (λ (x : Found). Stands (c .before .before .before .before .before .before .before .before .args .chunk .now) (c .before .before .before .before .before .before .before .before .args .at) x) (c .before .before .before .before .found .given .1) (c .before .before .before .before .before .before .varint .ensures)) _ (c .before .before .match2 .keys3) (f .fits) (c .before .before .before .before .before .before .before .before .pre) (c .before .fixlen .ensures) (c .raised .ensures)
 
-returns-5 : tie.Need-returns-5
-returns-5 c = search needs
-
 pub value-at-spec : {M : Type 1} → statement M
 value-at-spec =
     tie.close
     (tie.spec
-    varint-requires
-    enum-known-found
-    enum-told
-    returns
-    idle-requires
-    done-requires
-    zigzag-decode-requires
-    idle-requires-2
-    done-requires-2
-    cast-fixlen
-    fixlen-requires
-    raised-requires
-    returns-2
-    returns-3
-    returns-4
-    returns-5)
+    (λ c κs. search needs) (λ c. search needs) (λ c. search needs) (λ c. search needs) (λ c κs. search needs)
+    (λ c κs. search needs) (λ c κs. search needs) (λ c κs. search needs) (λ c κs. search needs) (λ c. search needs)
+    (λ c κs. search needs) (λ c κs. search needs) returns-2 returns-3 returns-4 (λ c. search needs))

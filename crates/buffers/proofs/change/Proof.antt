@@ -13,12 +13,6 @@ use Rattle.buffers.proofs.change.Lts as lts
 use Rattle.answers.proofs.check_change.Reads as check-change-reads
 use Rattle.held.proofs.sound_for.Reads as sound-for-reads
 
-sound-for-requires : tie.Need-sound-for-requires
-sound-for-requires c κs = search needs
-
-check-change-requires : tie.Need-check-change-requires
-check-change-requires c κs = search needs
-
 abbrev verdict : tie.After-check-change → Verdict
 verdict c = let a = c .before .before .args in judged (changeTests (soundWriter (a .pos) (a .depth) (a .held) (a .places) (a .old)) (a .new) (a .offset) (a .drained))
 
@@ -36,4 +30,5 @@ returns-2 c =
     sym (ap (λ (v : Verdict). movedBy v (a .pos) (a .offset)) (check-fails (verdict (c .before)) _ (judges (c .before)) (ap not (c .if1 .left))))
 
 pub change-spec : {M : Type 1} → statement M
-change-spec = tie.close (tie.spec sound-for-requires check-change-requires returns returns-2)
+change-spec =
+    tie.close (tie.spec (λ c κs. search needs) (λ c κs. search needs) returns returns-2)

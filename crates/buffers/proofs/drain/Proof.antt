@@ -7,9 +7,6 @@ use Rattle.buffers.proofs.drain.Reads as reads
 use Rattle.buffers.proofs.drain.Lts as lts
 use Rattle.held.proofs.sound_for.Reads as sound-for-reads
 
-sound-for-requires : tie.Need-sound-for-requires
-sound-for-requires c κs = search needs
-
 returns : tie.Need-returns
 returns c = simp (sym (c .before .sound-for .ensures) ∙ c .if1 .taken)
 
@@ -17,4 +14,5 @@ returns-2 : tie.Need-returns-2
 returns-2 c = simp (sym (c .before .sound-for .ensures) ∙ c .if1 .left)
 
 pub drain-spec : {M : Type 1} → statement M
-drain-spec = tie.close (tie.spec sound-for-requires returns returns-2)
+drain-spec =
+    tie.close (tie.spec (λ c κs. search needs) returns returns-2)

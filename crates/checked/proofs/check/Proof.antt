@@ -11,16 +11,11 @@ use Rattle.checked.proofs.check.Lts as lts
 use Rattle.answers.proofs.check_field.Reads as check-field-reads
 use Rattle.held.proofs.sound_for.Reads as sound-for-reads
 
-sound-for-requires : tie.Need-sound-for-requires
-sound-for-requires c κs = search needs
-
-check-field-requires : tie.Need-check-field-requires
-check-field-requires c κs = search needs
-
 returns : tie.Need-returns
 returns c =
     let a = c .before .before .args in
     c .check-field .ensures ∙ ap (λ (sound : Bool). checkOf (judged (tests sound (a .id) (a .len)))) (c .before .sound-for .ensures)
 
 pub check-spec : {M : Type 1} → statement M
-check-spec = tie.close (tie.spec sound-for-requires check-field-requires returns)
+check-spec =
+    tie.close (tie.spec (λ c κs. search needs) (λ c κs. search needs) returns)

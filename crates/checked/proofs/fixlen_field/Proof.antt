@@ -19,9 +19,6 @@ use Rattle.held.proofs.tagged.Reads as tagged-reads
 use Rattle.checked.proofs.check.Reads as check-reads
 use Rattle.types.proofs.FixlenType.raw.Reads as raw-reads
 
-check-requires : tie.Need-check-requires
-check-requires c κs = search needs
-
 returns : tie.Need-returns
 returns c =
     let a = c .before .before .before .before .before .args in
@@ -33,23 +30,11 @@ cast-tagged c =
     let n = may-go (a .pos) (a .depth) (a .held) (a .places) (a .buf .now) (a .id) (length (a .bytes .now)) _ (c .before .before .check .ensures) (c .if1 .left) .2 in
     record { fits = omega arith }
 
-raw-requires : tie.Need-raw-requires
-raw-requires c κs = search needs
-
-tagged-requires : tie.Need-tagged-requires
-tagged-requires c κs = search needs
-
-tagged-requires-2 : tie.Need-tagged-requires-2
-tagged-requires-2 c κs = search needs
-
 put-fixlen-field-requires : tie.Need-put-fixlen-field-requires
 put-fixlen-field-requires c κs =
     let a = c .before .before .before .before .before .before .before .before .before .args in
     let h = may-go (a .pos) (a .depth) (a .held) (a .places) (a .buf .now) (a .id) (length (a .bytes .now)) _ (c .before .before .before .before .before .before .check .ensures) (c .before .before .before .before .if1 .left) in
     (h .0, h .1)
-
-same-length : tie.Need-same-length
-same-length c = search needs
 
 returns-2 : tie.Need-returns-2
 unfolding fixlenBytes
@@ -65,12 +50,5 @@ pub fixlen-field-spec : {M : Type 1} → statement M
 fixlen-field-spec =
     tie.close
     (tie.spec
-    check-requires
-    returns
-    cast-tagged
-    raw-requires
-    tagged-requires
-    tagged-requires-2
-    put-fixlen-field-requires
-    same-length
-    returns-2)
+    (λ c κs. search needs) returns cast-tagged (λ c κs. search needs) (λ c κs. search needs) (λ c κs. search needs)
+    put-fixlen-field-requires (λ c. search needs) returns-2)

@@ -14,25 +14,16 @@ use Rattle.fields.proofs.put_varint_field.Reads as put-varint-field-reads
 use Rattle.held.proofs.tagged.Reads as tagged-reads
 use Rattle.checked.proofs.check.Reads as check-reads
 
-check-requires : tie.Need-check-requires
-check-requires c κs = search needs
-
 returns : tie.Need-returns
 returns c =
     let a = c .before .before .before .before .args in
     refuses (a .pos) (a .depth) (a .held) (a .places) (a .buf .now) (a .id) 0 _ (c .before .before .check .ensures) (shortest (a .id * 8 + a .wire) ++ shortest (a .value)) (a .place) (c .if1 .taken)
-
-tagged-requires : tie.Need-tagged-requires
-tagged-requires c κs = search needs
 
 put-varint-field-requires : tie.Need-put-varint-field-requires
 put-varint-field-requires c κs =
     let a = c .before .before .before .before .before .before .args in
     let h = may-go (a .pos) (a .depth) (a .held) (a .places) (a .buf .now) (a .id) 0 _ (c .before .before .before .before .check .ensures) (c .before .before .if1 .left) in
     (h .0, h .1)
-
-same-length : tie.Need-same-length
-same-length c = search needs
 
 returns-2 : tie.Need-returns-2
 returns-2 c =
@@ -45,9 +36,4 @@ pub varint-field-spec : {M : Type 1} → statement M
 varint-field-spec =
     tie.close
     (tie.spec
-    check-requires
-    returns
-    tagged-requires
-    put-varint-field-requires
-    same-length
-    returns-2)
+    (λ c κs. search needs) returns (λ c κs. search needs) put-varint-field-requires (λ c. search needs) returns-2)

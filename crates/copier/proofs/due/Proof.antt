@@ -10,15 +10,6 @@ use Rattle.copier.proofs.due.Tie as tie
 use Rattle.copier.proofs.due.Reads as reads
 use Rattle.copier.proofs.due.Lts as lts
 
-enum-known-phase : tie.Need-enum-known-phase
-enum-known-phase c = search needs
-
-enum-known-phase-2 : tie.Need-enum-known-phase-2
-enum-known-phase-2 c = search needs
-
-enum-known-phase-3 : tie.Need-enum-known-phase-3
-enum-known-phase-3 c = search needs
-
 returns : tie.Need-returns
 unfolding dueIn
 returns c = sym (ap (λ (p : Phase). dueIn (stateAt (c .before .before .before .args .reader .depth) p)) (c .before .phase .given .1))
@@ -38,10 +29,4 @@ pub due-spec : {M : Type 1} → statement M
 due-spec =
     tie.close
     (tie.spec
-    enum-known-phase
-    enum-known-phase-2
-    enum-known-phase-3
-    returns
-    returns-2
-    returns-3
-    returns-4)
+    (λ c. search needs) (λ c. search needs) (λ c. search needs) returns returns-2 returns-3 returns-4)

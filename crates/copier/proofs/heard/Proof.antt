@@ -8,24 +8,6 @@ use Rattle.copier.proofs.heard.Lts as lts
 use Rattle.copier.proofs.written.Reads as written-reads
 use Rattle.owed.proofs.owe.Reads as owe-reads
 
-enum-known-answer : tie.Need-enum-known-answer
-enum-known-answer c = search needs
-
-owe-requires : tie.Need-owe-requires
-owe-requires c κs = search needs
-
-written-requires : tie.Need-written-requires
-written-requires c κs = search needs
-
-enum-known-answer-2 : tie.Need-enum-known-answer-2
-enum-known-answer-2 c = search needs
-
-enum-known-answer-3 : tie.Need-enum-known-answer-3
-enum-known-answer-3 c = search needs
-
-same-length : tie.Need-same-length
-same-length c = search needs
-
 returns : tie.Need-returns
 returns c = heard-event (c .before .before .before .before .before .before .before .before .before .before .args .depth) (c .before .before .before .before .before .before .before .before .before .before .args .left) (c .before .before .before .before .before .before .before .before .before .before .args .fed) (c .before .before .before .before .before .before .before .before .before .before .args .pos) (c .before .before .before .before .before .before .before .before .before .before .args .buf .now) _ _ _ _ (c .before .before .before .before .before .before .answer .given .1) (c .before .before .before .before .owe .ensures) (c .before .before .written .ensures)
 
@@ -39,12 +21,5 @@ pub heard-spec : {M : Type 1} → statement M
 heard-spec =
     tie.close
     (tie.spec
-    enum-known-answer
-    owe-requires
-    written-requires
-    enum-known-answer-2
-    enum-known-answer-3
-    same-length
-    returns
-    returns-2
-    returns-3)
+    (λ c. search needs) (λ c κs. search needs) (λ c κs. search needs) (λ c. search needs) (λ c. search needs)
+    (λ c. search needs) returns returns-2 returns-3)

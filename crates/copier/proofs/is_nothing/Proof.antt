@@ -6,14 +6,9 @@ use Rattle.copier.proofs.is_nothing.Tie as tie
 use Rattle.copier.proofs.is_nothing.Reads as reads
 use Rattle.copier.proofs.is_nothing.Lts as lts
 
-enum-told : tie.Need-enum-told
-enum-told c = search needs
-
-returns : tie.Need-returns
-returns c = search needs
-
 returns-2 : tie.Need-returns-2
 returns-2 c = some-owed (c .before .args .owed) (c .match .keys2)
 
 pub is-nothing-spec : {M : Type 1} → statement M
-is-nothing-spec = tie.close (tie.spec enum-told returns returns-2)
+is-nothing-spec =
+    tie.close (tie.spec (λ c. search needs) (λ c. search needs) returns-2)

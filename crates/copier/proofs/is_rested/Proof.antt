@@ -16,39 +16,6 @@ returns c = beyond-buffer (c .before .args .offset) (c .before .args .depth) (c 
 returns-2 : tie.Need-returns-2
 returns-2 c = too-deep (c .before .before .args .offset) (c .before .before .args .depth) (c .before .before .args .t3) (c .before .before .args .size) (c .before .if1 .left) (c .if2 .taken)
 
-array-read-sum : tie.Need-array-read-sum
-array-read-sum c = search needs
-
-array-read-sum-2 : tie.Need-array-read-sum-2
-array-read-sum-2 c = search needs
-
-array-read-sum-3 : tie.Need-array-read-sum-3
-array-read-sum-3 c = search needs
-
-array-read-sum-4 : tie.Need-array-read-sum-4
-array-read-sum-4 c = search needs
-
-sum-requires : tie.Need-sum-requires
-sum-requires c κs = search needs
-
-array-read-sum-5 : tie.Need-array-read-sum-5
-array-read-sum-5 c = search needs
-
-array-read-sum-6 : tie.Need-array-read-sum-6
-array-read-sum-6 c = search needs
-
-array-read-sum-7 : tie.Need-array-read-sum-7
-array-read-sum-7 c = search needs
-
-array-read-sum-8 : tie.Need-array-read-sum-8
-array-read-sum-8 c = search needs
-
-sum-requires-2 : tie.Need-sum-requires-2
-sum-requires-2 c κs = search needs
-
-add-result : tie.Need-add-result
-add-result c = search needs
-
 returns-3 : tie.Need-returns-3
 returns-3 c =
     let l : length (c .before .before .before .before .args .t3) ≡ 8 = search needs in
@@ -59,17 +26,6 @@ pub is-rested-spec : {M : Type 1} → statement M
 is-rested-spec =
     tie.close
     (tie.spec
-    returns
-    returns-2
-    array-read-sum
-    array-read-sum-2
-    array-read-sum-3
-    array-read-sum-4
-    sum-requires
-    array-read-sum-5
-    array-read-sum-6
-    array-read-sum-7
-    array-read-sum-8
-    sum-requires-2
-    add-result
-    returns-3)
+    returns returns-2 (λ c. search needs) (λ c. search needs) (λ c. search needs) (λ c. search needs)
+    (λ c κs. search needs) (λ c. search needs) (λ c. search needs) (λ c. search needs) (λ c. search needs)
+    (λ c κs. search needs) (λ c. search needs) returns-3)

@@ -19,53 +19,14 @@ use Rattle.copier.proofs.piece.Reads as piece-reads
 use Rattle.emit.proofs.put_rest.Reads as put-rest-reads
 use Rattle.istream.proofs.IStream.feed.Reads as feed-reads
 
-enum-known-phase : tie.Need-enum-known-phase
-enum-known-phase c = search needs
-
-piece-requires : tie.Need-piece-requires
-piece-requires c κs = search needs
-
-same-length : tie.Need-same-length
-same-length c = search needs
-
-returns : tie.Need-returns
-returns c = search needs
-
-sub-least : tie.Need-sub-least
-sub-least c = search needs
-
-least-requires : tie.Need-least-requires
-least-requires c κs = search needs
-
 slice-aggregate-as-is : tie.Need-slice-aggregate-as-is
 slice-aggregate-as-is c = sym (length-take-le _ _ (omega (arith, c .before .least .ensures)))
-
-as-is-requires : tie.Need-as-is-requires
-as-is-requires c κs = search needs
 
 slice-aggregate-put-rest : tie.Need-slice-aggregate-put-rest
 slice-aggregate-put-rest c = let f = c .before .before .before .before .as-is .ensures .few in sym (length-take-le _ _ (omega (arith, f, length-take (c .before .before .before .before .before .before .least .result) (c .before .before .before .before .before .before .before .before .before .before .args .rest .now))))
 
-put-rest-requires : tie.Need-put-rest-requires
-put-rest-requires c κs = search needs
-
-same-length-2 : tie.Need-same-length-2
-same-length-2 c = search needs
-
 returns-2 : tie.Need-returns-2
 returns-2 c = went-is _ _ _ _ _ _ _ _ _ (ahead-went (c .before .before .before .before .before .before .before .before .before .before .before .before .before .args .reader) (c .before .before .before .before .before .before .before .before .before .before .before .before .before .args .pos) _ (c .before .before .before .before .before .before .before .before .before .before .before .before .before .args .rest .now) (c .before .before .before .before .before .before .before .before .before .before .before .before .before .args .buf .now) _ _ (c .before .before .before .before .before .before .before .before .before .before .before .before .before .pre .1 .1) (c .before .before .before .before .before .before .before .before .before .least .ensures) (c .before .before .before .before .before .before .before .as-is .ensures) (c .before .before .before .before .before .before .if1 .taken)) (c .before .before .put-rest .ensures)
-
-due-requires : tie.Need-due-requires
-due-requires c κs = search needs
-
-feed-requires : tie.Need-feed-requires
-feed-requires c κs = search needs
-
-heard-requires : tie.Need-heard-requires
-heard-requires c κs = search needs
-
-same-length-3 : tie.Need-same-length-3
-same-length-3 c = search needs
 
 returns-3 : tie.Need-returns-3
 returns-3 c = turned-by (c .before .before .before .before .before .before .before .before .before .before .before .before .before .args .reader) (c .before .before .before .before .before .before .before .before .before .before .before .before .before .args .pos) (c .before .before .before .before .before .before .before .before .before .before .before .before .before .args .rest .now) (c .before .before .before .before .before .before .before .before .before .before .before .before .before .args .buf .now) _ _ _ _ (c .before .before .before .before .before .due .ensures) (c .before .before .before .before .feed .ensures) (c .before .before .heard .ensures) (steady-turn (c .before .before .before .before .before .before .before .before .before .before .before .before .before .args .reader) (c .before .before .before .before .before .before .before .before .before .before .before .before .before .args .pos) (c .before .before .before .before .before .before .before .before .before .before .before .before .before .args .rest .now) (c .before .before .before .before .before .before .before .before .before .before .before .before .before .args .buf .now) (c .before .before .before .before .before .before .before .before .before .before .before .before .before .pre .1 .1) (c .before .before .before .before .before .before .before .before .before .before .before .before .before .pre .0) (c .before .before .before .before .before .before .before .before .before .before .before .before .before .pre .1 .0) (steady (c .before .before .before .before .before .before .before .before .before .before .before .before .before .args .reader) (c .before .before .before .before .before .before .before .before .before .before .before .before .before .pre .0) (c .before .before .before .before .before .before .before .before .before .before .before .before .before .pre .1 .0) (c .before .before .before .before .before .before .before .before .before .before .match .keys2)) (λ i. c .before .before .before .before .before .before .before .before .before .before .before .before .shared-slice-known .given i .fits))
@@ -74,20 +35,7 @@ pub one-event-spec : {M : Type 1} → statement M
 one-event-spec =
     tie.close
     (tie.spec
-    enum-known-phase
-    piece-requires
-    same-length
-    returns
-    sub-least
-    least-requires
-    slice-aggregate-as-is
-    as-is-requires
-    slice-aggregate-put-rest
-    put-rest-requires
-    same-length-2
-    returns-2
-    due-requires
-    feed-requires
-    heard-requires
-    same-length-3
-    returns-3)
+    (λ c. search needs) (λ c κs. search needs) (λ c. search needs) (λ c. search needs) (λ c. search needs)
+    (λ c κs. search needs) slice-aggregate-as-is (λ c κs. search needs) slice-aggregate-put-rest
+    (λ c κs. search needs) (λ c. search needs) returns-2 (λ c κs. search needs) (λ c κs. search needs)
+    (λ c κs. search needs) (λ c. search needs) returns-3)

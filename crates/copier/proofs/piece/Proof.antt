@@ -14,68 +14,23 @@ use Rattle.copier.proofs.within.Reads as within-reads
 use Rattle.emit.proofs.put_rest.Reads as put-rest-reads
 use Rattle.phase.proofs.idle.Reads as idle-reads
 
-within-requires : tie.Need-within-requires
-within-requires c κs = search needs
-
 returns : tie.Need-returns
 returns c = turned-is _ _ _ _ _ _ _ (c .within .ensures) (piece-none (c .before .before .before .before .args .reader) (c .before .before .before .before .args .id) (c .before .before .before .before .args .r) (c .before .before .before .before .args .total) (c .before .before .before .before .args .offset) (c .before .before .before .before .args .pos) (c .before .before .before .before .args .rest .now) (c .before .before .before .before .args .buf .now) (c .before .before .before .before .pre .1) (c .before .before .before .before .pre .0) (c .before .if1 .taken))
-
-sub-room : tie.Need-sub-room
-sub-room c = search needs
-
-within-requires-2 : tie.Need-within-requires-2
-within-requires-2 c κs = search needs
 
 returns-2 : tie.Need-returns-2
 returns-2 c = turned-is _ _ _ _ _ _ _ (c .within2 .ensures) (piece-full (c .before .before .before .before .before .args .reader) (c .before .before .before .before .before .args .id) (c .before .before .before .before .before .args .r) (c .before .before .before .before .before .args .total) (c .before .before .before .before .before .args .offset) (c .before .before .before .before .before .args .pos) (c .before .before .before .before .before .args .rest .now) (c .before .before .before .before .before .args .buf .now) (c .before .before .before .before .before .pre .1) (c .before .before .before .before .before .pre .0) (c .before .before .if1 .left) (c .before .if2 .taken))
 
-least-requires : tie.Need-least-requires
-least-requires c κs = search needs
-
 sub-least : tie.Need-sub-least
 sub-least c = let p = piece-small (c .before .before .before .before .before .args .reader) (c .before .before .before .before .before .args .id) (c .before .before .before .before .before .args .r) (c .before .before .before .before .before .args .total) (c .before .before .before .before .before .args .offset) (c .before .before .before .before .before .pre .0) in omega (arith, p .0)
-
-cast-least : tie.Need-cast-least
-cast-least c = search needs
-
-least-requires-2 : tie.Need-least-requires-2
-least-requires-2 c κs = search needs
 
 slice-aggregate-put-rest : tie.Need-slice-aggregate-put-rest
 slice-aggregate-put-rest c = let l = c .before .before .least2 .ensures in let k = c .before .before .before .least .ensures in sym (length-take-le _ _ (omega arith))
 
-put-rest-requires : tie.Need-put-rest-requires
-put-rest-requires c κs = search needs
-
-cast-at : tie.Need-cast-at
-cast-at c = search needs
-
-add-at : tie.Need-add-at
-add-at c = search needs
-
-within-requires-3 : tie.Need-within-requires-3
-within-requires-3 c κs = search needs
-
-same-length : tie.Need-same-length
-same-length c = search needs
-
 returns-3 : tie.Need-returns-3
 returns-3 c = turned-is _ _ _ _ _ _ _ (c .within3 .ensures) (piece-fills (c .before .before .before .before .before .before .before .before .before .before .before .before .before .before .args .reader) (c .before .before .before .before .before .before .before .before .before .before .before .before .before .before .args .id) (c .before .before .before .before .before .before .before .before .before .before .before .before .before .before .args .r) (c .before .before .before .before .before .before .before .before .before .before .before .before .before .before .args .total) (c .before .before .before .before .before .before .before .before .before .before .before .before .before .before .args .offset) (c .before .before .before .before .before .before .before .before .before .before .before .before .before .before .args .pos) (c .before .before .before .before .before .before .before .before .before .before .before .before .before .before .args .rest .now) (c .before .before .before .before .before .before .before .before .before .before .before .before .before .before .args .buf .now) (c .before .before .before .before .before .before .before .before .before .before .before .before .before .before .pre .1) (c .before .before .before .before .before .before .before .before .before .before .before .before .before .before .pre .0) (c .before .before .before .before .before .before .before .before .before .before .before .if1 .left) (c .before .before .before .before .before .before .before .before .before .before .if2 .left) (c .before .before .before .before .before .before .before .before .before .least .result) (c .before .before .before .before .before .before .before .before .least2 .result) (c .before .before .before .before .before .before .before .before .before .least .ensures) (c .before .before .before .before .before .before .before .before .least2 .ensures) (c .before .before .if3 .taken) (c .before .before .before .before .before .put-rest .result) _ (c .before .before .before .before .before .put-rest .ensures) (c .before .if4 .taken))
 
-within-requires-4 : tie.Need-within-requires-4
-within-requires-4 c κs = search needs
-
-same-length-2 : tie.Need-same-length-2
-same-length-2 c = search needs
-
 returns-4 : tie.Need-returns-4
 returns-4 c = turned-is _ _ _ _ _ _ _ (c .within4 .ensures) (piece-spends (c .before .before .before .before .before .before .before .before .before .before .before .before .before .before .args .reader) (c .before .before .before .before .before .before .before .before .before .before .before .before .before .before .args .id) (c .before .before .before .before .before .before .before .before .before .before .before .before .before .before .args .r) (c .before .before .before .before .before .before .before .before .before .before .before .before .before .before .args .total) (c .before .before .before .before .before .before .before .before .before .before .before .before .before .before .args .offset) (c .before .before .before .before .before .before .before .before .before .before .before .before .before .before .args .pos) (c .before .before .before .before .before .before .before .before .before .before .before .before .before .before .args .rest .now) (c .before .before .before .before .before .before .before .before .before .before .before .before .before .before .args .buf .now) (c .before .before .before .before .before .before .before .before .before .before .before .before .before .before .pre .1) (c .before .before .before .before .before .before .before .before .before .before .before .before .before .before .pre .0) (c .before .before .before .before .before .before .before .before .before .before .before .if1 .left) (c .before .before .before .before .before .before .before .before .before .before .if2 .left) (c .before .before .before .before .before .before .before .before .before .least .result) (c .before .before .before .before .before .before .before .before .least2 .result) (c .before .before .before .before .before .before .before .before .before .least .ensures) (c .before .before .before .before .before .before .before .before .least2 .ensures) (c .before .before .if3 .taken) (c .before .before .before .before .before .put-rest .result) _ (c .before .before .before .before .before .put-rest .ensures) (c .before .if4 .left))
-
-idle-requires : tie.Need-idle-requires
-idle-requires c κs = search needs
-
-same-length-3 : tie.Need-same-length-3
-same-length-3 c = search needs
 
 returns-5 : tie.Need-returns-5
 returns-5 c = went-is _ _ _ _ _ _ _ _ _ (piece-goes (c .before .before .before .before .before .before .before .before .before .before .before .before .before .args .reader) (c .before .before .before .before .before .before .before .before .before .before .before .before .before .args .id) (c .before .before .before .before .before .before .before .before .before .before .before .before .before .args .r) (c .before .before .before .before .before .before .before .before .before .before .before .before .before .args .total) (c .before .before .before .before .before .before .before .before .before .before .before .before .before .args .offset) (c .before .before .before .before .before .before .before .before .before .before .before .before .before .args .pos) (c .before .before .before .before .before .before .before .before .before .before .before .before .before .args .rest .now) (c .before .before .before .before .before .before .before .before .before .before .before .before .before .args .buf .now) (c .before .before .before .before .before .before .before .before .before .before .before .before .before .pre .1) (c .before .before .before .before .before .before .before .before .before .before .before .before .before .pre .0) (c .before .before .before .before .before .before .before .before .before .before .if1 .left) (c .before .before .before .before .before .before .before .before .before .if2 .left) (c .before .before .before .before .before .before .before .before .least .result) (c .before .before .before .before .before .before .before .least2 .result) (c .before .before .before .before .before .before .before .before .least .ensures) (c .before .before .before .before .before .before .before .least2 .ensures) (c .idle .result) (past-end (c .before .before .before .before .before .before .before .before .before .before .before .before .before .args .id) (c .before .before .before .before .before .before .before .before .before .before .before .before .before .args .r) (c .before .before .before .before .before .before .before .before .before .before .before .before .before .args .total) (c .before .before .before .before .before .before .before .before .before .before .before .before .before .args .offset) _ _ (c .idle .ensures) (c .before .if3 .left))) (c .before .before .before .before .put-rest .ensures)
@@ -84,25 +39,7 @@ pub piece-spec : {M : Type 1} → statement M
 piece-spec =
     tie.close
     (tie.spec
-    within-requires
-    returns
-    sub-room
-    within-requires-2
-    returns-2
-    least-requires
-    sub-least
-    cast-least
-    least-requires-2
-    slice-aggregate-put-rest
-    put-rest-requires
-    cast-at
-    add-at
-    within-requires-3
-    same-length
-    returns-3
-    within-requires-4
-    same-length-2
-    returns-4
-    idle-requires
-    same-length-3
-    returns-5)
+    (λ c κs. search needs) returns (λ c. search needs) (λ c κs. search needs) returns-2 (λ c κs. search needs)
+    sub-least (λ c. search needs) (λ c κs. search needs) slice-aggregate-put-rest (λ c κs. search needs)
+    (λ c. search needs) (λ c. search needs) (λ c κs. search needs) (λ c. search needs) returns-3
+    (λ c κs. search needs) (λ c. search needs) returns-4 (λ c κs. search needs) (λ c. search needs) returns-5)

@@ -30,20 +30,8 @@ abbrev μ-loop : tie.MeasureT-loop
 loop-holds : tie.Need-loop-holds Inv-loop μ-loop
 loop-holds c = going-start (c .before .before .args .reader) (c .before .before .args .start) (c .before .before .args .chunk .now) (c .before .before .args .buf .now) (c .before .before .pre .0) (c .before .before .pre .1 .0) (c .before .before .pre .1 .1)
 
-sub-one-event : tie.Need-sub-one-event Inv-loop μ-loop
-sub-one-event c = search needs
-
-part-one-event-start : tie.Need-part-one-event-start Inv-loop μ-loop
-part-one-event-start c = search needs
-
-part-one-event-end : tie.Need-part-one-event-end Inv-loop μ-loop
-part-one-event-end c = search needs
-
 one-event-requires : tie.Need-one-event-requires Inv-loop μ-loop
 one-event-requires c κs = (c .before .before .loop .inv .sound, (c .before .before .loop .inv .live, c .before .before .loop .inv .within))
-
-enum-known-t : tie.Need-enum-known-t Inv-loop μ-loop
-enum-known-t c = search needs
 
 add-used : tie.Need-add-used Inv-loop μ-loop
 add-used c = let w = subst (λ (t : Turn). Turned (c .before .before .before .before .before .before .before .before .loop .at) (c .before .before .before .before .before .before .before .before .loop .pos) (drop (c .before .before .before .before .before .before .before .before .loop .used) (c .before .before .before .before .before .before .before .before .before .before .before .args .chunk .now)) (c .before .before .before .before .before .before .before .before .loop .buf) t (c .before .before .before .before .before .one-event .last .1 .1 .1 .0)) (c .before .t .given .1) (subst (λ (x : List ℕ). Turned (c .before .before .before .before .before .before .before .before .loop .at) (c .before .before .before .before .before .before .before .before .loop .pos) x (c .before .before .before .before .before .before .before .before .loop .buf) (c .before .before .before .before .before .one-event .result) (c .before .before .before .before .before .one-event .last .1 .1 .1 .0)) (rest-is-whole (c .before .before .before .before .before .before .before .before .loop .used) (c .before .before .before .before .before .before .before .before .before .before .before .args .chunk .now)) (c .before .before .before .before .before .one-event .ensures)) in let k = w .few in let u = c .before .before .before .before .before .before .before .before .loop .inv .used in let l = length-drop (c .before .before .before .before .before .before .before .before .loop .used) (c .before .before .before .before .before .before .before .before .before .before .before .args .chunk .now) in let g : length (c .before .before .before .before .before .before .before .before .before .before .before .args .chunk .now) < 18446744073709551616 = c .before .before .before .before .before .before .before .before .before .before .before .good .1 .1 .0 .0 in record { fits = omega arith }
@@ -54,14 +42,8 @@ loop-less c = going-less (c .before .before .before .before .before .before .bef
 loop-again : tie.Need-loop-again Inv-loop μ-loop
 loop-again c = going-next (c .before .before .before .before .before .before .before .before .before .before .before .args .reader) (c .before .before .before .before .before .before .before .before .before .before .before .args .start) (c .before .before .before .before .before .before .before .before .before .before .before .args .chunk .now) (c .before .before .before .before .before .before .before .before .before .before .before .args .buf .now) (c .before .before .before .before .before .before .before .before .loop .buf) (c .before .before .before .before .before .before .before .before .loop .at) (c .before .before .before .before .before .before .before .before .loop .pos) (c .before .before .before .before .before .before .before .before .loop .used) (c .before .before .before .before .before .before .before .before .loop .inv) _ _ _ _ (subst (λ (t : Turn). Turned (c .before .before .before .before .before .before .before .before .loop .at) (c .before .before .before .before .before .before .before .before .loop .pos) (drop (c .before .before .before .before .before .before .before .before .loop .used) (c .before .before .before .before .before .before .before .before .before .before .before .args .chunk .now)) (c .before .before .before .before .before .before .before .before .loop .buf) t (c .before .before .before .before .before .one-event .last .1 .1 .1 .0)) (c .before .t .given .1) (subst (λ (x : List ℕ). Turned (c .before .before .before .before .before .before .before .before .loop .at) (c .before .before .before .before .before .before .before .before .loop .pos) x (c .before .before .before .before .before .before .before .before .loop .buf) (c .before .before .before .before .before .one-event .result) (c .before .before .before .before .before .one-event .last .1 .1 .1 .0)) (rest-is-whole (c .before .before .before .before .before .before .before .before .loop .used) (c .before .before .before .before .before .before .before .before .before .before .before .args .chunk .now)) (c .before .before .before .before .before .one-event .ensures)))
 
-enum-known-t-2 : tie.Need-enum-known-t-2 Inv-loop μ-loop
-enum-known-t-2 c = search needs
-
 later-requires : tie.Need-later-requires Inv-loop μ-loop
 later-requires c κs = let u = stop-used (c .before .before .before .before .before .before .before .before .before .before .before .args .reader) (c .before .before .before .before .before .before .before .before .before .before .before .args .start) (c .before .before .before .before .before .before .before .before .before .before .before .args .chunk .now) (c .before .before .before .before .before .before .before .before .before .before .before .args .buf .now) (c .before .before .before .before .before .before .before .before .loop .buf) (c .before .before .before .before .before .before .before .before .loop .at) (c .before .before .before .before .before .before .before .before .loop .pos) (c .before .before .before .before .before .before .before .before .loop .used) (c .before .before .before .before .before .before .before .before .loop .inv) (c .before .t2 .given .0 .0) (c .before .before .before .before .before .one-event .last .1 .1 .1 .0) (subst (λ (t : Turn). Turned (c .before .before .before .before .before .before .before .before .loop .at) (c .before .before .before .before .before .before .before .before .loop .pos) (drop (c .before .before .before .before .before .before .before .before .loop .used) (c .before .before .before .before .before .before .before .before .before .before .before .args .chunk .now)) (c .before .before .before .before .before .before .before .before .loop .buf) t (c .before .before .before .before .before .one-event .last .1 .1 .1 .0)) (c .before .t2 .given .1) (subst (λ (x : List ℕ). Turned (c .before .before .before .before .before .before .before .before .loop .at) (c .before .before .before .before .before .before .before .before .loop .pos) x (c .before .before .before .before .before .before .before .before .loop .buf) (c .before .before .before .before .before .one-event .result) (c .before .before .before .before .before .one-event .last .1 .1 .1 .0)) (rest-is-whole (c .before .before .before .before .before .before .before .before .loop .used) (c .before .before .before .before .before .before .before .before .before .before .before .args .chunk .now)) (c .before .before .before .before .before .one-event .ensures))) in let g : length (c .before .before .before .before .before .before .before .before .before .before .before .args .chunk .now) < 18446744073709551616 = c .before .before .before .before .before .before .before .before .before .before .before .good .1 .1 .0 .0 in omega arith
-
-same-length : tie.Need-same-length Inv-loop μ-loop
-same-length c = search needs
 
 returns : tie.Need-returns Inv-loop μ-loop
 returns c = ran-by (c .before .before .before .before .before .before .before .before .before .before .before .before .args .reader) (c .before .before .before .before .before .before .before .before .before .before .before .before .args .start) (c .before .before .before .before .before .before .before .before .before .before .before .before .args .chunk .now) (c .before .before .before .before .before .before .before .before .before .before .before .before .args .buf .now) (c .later .result) (later (c .before .before .before .before .before .before .before .before .before .loop .used) (c .before .before .t2 .given .0 .0)) (c .before .before .before .before .before .before .one-event .last .1 .1 .1 .0) (c .later .ensures) (going-stop (c .before .before .before .before .before .before .before .before .before .before .before .before .args .reader) (c .before .before .before .before .before .before .before .before .before .before .before .before .args .start) (c .before .before .before .before .before .before .before .before .before .before .before .before .args .chunk .now) (c .before .before .before .before .before .before .before .before .before .before .before .before .args .buf .now) (c .before .before .before .before .before .before .before .before .before .loop .buf) (c .before .before .before .before .before .before .before .before .before .loop .at) (c .before .before .before .before .before .before .before .before .before .loop .pos) (c .before .before .before .before .before .before .before .before .before .loop .used) (c .before .before .before .before .before .before .before .before .before .loop .inv) (c .before .before .t2 .given .0 .0) (c .before .before .before .before .before .before .one-event .last .1 .1 .1 .0) (subst (λ (t : Turn). Turned (c .before .before .before .before .before .before .before .before .before .loop .at) (c .before .before .before .before .before .before .before .before .before .loop .pos) (drop (c .before .before .before .before .before .before .before .before .before .loop .used) (c .before .before .before .before .before .before .before .before .before .before .before .before .args .chunk .now)) (c .before .before .before .before .before .before .before .before .before .loop .buf) t (c .before .before .before .before .before .before .one-event .last .1 .1 .1 .0)) (c .before .before .t2 .given .1) (subst (λ (x : List ℕ). Turned (c .before .before .before .before .before .before .before .before .before .loop .at) (c .before .before .before .before .before .before .before .before .before .loop .pos) x (c .before .before .before .before .before .before .before .before .before .loop .buf) (c .before .before .before .before .before .before .one-event .result) (c .before .before .before .before .before .before .one-event .last .1 .1 .1 .0)) (rest-is-whole (c .before .before .before .before .before .before .before .before .before .loop .used) (c .before .before .before .before .before .before .before .before .before .before .before .before .args .chunk .now)) (c .before .before .before .before .before .before .one-event .ensures))))
@@ -70,18 +52,5 @@ pub run-spec : {M : Type 1} → statement M
 run-spec =
     tie.close
     (tie.spec
-    Inv-loop
-    μ-loop
-    loop-holds
-    sub-one-event
-    part-one-event-start
-    part-one-event-end
-    one-event-requires
-    enum-known-t
-    add-used
-    loop-less
-    loop-again
-    enum-known-t-2
-    later-requires
-    same-length
-    returns)
+    Inv-loop μ-loop loop-holds (λ c. search needs) (λ c. search needs) (λ c. search needs) one-event-requires
+    (λ c. search needs) add-used loop-less loop-again (λ c. search needs) later-requires (λ c. search needs) returns)

@@ -15,26 +15,8 @@ use Rattle.owed.proofs.Output.put.Reads as put-reads
 use Rattle.owed.proofs.Output.put_fitting.Reads as put-fitting-reads
 use Rattle.owed.proofs.Owed.output.Reads as output-reads
 
-output-requires : tie.Need-output-requires
-output-requires c κs = search needs
-
-sub-room : tie.Need-sub-room
-sub-room c = search needs
-
-put-fitting-requires : tie.Need-put-fitting-requires
-put-fitting-requires c κs = search needs
-
-same-length : tie.Need-same-length
-same-length c = search needs
-
 returns : tie.Need-returns
 returns c = let e = c .before .before .put-fitting .ensures in let l = e .2 in let t = c .before .before .before .before .if1 .taken in event-fits (c .before .before .before .before .before .before .before .args .depth) (c .before .before .before .before .before .before .before .args .owed) (c .before .before .before .before .before .before .before .args .read) (c .before .before .before .before .before .before .before .args .reader) (c .before .before .before .before .before .before .before .args .pos) (c .before .before .before .before .before .before .before .args .buf .now) (c .before .before .put-fitting .result) (length (outputBytes (c .before .before .before .before .before .output .result))) _ (c .before .before .before .before .before .output .result) (c .before .before .before .before .before .output .ensures) refl (e .0, e .1) (omega arith)
-
-len-requires : tie.Need-len-requires
-len-requires c κs = search needs
-
-put-requires : tie.Need-put-requires
-put-requires c κs = search needs
 
 sub-t20 : tie.Need-sub-t20
 sub-t20 c = let e = c .before .before .before .put .ensures .0 in let r = reached-is (c .before .before .before .before .before .before .before .before .before .args .buf .now) (c .before .before .before .before .before .before .before .before .before .args .pos) (drop 0 (outputBytes (c .before .before .before .before .before .before .before .output .result))) in omega arith
@@ -42,17 +24,16 @@ sub-t20 c = let e = c .before .before .before .put .ensures .0 in let r = reache
 cast-t21 : tie.Need-cast-t21
 cast-t21 c = let e = c .before .before .before .put .ensures .0 in let r = reached-is (c .before .before .before .before .before .before .before .before .before .args .buf .now) (c .before .before .before .before .before .before .before .before .before .args .pos) (drop 0 (outputBytes (c .before .before .before .before .before .before .before .output .result))) in let l = c .before .before .before .before .before .len .ensures in record { fits = omega (arith, l .0, l .1) }
 
-same-length-2 : tie.Need-same-length-2
-same-length-2 c = search needs
-
 returns-2 : tie.Need-returns-2
 returns-2 c = event-full (c .before .before .before .before .before .before .before .before .before .args .depth) (c .before .before .before .before .before .before .before .before .before .args .owed) (c .before .before .before .before .before .before .before .before .before .args .read) (c .before .before .before .before .before .before .before .before .before .args .reader) (c .before .before .before .before .before .before .before .before .before .args .pos) (c .before .before .before .before .before .before .before .before .before .args .buf .now) (c .before .before .before .put .result) (c .before .before .before .before .before .len .result) _ (c .before .before .before .before .before .before .before .output .result) (c .before .before .before .before .before .before .before .output .ensures) (c .before .before .before .before .before .len .ensures .0) (c .before .before .before .put .ensures) (c .if2 .taken)
-
-same-length-3 : tie.Need-same-length-3
-same-length-3 c = search needs
 
 returns-3 : tie.Need-returns-3
 returns-3 c = event-fits (c .before .before .before .before .before .before .before .before .before .args .depth) (c .before .before .before .before .before .before .before .before .before .args .owed) (c .before .before .before .before .before .before .before .before .before .args .read) (c .before .before .before .before .before .before .before .before .before .args .reader) (c .before .before .before .before .before .before .before .before .before .args .pos) (c .before .before .before .before .before .before .before .before .before .args .buf .now) (c .before .before .before .put .result) (c .before .before .before .before .before .len .result) _ (c .before .before .before .before .before .before .before .output .result) (c .before .before .before .before .before .before .before .output .ensures) (c .before .before .before .before .before .len .ensures .0) (c .before .before .before .put .ensures) (c .if2 .left)
 
 pub written-spec : {M : Type 1} → statement M
-written-spec = tie.close (tie.spec output-requires sub-room put-fitting-requires same-length returns len-requires put-requires sub-t20 cast-t21 same-length-2 returns-2 same-length-3 returns-3)
+written-spec =
+    tie.close
+    (tie.spec
+    (λ c κs. search needs) (λ c. search needs) (λ c κs. search needs) (λ c. search needs) returns
+    (λ c κs. search needs) (λ c κs. search needs) sub-t20 cast-t21 (λ c. search needs) returns-2 (λ c. search needs)
+    returns-3)

@@ -24,8 +24,10 @@ put-fitting-spec =
     tie.close
     (tie.spec
     (λ c. search needs) (λ c. search needs) (λ c. search needs) (λ c. search needs) returns (λ c. search needs)
-    (λ c. search needs) (λ c. search needs) (λ c. search needs) (λ c. search needs) (λ c. let h = c .before .before .before .pre in simp length-set (omega arith))
-    (λ c. search needs) (λ c. search needs) returns-2 (λ c. search needs) (λ c. search needs) (λ c. search needs)
+    (λ c. search needs) (λ c. search needs) (λ c. search needs) (λ c. search needs)
+    (λ c. let h = c .before .before .before .pre in simp length-set (omega arith)) (λ c. search needs)
+    (λ c. search needs) returns-2 (λ c. search needs) (λ c. search needs) (λ c. search needs)
     (λ c. let h = c .before .before .before .pre in simp length-set (omega arith)) (λ c. search needs)
     (λ c κs. let h = c .before .before .before .before .pre in simp length-set (omega arith))
-    (λ c. let h = c .before .before .before .before .before .before .before .pre in same-size _ _ _ _ _ (omega arith) (done c)) done)
+    (λ c. let h = c .before .before .before .before .before .before .before .pre in same-size _ _ _ _ _ (omega arith) (done c))
+    done)

@@ -50,6 +50,6 @@ pub put-part-spec : {M : Type 1} → statement M
 put-part-spec =
     tie.close
     (tie.spec
-    (λ c. omega (arith, ltb-true)) put-four-requires (λ c. search needs) returns put-eight-requires (λ c. search needs)
-    returns-2 (λ c. search needs) (λ c. search needs) (λ c. search needs) (λ c κs. search needs) (λ c. search needs)
-    returns-3)
+    (λ c. omega (arith, ltb-true)) put-four-requires (λ c. search needs) returns put-eight-requires
+    (λ c. search needs) returns-2 (λ c. search needs) (λ c. search needs) (λ c. search needs) (λ c κs. search needs)
+    (λ c. search needs) returns-3)

@@ -43,5 +43,5 @@ pub put-fours-spec : {M : Type 1} → statement M
 put-fours-spec =
     tie.close
     (tie.spec
-    Inv-loop μ-loop loop-holds (λ c. search needs) (λ c. search needs) cast-put-four put-four-requires (λ c. search needs)
-    (λ c. search needs) loop-again same-length returns)
+    Inv-loop μ-loop loop-holds (λ c. search needs) (λ c. search needs) cast-put-four put-four-requires
+    (λ c. search needs) (λ c. search needs) loop-again same-length returns)

@@ -59,9 +59,9 @@ put-fp32s-spec =
     tie.close
     (tie.spec
     (λ c κs. search needs) returns (λ c. search needs) (λ c. search needs)
-    (λ c. omega (arith, c .before .shared-slice-known2 .given (c .before .before .before .evenly-out .result .whole))) put-part-requires
-    (λ c. search needs) (λ c. begun c .inside) (λ c. search needs) (λ c κs. search needs) (λ c. search needs)
-    (λ c. search needs) (λ c. search needs) (λ c. search needs) (λ c. search needs) put-fours-requires
-    (λ c. search needs) returns-2 (λ c. search needs) (λ c. search needs)
+    (λ c. omega (arith, c .before .shared-slice-known2 .given (c .before .before .before .evenly-out .result .whole)))
+    put-part-requires (λ c. search needs) (λ c. begun c .inside) (λ c. search needs) (λ c κs. search needs)
+    (λ c. search needs) (λ c. search needs) (λ c. search needs) (λ c. search needs) (λ c. search needs)
+    put-fours-requires (λ c. search needs) returns-2 (λ c. search needs) (λ c. search needs)
     (λ c. omega (arith, c .before .shared-slice-known3 .given (c .before .before .before .before .before .before .before .before .before .before .before .before .before .before .before .evenly-out .result .whole + 1 + c .before .before .before .before .before .before .before .before .least .result)))
     (λ c κs. search needs) (λ c. search needs) returns-3)

@@ -21,15 +21,6 @@ shifted a m n r q h = go (leb a (r - (m + 20))) refl
     go true e = let l : a ≤ r - (m + 20) = leb-true _ _ e in sym (le-leb (n + 20 + a) r (omega arith))
     go false e = let l : r - (m + 20) < a = leb-false _ _ e in sym (lt-leb (n + 20 + a) r (omega arith))
 
-sub-room : tie.Need-sub-room
-sub-room c = search needs
-
-held-len-requires : tie.Need-held-len-requires
-held-len-requires c κs = search needs
-
-add-head : tie.Need-add-head
-add-head c = search needs
-
 returns : tie.Need-returns
 returns c = let a = c .before .before .args in let e = c .before .held-len .ensures .0 in sym (lt-leb (length (headersOf (a .held) (a .places)) + 20 + a .more) (a .size - a .pos) (omega arith))
 
@@ -37,4 +28,5 @@ returns-2 : tie.Need-returns-2
 returns-2 c = shifted _ _ _ _ (c .before .held-len .ensures .0) (c .if1 .left)
 
 pub has-room-behind-spec : {M : Type 1} → statement M
-has-room-behind-spec = tie.close (tie.spec sub-room held-len-requires add-head returns returns-2)
+has-room-behind-spec =
+    tie.close (tie.spec (λ c. search needs) (λ c κs. search needs) (λ c. search needs) returns returns-2)

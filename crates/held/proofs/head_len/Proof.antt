@@ -13,21 +13,12 @@ use Rattle.held.proofs.head_len.Lts as lts
 use Rattle.held.proofs.held_len.Reads as held-len-reads
 use Rattle.varint.proofs.varint_len.Reads as varint-len-reads
 
-held-len-requires : tie.Need-held-len-requires
-held-len-requires c κs = search needs
-
-varint-len-requires : tie.Need-varint-len-requires
-varint-len-requires c κs = search needs
-
 add-result : tie.Need-add-result
 add-result c =
     let h = length-64 (c .before .before .args .header) (c .before .before .fits .header .fits) in
     let e = c .varint-len .ensures in
     let l = c .before .held-len .ensures .1 in
     record { fits = omega arith }
-
-varint-len-requires-2 : tie.Need-varint-len-requires-2
-varint-len-requires-2 c κs = search needs
 
 add-result-2 : tie.Need-add-result-2
 add-result-2 c =
@@ -55,9 +46,4 @@ pub head-len-spec : {M : Type 1} → statement M
 head-len-spec =
     tie.close
     (tie.spec
-    held-len-requires
-    varint-len-requires
-    add-result
-    varint-len-requires-2
-    add-result-2
-    returns)
+    (λ c κs. search needs) (λ c κs. search needs) add-result (λ c κs. search needs) add-result-2 returns)

@@ -26,30 +26,12 @@ abbrev μ-loop : tie.MeasureT-loop
 loop-holds : tie.Need-loop-holds Inv-loop μ-loop
 loop-holds c = (search needs, refl, search needs, count-start _ _ _)
 
-mul-id : tie.Need-mul-id Inv-loop μ-loop
-mul-id c = search needs
-
-array-read-id : tie.Need-array-read-id Inv-loop μ-loop
-array-read-id c = search needs
-
-tagged-requires : tie.Need-tagged-requires Inv-loop μ-loop
-tagged-requires c κs = search needs
-
-varint-len-requires : tie.Need-varint-len-requires Inv-loop μ-loop
-varint-len-requires c κs = search needs
-
 short : (c : tie.After-varint-len Inv-loop μ-loop) → c .varint-len .result ≤ 10
 short c =
     let h = length-64 (c .before .tagged .result) (c .before .tagged .ok) in let e = c .varint-len .ensures in omega arith
 
 add-len : tie.Need-add-len Inv-loop μ-loop
 add-len c = let k = c .before .before .before .loop .inv .3 .most in let h = short c in record { fits = omega arith }
-
-add-i : tie.Need-add-i Inv-loop μ-loop
-add-i c = search needs
-
-loop-less : tie.Need-loop-less Inv-loop μ-loop
-loop-less c = search needs
 
 loop-again : tie.Need-loop-again Inv-loop μ-loop
 loop-again c =
@@ -72,15 +54,5 @@ pub held-len-spec : {M : Type 1} → statement M
 held-len-spec =
     tie.close
     (tie.spec
-    Inv-loop
-    μ-loop
-    loop-holds
-    mul-id
-    array-read-id
-    tagged-requires
-    varint-len-requires
-    add-len
-    add-i
-    loop-less
-    loop-again
-    returns)
+    Inv-loop μ-loop loop-holds (λ c. search needs) (λ c. search needs) (λ c κs. search needs) (λ c κs. search needs)
+    add-len (λ c. search needs) (λ c. search needs) loop-again returns)

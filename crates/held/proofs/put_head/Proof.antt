@@ -8,18 +8,6 @@ use Rattle.held.proofs.put_head.Lts as lts
 use Rattle.emit.proofs.Cursor.put_varint.Reads as put-varint-reads
 use Rattle.held.proofs.put_held.Reads as put-held-reads
 
-put-held-requires : tie.Need-put-held-requires
-put-held-requires c κs = search needs
-
-put-varint-requires : tie.Need-put-varint-requires
-put-varint-requires c κs = search needs
-
-put-varint-requires-2 : tie.Need-put-varint-requires-2
-put-varint-requires-2 c κs = search needs
-
-same-length : tie.Need-same-length
-same-length c = search needs
-
 returns : tie.Need-returns
 returns c =
     let e = c .before .before .before .before .before .before .before .before .before .before in
@@ -28,4 +16,5 @@ returns c =
 pub put-head-spec : {M : Type 1} → statement M
 put-head-spec =
     tie.close
-    (tie.spec put-held-requires put-varint-requires put-varint-requires-2 same-length returns)
+    (tie.spec
+    (λ c κs. search needs) (λ c κs. search needs) (λ c κs. search needs) (λ c. search needs) returns)

@@ -26,24 +26,6 @@ abbrev μ-loop : tie.MeasureT-loop
 loop-holds : tie.Need-loop-holds Inv-loop μ-loop
 loop-holds c = (search needs, refl, search needs, omega arith, owing-start _ _ _ (c .before .pre .1))
 
-mul-id : tie.Need-mul-id Inv-loop μ-loop
-mul-id c = search needs
-
-array-read-id : tie.Need-array-read-id Inv-loop μ-loop
-array-read-id c = search needs
-
-tagged-requires : tie.Need-tagged-requires Inv-loop μ-loop
-tagged-requires c κs = search needs
-
-put-varint-requires : tie.Need-put-varint-requires Inv-loop μ-loop
-put-varint-requires c κs = search needs
-
-add-i : tie.Need-add-i Inv-loop μ-loop
-add-i c = search needs
-
-loop-less : tie.Need-loop-less Inv-loop μ-loop
-loop-less c = search needs
-
 loop-again : tie.Need-loop-again Inv-loop μ-loop
 loop-again c =
     let l = c .before .before .before .before .before .before .loop in
@@ -70,15 +52,5 @@ pub put-held-spec : {M : Type 1} → statement M
 put-held-spec =
     tie.close
     (tie.spec
-    Inv-loop
-    μ-loop
-    loop-holds
-    mul-id
-    array-read-id
-    tagged-requires
-    put-varint-requires
-    add-i
-    loop-less
-    loop-again
-    same-length
-    returns)
+    Inv-loop μ-loop loop-holds (λ c. search needs) (λ c. search needs) (λ c κs. search needs) (λ c κs. search needs)
+    (λ c. search needs) (λ c. search needs) loop-again same-length returns)

@@ -21,12 +21,6 @@ returns-3 c = simp (le-leb _ _ (c .before .before .if1 .left), le-leb _ _ (c .be
 returns-4 : tie.Need-returns-4
 returns-4 c = simp (le-leb _ _ (c .before .before .before .if1 .left), le-leb _ _ (c .before .before .if2 .left), le-leb _ _ (c .before .if3 .left), lt-leb _ _ (c .if4 .taken))
 
-ids-legal-requires : tie.Need-ids-legal-requires
-ids-legal-requires c κs = search needs
-
-unused-zero-requires : tie.Need-unused-zero-requires
-unused-zero-requires c κs = search needs
-
 returns-5 : tie.Need-returns-5
 returns-5 c =
     let e = c .before .before .before in
@@ -41,11 +35,4 @@ pub sound-for-spec : {M : Type 1} → statement M
 sound-for-spec =
     tie.close
     (tie.spec
-    returns
-    returns-2
-    returns-3
-    returns-4
-    ids-legal-requires
-    unused-zero-requires
-    returns-5
-    returns-6)
+    returns returns-2 returns-3 returns-4 (λ c κs. search needs) (λ c κs. search needs) returns-5 returns-6)

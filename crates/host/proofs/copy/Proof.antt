@@ -11,26 +11,11 @@ use borrow.Author.Needs.{needs}
 use Rattle.host.proofs.copy.Statement.{statement}
 use Rattle.host.proofs.copy.Tie as tie
 
-new-requires : tie.Need-new-requires
-new-requires c κs = search needs
-
-feed-requires : tie.Need-feed-requires
-feed-requires c κs = search needs
-
-enum-told : tie.Need-enum-told
-enum-told c = search needs
-
-same-length : tie.Need-same-length
-same-length c = search needs
-
 returns : tie.Need-returns
 returns c = answers-full (c .before .before .before .before .before .before .before .before .before .before .before .args .ticket .now) (c .before .before .before .before .before .before .before .before .before .before .before .args .out .now) (all-bytes (c .before .before .before .before .before .before .before .before .before .before .before .args .ticket .now) (λ i. c .before .before .before .before .before .before .before .before .before .before .shared-slice-known .given i .fits)) (c .before .before .before .before .before .before .before .before .before .before .before .pre) (omega (arith, c .before .before .before .before .before .before .before .before .before .before .before .good .1 .0 .1)) (c .before .before .before .before .before .before .before .new .result .copier) (ap (λ (x : Started). x .copier) (c .before .before .before .before .before .before .before .new .ensures)) (c .before .before .before .before .feed .result) (c .before .before .before .before .feed .last .1 .1 .0) (c .before .before .before .before .feed .ensures) (c .enum-told .given .1)
 
 cast-result : tie.Need-cast-result
 cast-result c = let h = offset-small (c .before .before .before .before .before .before .before .before .before .before .before .args .ticket .now) (c .before .before .before .before .before .before .before .before .before .before .before .args .out .now) (all-bytes (c .before .before .before .before .before .before .before .before .before .before .before .args .ticket .now) (λ i. c .before .before .before .before .before .before .before .before .before .before .shared-slice-known .given i .fits)) (c .before .before .before .before .before .before .before .before .before .before .before .pre) (omega (arith, c .before .before .before .before .before .before .before .before .before .before .before .good .1 .0 .1)) (c .before .before .before .before .before .before .before .new .result .copier) (ap (λ (x : Started). x .copier) (c .before .before .before .before .before .before .before .new .ensures)) (c .before .before .before .before .feed .result) (c .before .before .before .before .feed .last .1 .1 .0) (c .before .before .before .before .feed .ensures) (c .before .match .keys2) in search needs
-
-same-length-2 : tie.Need-same-length-2
-same-length-2 c = search needs
 
 returns-2 : tie.Need-returns-2
 returns-2 c = ap (λ (x : ℤ). leftBy x (c .before .before .before .before .feed .last .1 .1 .0)) (toZ-pos w64 (offset-small (c .before .before .before .before .before .before .before .before .before .before .before .args .ticket .now) (c .before .before .before .before .before .before .before .before .before .before .before .args .out .now) (all-bytes (c .before .before .before .before .before .before .before .before .before .before .before .args .ticket .now) (λ i. c .before .before .before .before .before .before .before .before .before .before .shared-slice-known .given i .fits)) (c .before .before .before .before .before .before .before .before .before .before .before .pre) (omega (arith, c .before .before .before .before .before .before .before .before .before .before .before .good .1 .0 .1)) (c .before .before .before .before .before .before .before .new .result .copier) (ap (λ (x : Started). x .copier) (c .before .before .before .before .before .before .before .new .ensures)) (c .before .before .before .before .feed .result) (c .before .before .before .before .feed .last .1 .1 .0) (c .before .before .before .before .feed .ensures) (c .before .match .keys2))) ∙ answers-length (c .before .before .before .before .before .before .before .before .before .before .before .args .ticket .now) (c .before .before .before .before .before .before .before .before .before .before .before .args .out .now) (all-bytes (c .before .before .before .before .before .before .before .before .before .before .before .args .ticket .now) (λ i. c .before .before .before .before .before .before .before .before .before .before .shared-slice-known .given i .fits)) (c .before .before .before .before .before .before .before .before .before .before .before .pre) (omega (arith, c .before .before .before .before .before .before .before .before .before .before .before .good .1 .0 .1)) (c .before .before .before .before .before .before .before .new .result .copier) (ap (λ (x : Started). x .copier) (c .before .before .before .before .before .before .before .new .ensures)) (c .before .before .before .before .feed .result) (c .before .before .before .before .feed .last .1 .1 .0) (c .before .before .before .before .feed .ensures) (c .before .match .keys2)
@@ -39,11 +24,5 @@ pub copy-spec : {M : Type 1} → statement M
 copy-spec =
     tie.close
     (tie.spec
-    new-requires
-    feed-requires
-    enum-told
-    same-length
-    returns
-    cast-result
-    same-length-2
-    returns-2)
+    (λ c κs. search needs) (λ c κs. search needs) (λ c. search needs) (λ c. search needs) returns cast-result
+    (λ c. search needs) returns-2)

@@ -8,9 +8,6 @@ use borrow.Author.Needs.{needs}
 use Rattle.host.proofs.is_own.Statement.{statement}
 use Rattle.host.proofs.is_own.Tie as tie
 
-fields-requires : tie.Need-fields-requires
-fields-requires c κs = search needs
-
 returns : tie.Need-returns
 returns c = λ e. own-whole _ (c .before .fields .result .len) (c .before .fields .result .depth) (c .before .fields .ensures .1) (c .if1 .taken) (eqb-true _ _ e)
 
@@ -18,4 +15,5 @@ returns-2 : tie.Need-returns-2
 returns-2 c = λ e. let z : _≡_ {A = ℕ} 0 1 = cc in absurd (omega arith)
 
 pub is-own-spec : {M : Type 1} → statement M
-is-own-spec = tie.close (tie.spec fields-requires returns returns-2)
+is-own-spec =
+    tie.close (tie.spec (λ c κs. search needs) returns returns-2)

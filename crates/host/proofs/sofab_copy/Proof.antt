@@ -12,35 +12,11 @@ use borrow.Author.Needs.{needs}
 use Rattle.host.proofs.sofab_copy.Statement.{statement}
 use Rattle.host.proofs.sofab_copy.Tie as tie
 
-is-own-requires : tie.Need-is-own-requires
-is-own-requires c κs = search needs
-
-block-requires : tie.Need-block-requires
-block-requires c κs = search needs
-
-same-length : tie.Need-same-length
-same-length c = search needs
-
 returns : tie.Need-returns
 returns c = let f : toZ w64 (ofZ w64 (c .before .before .block .result)) ≡ c .before .before .block .result = search needs in ap (λ (x : ℤ). leftBy x (c .before .before .block .last .1 .0)) f ∙ c .before .before .block .ensures ∙ own-copied _ _ _ _ (c .before .before .before .before .before .is-own .ensures (c .before .before .before .before .if1 .taken))
 
-verdict-of-requires : tie.Need-verdict-of-requires
-verdict-of-requires c κs = search needs
-
-enum-told : tie.Need-enum-told
-enum-told c = search needs
-
 copy-requires : tie.Need-copy-requires
 copy-requires c κs = is-complete _ _ (c .before .before .before .verdict-of .ensures) (c .before .enum-told .given .1)
-
-enum-told-2 : tie.Need-enum-told-2
-enum-told-2 c = search needs
-
-enum-told-3 : tie.Need-enum-told-3
-enum-told-3 c = search needs
-
-same-length-2 : tie.Need-same-length-2
-same-length-2 c = search needs
 
 returns-2 : tie.Need-returns-2
 returns-2 c = let f : toZ w64 (ofZ w64 (c .before .before .copy .result)) ≡ c .before .before .copy .result = search needs in ap (λ (x : ℤ). leftBy x (c .before .before .copy .last .1 .0)) f ∙ c .before .before .copy .ensures ∙ copies _ _ Complete _ _ (c .before .before .before .before .before .before .verdict-of .ensures) (c .before .before .before .before .enum-told .given .1)
@@ -55,16 +31,6 @@ pub sofab-copy-spec : {M : Type 1} → statement M
 sofab-copy-spec =
     tie.close
     (tie.spec
-    is-own-requires
-    block-requires
-    same-length
-    returns
-    verdict-of-requires
-    enum-told
-    copy-requires
-    enum-told-2
-    enum-told-3
-    same-length-2
-    returns-2
-    returns-3
+    (λ c κs. search needs) (λ c κs. search needs) (λ c. search needs) returns (λ c κs. search needs)
+    (λ c. search needs) copy-requires (λ c. search needs) (λ c. search needs) (λ c. search needs) returns-2 returns-3
     returns-4)

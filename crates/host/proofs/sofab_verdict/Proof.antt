@@ -5,18 +5,6 @@ use borrow.Author.Needs.{needs}
 use Rattle.host.proofs.sofab_verdict.Statement.{statement}
 use Rattle.host.proofs.sofab_verdict.Tie as tie
 
-verdict-of-requires : tie.Need-verdict-of-requires
-verdict-of-requires c κs = search needs
-
-enum-told : tie.Need-enum-told
-enum-told c = search needs
-
-enum-told-2 : tie.Need-enum-told-2
-enum-told-2 c = search needs
-
-enum-told-3 : tie.Need-enum-told-3
-enum-told-3 c = search needs
-
 returns : tie.Need-returns
 returns c = numbered _ _ Complete (c .before .before .verdict-of .ensures) (c .enum-told .given .1)
 
@@ -29,4 +17,5 @@ returns-3 c = numbered _ _ (Broken _) (c .before .before .verdict-of .ensures) (
 pub sofab-verdict-spec : {M : Type 1} → statement M
 sofab-verdict-spec =
     tie.close
-    (tie.spec verdict-of-requires enum-told enum-told-2 enum-told-3 returns returns-2 returns-3)
+    (tie.spec
+    (λ c κs. search needs) (λ c. search needs) (λ c. search needs) (λ c. search needs) returns returns-2 returns-3)

@@ -6,24 +6,9 @@ use borrow.Author.Needs.{needs}
 use Rattle.istream.proofs.again.Statement.{statement}
 use Rattle.istream.proofs.again.Tie as tie
 
-anew-requires : tie.Need-anew-requires
-anew-requires c κs = search needs
-
-plain-requires : tie.Need-plain-requires
-plain-requires c κs = search needs
-
-fed-anew-requires : tie.Need-fed-anew-requires
-fed-anew-requires c κs = search needs
-
 returns : tie.Need-returns
 returns c =
     c .fed-anew .ensures ∙ c .before .plain .ensures ∙ ap (λ (p : Phase). fedOf (record { phase = p; depth = c .before .before .before .before .before .args .stream .depth }) (c .before .before .before .before .before .args .chunk .now)) (c .before .before .before .anew .ensures)
-
-plain-requires-2 : tie.Need-plain-requires-2
-plain-requires-2 c κs = search needs
-
-fed-anew-requires-2 : tie.Need-fed-anew-requires-2
-fed-anew-requires-2 c κs = search needs
 
 returns-2 : tie.Need-returns-2
 returns-2 c =
@@ -33,10 +18,5 @@ pub again-spec : {M : Type 1} → statement M
 again-spec =
     tie.close
     (tie.spec
-    anew-requires
-    plain-requires
-    fed-anew-requires
-    returns
-    plain-requires-2
-    fed-anew-requires-2
-    returns-2)
+    (λ c κs. search needs) (λ c κs. search needs) (λ c κs. search needs) returns (λ c κs. search needs)
+    (λ c κs. search needs) returns-2)

@@ -5,12 +5,10 @@ use borrow.Author.Needs.{needs}
 use Rattle.istream.proofs.fed_anew.Statement.{statement}
 use Rattle.istream.proofs.fed_anew.Tie as tie
 
-anew-requires : tie.Need-anew-requires
-anew-requires c κs = search needs
-
 returns : tie.Need-returns
 returns c =
     ap (λ (p : Phase). record { read = c .before .before .args .f .read; answer = c .before .before .args .f .answer; stream = record { phase = p; depth = c .before .before .args .f .stream .depth } }) (c .anew .ensures)
 
 pub fed-anew-spec : {M : Type 1} → statement M
-fed-anew-spec = tie.close (tie.spec anew-requires returns)
+fed-anew-spec =
+    tie.close (tie.spec (λ c κs. search needs) returns)

@@ -25,36 +25,18 @@ loop-holds : tie.Need-loop-holds Inv-loop μ-loop
 loop-holds c =
     (omega arith, (c .before .pre, call-scan (stateOf (c .before .args .stream)) (c .before .args .chunk .now)))
 
-shared-slice-read-step : tie.Need-shared-slice-read-step Inv-loop μ-loop
-shared-slice-read-step c = search needs
-
 step-requires : tie.Need-step-requires Inv-loop μ-loop
 step-requires c κs = c .before .before .loop .inv .1 .0
-
-add-read : tie.Need-add-read Inv-loop μ-loop
-add-read c = search needs
-
-enum-known-s : tie.Need-enum-known-s Inv-loop μ-loop
-enum-known-s c = search needs
-
-stop-requires : tie.Need-stop-requires Inv-loop μ-loop
-stop-requires c κs = search needs
 
 returns : tie.Need-returns Inv-loop μ-loop
 returns c =
     let f : Fits w8 (getD (c .before .before .before .before .before .before .before .args .chunk .now) (c .before .before .before .before .before .loop .n) 0) = c .before .before .before .shared-slice-known2 .given (c .before .before .before .before .before .loop .n) in
     c .stop .ensures ∙ turn-ends (c .before .before .before .before .before .before .before .args .chunk .now) (stateOf (c .before .before .before .before .before .before .before .args .stream)) (c .before .before .before .before .before .loop .phase) (c .before .before .before .before .before .loop .depth) (c .before .before .before .before .before .loop .n) (c .before .before .before .before .before .loop .inv .1 .0) (c .before .before .before .before .before .loop .inv .1 .1) (c .before .before .step .result) (c .before .before .before .before .loop-test .taken) (f .fits) (c .before .before .step .ensures) (c .before .match .keys2)
 
-loop-less : tie.Need-loop-less Inv-loop μ-loop
-loop-less c = search needs
-
 loop-again : tie.Need-loop-again Inv-loop μ-loop
 loop-again c =
     let f : Fits w8 (getD (c .before .before .before .before .before .before .before .before .args .chunk .now) (c .before .before .before .before .before .before .loop .n) 0) = c .before .before .before .before .shared-slice-known2 .given (c .before .before .before .before .before .before .loop .n) in
     turn-goes (c .before .before .before .before .before .before .before .before .args .chunk .now) (stateOf (c .before .before .before .before .before .before .before .before .args .stream)) (c .before .before .before .before .before .before .loop .phase) (c .before .before .before .before .before .before .loop .depth) (c .before .before .before .before .before .before .loop .n) (c .before .before .before .before .before .before .loop .inv .1 .0) (c .before .before .before .before .before .before .loop .inv .1 .1) (c .before .before .before .step .result) _ _ (c .before .before .before .before .before .loop-test .taken) (f .fits) (c .before .before .before .step .ensures) (c .before .s .given .1)
-
-stop-requires-2 : tie.Need-stop-requires-2 Inv-loop μ-loop
-stop-requires-2 c κs = search needs
 
 returns-2 : tie.Need-returns-2 Inv-loop μ-loop
 returns-2 c =
@@ -64,16 +46,5 @@ pub scan-spec : {M : Type 1} → statement M
 scan-spec =
     tie.close
     (tie.spec
-    Inv-loop
-    μ-loop
-    loop-holds
-    shared-slice-read-step
-    step-requires
-    add-read
-    enum-known-s
-    stop-requires
-    returns
-    loop-less
-    loop-again
-    stop-requires-2
-    returns-2)
+    Inv-loop μ-loop loop-holds (λ c. search needs) step-requires (λ c. search needs) (λ c. search needs)
+    (λ c κs. search needs) returns (λ c. search needs) loop-again (λ c κs. search needs) returns-2)

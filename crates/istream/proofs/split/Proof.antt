@@ -6,12 +6,10 @@ use borrow.Author.Needs.{needs}
 use Rattle.istream.proofs.split.Statement.{statement}
 use Rattle.istream.proofs.split.Tie as tie
 
-feed-requires : tie.Need-feed-requires
-feed-requires c κs = search needs
-
 returns : tie.Need-returns
 unfolding takenOf
 returns c = ap (λ (f : Fed). record { heard = record { read = f .read; answer = f .answer }; stream = f .stream }) (c .before .feed .ensures)
 
 pub split-spec : {M : Type 1} → statement M
-split-spec = tie.close (tie.spec feed-requires returns)
+split-spec =
+    tie.close (tie.spec (λ c κs. search needs) returns)

@@ -7,21 +7,6 @@ use borrow.Author.Needs.{needs}
 use Rattle.istream.proofs.stop.Statement.{statement}
 use Rattle.istream.proofs.stop.Tie as tie
 
-enum-known-s : tie.Need-enum-known-s
-enum-known-s c = search needs
-
-status-requires : tie.Need-status-requires
-status-requires c κs = search needs
-
-verdict-requires : tie.Need-verdict-requires
-verdict-requires c κs = search needs
-
-enum-known-s-2 : tie.Need-enum-known-s-2
-enum-known-s-2 c = search needs
-
-enum-told : tie.Need-enum-told
-enum-told c = search needs
-
 returns : tie.Need-returns
 returns c =
     ap (λ (t : Status). record { read = c .before .before .before .before .before .args .n; answer = Answers.Status t; stream = record { phase = c .before .before .before .s .given .0 .0; depth = c .before .before .before .s .given .0 .1 .0 } }) (c .verdict .ensures ∙ ap verdictIn (c .before .status .ensures)) ∙ sym (ap (stopped (c .before .before .before .before .before .args .n)) (c .before .before .before .s .given .1))
@@ -37,4 +22,6 @@ returns-3 c =
 pub stop-spec : {M : Type 1} → statement M
 stop-spec =
     tie.close
-    (tie.spec enum-known-s status-requires verdict-requires enum-known-s-2 enum-told returns returns-2 returns-3)
+    (tie.spec
+    (λ c. search needs) (λ c κs. search needs) (λ c κs. search needs) (λ c. search needs) (λ c. search needs) returns
+    returns-2 returns-3)

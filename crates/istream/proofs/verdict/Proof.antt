@@ -4,14 +4,9 @@ use borrow.Author.Needs.{needs}
 use Rattle.istream.proofs.verdict.Statement.{statement}
 use Rattle.istream.proofs.verdict.Tie as tie
 
-enum-told : tie.Need-enum-told
-enum-told c = search needs
-
-returns : tie.Need-returns
-returns c = search needs
-
 returns-2 : tie.Need-returns-2
 returns-2 c = verdict-else (c .before .args .s) (c .match .keys2)
 
 pub verdict-spec : {M : Type 1} → statement M
-verdict-spec = tie.close (tie.spec enum-told returns returns-2)
+verdict-spec =
+    tie.close (tie.spec (λ c. search needs) (λ c. search needs) returns-2)

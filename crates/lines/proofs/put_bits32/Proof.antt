@@ -11,21 +11,6 @@ use Rattle.lines.proofs.put_bits32.Lts as lts
 use Rattle.emit.proofs.put_rest.Reads as put-rest-reads
 use Rattle.io.proofs.hex.Reads as hex-reads
 
-hex-requires : tie.Need-hex-requires
-hex-requires c κs = search needs
-
-array-share-prefix-digits : tie.Need-array-share-prefix-digits
-array-share-prefix-digits c = search needs
-
-slice-aggregate-put-rest : tie.Need-slice-aggregate-put-rest
-slice-aggregate-put-rest c = search needs
-
-put-rest-requires : tie.Need-put-rest-requires
-put-rest-requires c κs = search needs
-
-same-length : tie.Need-same-length
-same-length c = search needs
-
 returns : tie.Need-returns
 returns c =
     let d = c .before .before .before .before .before .hex .ensures in
@@ -35,9 +20,4 @@ pub put-bits32-spec : {M : Type 1} → statement M
 put-bits32-spec =
     tie.close
     (tie.spec
-    hex-requires
-    array-share-prefix-digits
-    slice-aggregate-put-rest
-    put-rest-requires
-    same-length
-    returns)
+    (λ c κs. search needs) (λ c. search needs) (λ c. search needs) (λ c κs. search needs) (λ c. search needs) returns)

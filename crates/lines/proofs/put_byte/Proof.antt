@@ -9,24 +9,6 @@ use Rattle.lines.proofs.put_byte.Lts as lts
 use Rattle.emit.proofs.put_rest.Reads as put-rest-reads
 use Rattle.lines.proofs.put_decimal.Reads as put-decimal-reads
 
-slice-aggregate-put-rest : tie.Need-slice-aggregate-put-rest
-slice-aggregate-put-rest c = search needs
-
-put-rest-requires : tie.Need-put-rest-requires
-put-rest-requires c κs = search needs
-
-put-decimal-requires : tie.Need-put-decimal-requires
-put-decimal-requires c κs = search needs
-
-slice-aggregate-put-rest-2 : tie.Need-slice-aggregate-put-rest-2
-slice-aggregate-put-rest-2 c = search needs
-
-put-rest-requires-2 : tie.Need-put-rest-requires-2
-put-rest-requires-2 c κs = search needs
-
-same-length : tie.Need-same-length
-same-length c = search needs
-
 returns : tie.Need-returns
 returns c =
     says _ _ _ _ _ _ (sym (byte-line (c .before .before .before .before .before .before .before .before .before .before .before .before .before .before .before .args .b)))
@@ -36,10 +18,5 @@ pub put-byte-spec : {M : Type 1} → statement M
 put-byte-spec =
     tie.close
     (tie.spec
-    slice-aggregate-put-rest
-    put-rest-requires
-    put-decimal-requires
-    slice-aggregate-put-rest-2
-    put-rest-requires-2
-    same-length
-    returns)
+    (λ c. search needs) (λ c κs. search needs) (λ c κs. search needs) (λ c. search needs) (λ c κs. search needs)
+    (λ c. search needs) returns)

@@ -11,30 +11,9 @@ use Rattle.lines.proofs.put_line.Reads as put-line-reads
 use Rattle.lines.proofs.put_piece.Reads as put-piece-reads
 use Rattle.lines.proofs.shown_of.Reads as shown-of-reads
 
-shown-of-requires : tie.Need-shown-of-requires
-shown-of-requires c κs = search needs
-
-enum-known-s : tie.Need-enum-known-s
-enum-known-s c = search needs
-
-put-line-requires : tie.Need-put-line-requires
-put-line-requires c κs = search needs
-
-enum-known-s-2 : tie.Need-enum-known-s-2
-enum-known-s-2 c = search needs
-
-put-piece-requires : tie.Need-put-piece-requires
-put-piece-requires c κs = search needs
-
-same-length : tie.Need-same-length
-same-length c = search needs
-
 returns : tie.Need-returns
 returns c =
     says _ _ _ _ _ _ (ap (shownText (c .before .before .before .before .before .before .before .before .before .before .args .chunk .now)) (sym (c .before .before .before .before .before .s .given .1)) ∙ c .before .before .before .before .before .before .before .shown-of .ensures (c .before .before .before .before .before .before .before .before .before .before .args .chunk .now)) (c .before .before .put-line .ensures)
-
-same-length-2 : tie.Need-same-length-2
-same-length-2 c = search needs
 
 returns-2 : tie.Need-returns-2
 returns-2 c =
@@ -44,12 +23,5 @@ pub put-event-spec : {M : Type 1} → statement M
 put-event-spec =
     tie.close
     (tie.spec
-    shown-of-requires
-    enum-known-s
-    put-line-requires
-    enum-known-s-2
-    put-piece-requires
-    same-length
-    returns
-    same-length-2
-    returns-2)
+    (λ c κs. search needs) (λ c. search needs) (λ c κs. search needs) (λ c. search needs) (λ c κs. search needs)
+    (λ c. search needs) returns (λ c. search needs) returns-2)

@@ -15,27 +15,6 @@ use Rattle.lines.proofs.put_piece.Lts as lts
 use Rattle.lines.proofs.least.Reads as least-reads
 use Rattle.lines.proofs.put_bytes.Reads as put-bytes-reads
 
-least-requires : tie.Need-least-requires
-least-requires c κs = search needs
-
-least-requires-2 : tie.Need-least-requires-2
-least-requires-2 c κs = search needs
-
-sub-put-bytes : tie.Need-sub-put-bytes
-sub-put-bytes c = search needs
-
-part-put-bytes-start : tie.Need-part-put-bytes-start
-part-put-bytes-start c = search needs
-
-part-put-bytes-end : tie.Need-part-put-bytes-end
-part-put-bytes-end c = search needs
-
-put-bytes-requires : tie.Need-put-bytes-requires
-put-bytes-requires c κs = search needs
-
-same-length : tie.Need-same-length
-same-length c = search needs
-
 within : (f t from to : ℕ) (l : List ℕ) → from ≡ min f to → to ≡ min t (length l) → slice from to l ≡ slice f t l
 within f t from to l p q =
     ap (λ (k : ℕ). slice k to l) p ∙ ap (λ (k : ℕ). slice (min f k) k l) q ∙ clipped f t l
@@ -53,11 +32,5 @@ pub put-piece-spec : {M : Type 1} → statement M
 put-piece-spec =
     tie.close
     (tie.spec
-    least-requires
-    least-requires-2
-    sub-put-bytes
-    part-put-bytes-start
-    part-put-bytes-end
-    put-bytes-requires
-    same-length
-    returns)
+    (λ c κs. search needs) (λ c κs. search needs) (λ c. search needs) (λ c. search needs) (λ c. search needs)
+    (λ c κs. search needs) (λ c. search needs) returns)

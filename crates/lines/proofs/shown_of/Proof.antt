@@ -23,99 +23,6 @@ use Rattle.lines.proofs.with_id.Reads as with-id-reads
 use Rattle.types.proofs.ArrayKind.raw.Reads as ArrayKind-raw-reads
 use Rattle.types.proofs.FixlenType.raw.Reads as FixlenType-raw-reads
 
-enum-known-e : tie.Need-enum-known-e
-enum-known-e c = search needs
-
-with-id-requires : tie.Need-with-id-requires
-with-id-requires c κs = search needs
-
-enum-known-e-2 : tie.Need-enum-known-e-2
-enum-known-e-2 c = search needs
-
-signed-part-requires : tie.Need-signed-part-requires
-signed-part-requires c κs = search needs
-
-with-id-requires-2 : tie.Need-with-id-requires-2
-with-id-requires-2 c κs = search needs
-
-enum-known-e-3 : tie.Need-enum-known-e-3
-enum-known-e-3 c = search needs
-
-fp32-bits-requires : tie.Need-fp32-bits-requires
-fp32-bits-requires c κs = search needs
-
-with-id-requires-3 : tie.Need-with-id-requires-3
-with-id-requires-3 c κs = search needs
-
-enum-known-e-4 : tie.Need-enum-known-e-4
-enum-known-e-4 c = search needs
-
-with-id-requires-4 : tie.Need-with-id-requires-4
-with-id-requires-4 c κs = search needs
-
-enum-known-e-5 : tie.Need-enum-known-e-5
-enum-known-e-5 c = search needs
-
-fp64-bits-requires : tie.Need-fp64-bits-requires
-fp64-bits-requires c κs = search needs
-
-with-id-requires-5 : tie.Need-with-id-requires-5
-with-id-requires-5 c κs = search needs
-
-enum-known-e-6 : tie.Need-enum-known-e-6
-enum-known-e-6 c = search needs
-
-with-id-requires-6 : tie.Need-with-id-requires-6
-with-id-requires-6 c κs = search needs
-
-enum-known-e-7 : tie.Need-enum-known-e-7
-enum-known-e-7 c = search needs
-
-enum-known-e-8 : tie.Need-enum-known-e-8
-enum-known-e-8 c = search needs
-
-enum-known-e-9 : tie.Need-enum-known-e-9
-enum-known-e-9 c = search needs
-
-raw-requires : tie.Need-raw-requires
-raw-requires c κs = search needs
-
-cast-t39 : tie.Need-cast-t39
-cast-t39 c = search needs
-
-cast-t41 : tie.Need-cast-t41
-cast-t41 c = search needs
-
-with-id-requires-7 : tie.Need-with-id-requires-7
-with-id-requires-7 c κs = search needs
-
-enum-known-e-10 : tie.Need-enum-known-e-10
-enum-known-e-10 c = search needs
-
-raw-requires-2 : tie.Need-raw-requires-2
-raw-requires-2 c κs = search needs
-
-cast-t44 : tie.Need-cast-t44
-cast-t44 c = search needs
-
-cast-t46 : tie.Need-cast-t46
-cast-t46 c = search needs
-
-with-id-requires-8 : tie.Need-with-id-requires-8
-with-id-requires-8 c κs = search needs
-
-enum-known-e-11 : tie.Need-enum-known-e-11
-enum-known-e-11 c = search needs
-
-with-id-requires-9 : tie.Need-with-id-requires-9
-with-id-requires-9 c κs = search needs
-
-enum-told : tie.Need-enum-told
-enum-told c = search needs
-
-close-requires : tie.Need-close-requires
-close-requires c κs = search needs
-
 -- the lines of an event that is known
 shows : (c : List ℕ) (e e′ : Event) → e ≡ e′ → linesOf (eventOf c e′) ≡ linesOf (eventOf c e)
 shows c e e′ p = sym (ap (λ (x : Event). linesOf (eventOf c x)) p)
@@ -165,46 +72,11 @@ pub shown-of-spec : {M : Type 1} → statement M
 shown-of-spec =
     tie.close
     (tie.spec
-    enum-known-e
-    with-id-requires
-    enum-known-e-2
-    signed-part-requires
-    with-id-requires-2
-    enum-known-e-3
-    fp32-bits-requires
-    with-id-requires-3
-    enum-known-e-4
-    with-id-requires-4
-    enum-known-e-5
-    fp64-bits-requires
-    with-id-requires-5
-    enum-known-e-6
-    with-id-requires-6
-    enum-known-e-7
-    enum-known-e-8
-    enum-known-e-9
-    raw-requires
-    cast-t39
-    cast-t41
-    with-id-requires-7
-    enum-known-e-10
-    raw-requires-2
-    cast-t44
-    cast-t46
-    with-id-requires-8
-    enum-known-e-11
-    with-id-requires-9
-    enum-told
-    close-requires
-    returns
-    returns-2
-    returns-3
-    returns-4
-    returns-5
-    returns-6
-    returns-7
-    returns-8
-    returns-9
-    returns-10
-    returns-11
-    returns-12)
+    (λ c. search needs) (λ c κs. search needs) (λ c. search needs) (λ c κs. search needs) (λ c κs. search needs)
+    (λ c. search needs) (λ c κs. search needs) (λ c κs. search needs) (λ c. search needs) (λ c κs. search needs)
+    (λ c. search needs) (λ c κs. search needs) (λ c κs. search needs) (λ c. search needs) (λ c κs. search needs)
+    (λ c. search needs) (λ c. search needs) (λ c. search needs) (λ c κs. search needs) (λ c. search needs)
+    (λ c. search needs) (λ c κs. search needs) (λ c. search needs) (λ c κs. search needs) (λ c. search needs)
+    (λ c. search needs) (λ c κs. search needs) (λ c. search needs) (λ c κs. search needs) (λ c. search needs)
+    (λ c κs. search needs) returns returns-2 returns-3 returns-4 returns-5 returns-6 returns-7 returns-8 returns-9
+    returns-10 returns-11 returns-12)

@@ -44,4 +44,5 @@ returns-2 c =
     ap (λ (z : ℤ). 32 ∷ decimal (natAbs z)) (toZ-ofZ w64 (c .before .args .v) (c .before .fits .v) ∙ s .1) ∙ sym (ap (λ (z : ℤ). 32 ∷ signed z) (s .1))
 
 pub signed-part-spec : {M : Type 1} → statement M
-signed-part-spec = tie.close (tie.spec cast-t5 add-t6 cast-t7 returns returns-2)
+signed-part-spec =
+    tie.close (tie.spec cast-t5 add-t6 cast-t7 returns returns-2)

@@ -27,9 +27,6 @@ divided at n m g h = go (leb n ((m - at - 80) / 6)) refl
 returns : tie.Need-returns
 returns c = beyond _ _ _ (c .if1 .taken)
 
-sub-free : tie.Need-sub-free
-sub-free c = search needs
-
 returns-2 : tie.Need-returns-2
 returns-2 c = tight _ _ _ (c .before .if1 .left) (c .if2 .taken)
 
@@ -37,4 +34,5 @@ returns-3 : tie.Need-returns-3
 returns-3 c = divided _ _ _ (c .before .if1 .left) (c .if2 .left)
 
 pub roomy-spec : {M : Type 1} → statement M
-roomy-spec = tie.close (tie.spec returns sub-free returns-2 returns-3)
+roomy-spec =
+    tie.close (tie.spec returns (λ c. search needs) returns-2 returns-3)

@@ -13,37 +13,9 @@ Inv-loop buf n i₀ i = i ≤ n
 abbrev μ-loop : tie.MeasureT-loop
 μ-loop buf n i₀ i = n - i
 
-loop-holds : tie.Need-loop-holds Inv-loop μ-loop
-loop-holds c = search needs
-
-shared-slice-read-hex : tie.Need-shared-slice-read-hex Inv-loop μ-loop
-shared-slice-read-hex c = search needs
-
-hex-requires : tie.Need-hex-requires Inv-loop μ-loop
-hex-requires c κs = search needs
-
-add-i : tie.Need-add-i Inv-loop μ-loop
-add-i c = search needs
-
-loop-less : tie.Need-loop-less Inv-loop μ-loop
-loop-less c = search needs
-
-loop-again : tie.Need-loop-again Inv-loop μ-loop
-loop-again c = search needs
-
-returns : tie.Need-returns Inv-loop μ-loop
-returns c = search needs
-
 pub bytes-spec : {M : Type 1} → statement M
 bytes-spec =
     tie.close
     (tie.spec
-    Inv-loop
-    μ-loop
-    loop-holds
-    shared-slice-read-hex
-    hex-requires
-    add-i
-    loop-less
-    loop-again
-    returns)
+    Inv-loop μ-loop (λ c. search needs) (λ c. search needs) (λ c κs. search needs) (λ c. search needs)
+    (λ c. search needs) (λ c. search needs) (λ c. search needs))

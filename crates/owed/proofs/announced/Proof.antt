@@ -5,18 +5,6 @@ use Rattle.owed.proofs.announced.Tie as tie
 use Rattle.owed.proofs.announced.Reads as reads
 use Rattle.owed.proofs.announced.Lts as lts
 
-enum-told : tie.Need-enum-told
-enum-told c = search needs
-
-enum-told-2 : tie.Need-enum-told-2
-enum-told-2 c = search needs
-
-enum-told-3 : tie.Need-enum-told-3
-enum-told-3 c = search needs
-
-enum-told-4 : tie.Need-enum-told-4
-enum-told-4 c = search needs
-
 returns : tie.Need-returns
 returns c = simp (c .enum-told .given .1)
 
@@ -32,4 +20,6 @@ returns-4 c = simp (c .enum-told4 .given .1)
 pub announced-spec : {M : Type 1} → statement M
 announced-spec =
     tie.close
-    (tie.spec enum-told enum-told-2 enum-told-3 enum-told-4 returns returns-2 returns-3 returns-4)
+    (tie.spec
+    (λ c. search needs) (λ c. search needs) (λ c. search needs) (λ c. search needs) returns returns-2 returns-3
+    returns-4)

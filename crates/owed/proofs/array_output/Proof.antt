@@ -6,30 +6,6 @@ use Rattle.owed.proofs.array_output.Reads as reads
 use Rattle.owed.proofs.array_output.Lts as lts
 use Rattle.owed.proofs.tagged.Reads as tagged-reads
 
-enum-told : tie.Need-enum-told
-enum-told c = search needs
-
-tagged-requires : tie.Need-tagged-requires
-tagged-requires c κs = search needs
-
-enum-told-2 : tie.Need-enum-told-2
-enum-told-2 c = search needs
-
-tagged-requires-2 : tie.Need-tagged-requires-2
-tagged-requires-2 c κs = search needs
-
-enum-told-3 : tie.Need-enum-told-3
-enum-told-3 c = search needs
-
-tagged-requires-3 : tie.Need-tagged-requires-3
-tagged-requires-3 c κs = search needs
-
-enum-told-4 : tie.Need-enum-told-4
-enum-told-4 c = search needs
-
-tagged-requires-4 : tie.Need-tagged-requires-4
-tagged-requires-4 c κs = search needs
-
 returns : tie.Need-returns
 returns c = simp (c .before .enum-told .given .1, c .tagged .ensures)
 
@@ -46,15 +22,5 @@ pub array-output-spec : {M : Type 1} → statement M
 array-output-spec =
     tie.close
     (tie.spec
-    enum-told
-    tagged-requires
-    enum-told-2
-    tagged-requires-2
-    enum-told-3
-    tagged-requires-3
-    enum-told-4
-    tagged-requires-4
-    returns
-    returns-2
-    returns-3
-    returns-4)
+    (λ c. search needs) (λ c κs. search needs) (λ c. search needs) (λ c κs. search needs) (λ c. search needs)
+    (λ c κs. search needs) (λ c. search needs) (λ c κs. search needs) returns returns-2 returns-3 returns-4)

@@ -20,57 +20,6 @@ use Rattle.owed.proofs.announced.Reads as announced-reads
 use Rattle.owed.proofs.signed.Reads as signed-reads
 use Rattle.owed.proofs.unsigned.Reads as unsigned-reads
 
-enum-known-event : tie.Need-enum-known-event
-enum-known-event c = search needs
-
-unsigned-requires : tie.Need-unsigned-requires
-unsigned-requires c κs = search needs
-
-enum-known-event-2 : tie.Need-enum-known-event-2
-enum-known-event-2 c = search needs
-
-signed-requires : tie.Need-signed-requires
-signed-requires c κs = search needs
-
-enum-known-event-3 : tie.Need-enum-known-event-3
-enum-known-event-3 c = search needs
-
-fp32-bits-requires : tie.Need-fp32-bits-requires
-fp32-bits-requires c κs = search needs
-
-enum-known-event-4 : tie.Need-enum-known-event-4
-enum-known-event-4 c = search needs
-
-enum-known-event-5 : tie.Need-enum-known-event-5
-enum-known-event-5 c = search needs
-
-fp64-bits-requires : tie.Need-fp64-bits-requires
-fp64-bits-requires c κs = search needs
-
-enum-known-event-6 : tie.Need-enum-known-event-6
-enum-known-event-6 c = search needs
-
-enum-told : tie.Need-enum-told
-enum-told c = search needs
-
-enum-told-2 : tie.Need-enum-told-2
-enum-told-2 c = search needs
-
-enum-known-event-7 : tie.Need-enum-known-event-7
-enum-known-event-7 c = search needs
-
-announced-requires : tie.Need-announced-requires
-announced-requires c κs = search needs
-
-enum-known-event-8 : tie.Need-enum-known-event-8
-enum-known-event-8 c = search needs
-
-enum-known-event-9 : tie.Need-enum-known-event-9
-enum-known-event-9 c = search needs
-
-enum-told-3 : tie.Need-enum-told-3
-enum-told-3 c = search needs
-
 returns : tie.Need-returns
 returns c = simp (c .before .before .event .given .1, c .unsigned .ensures)
 
@@ -89,12 +38,6 @@ returns-5 c = simp (c .before .before .event5 .given .1, c .fp64-bits .ensures)
 returns-6 : tie.Need-returns-6
 returns-6 c = simp (c .before .event6 .given .1)
 
-returns-7 : tie.Need-returns-7
-returns-7 c = search needs
-
-returns-8 : tie.Need-returns-8
-returns-8 c = search needs
-
 returns-9 : tie.Need-returns-9
 returns-9 c = c .announced .ensures ∙ announced-any (c .before .before .before .before .args .left) (c .before .before .event7 .given .0 .0) (c .before .before .event7 .given .0 .1 .0) (c .before .before .event7 .given .0 .1 .1 .0) ∙ sym (ap (λ (e : Event). owe (c .before .before .before .before .args .left) (eventOf [] e)) (c .before .before .event7 .given .1))
 
@@ -104,39 +47,12 @@ returns-10 c = simp (c .before .event8 .given .1, kind-there)
 returns-11 : tie.Need-returns-11
 returns-11 c = simp (c .before .event9 .given .1)
 
-returns-12 : tie.Need-returns-12
-returns-12 c = search needs
-
 pub owe-spec : {M : Type 1} → statement M
 owe-spec =
     tie.close
     (tie.spec
-    enum-known-event
-    unsigned-requires
-    enum-known-event-2
-    signed-requires
-    enum-known-event-3
-    fp32-bits-requires
-    enum-known-event-4
-    enum-known-event-5
-    fp64-bits-requires
-    enum-known-event-6
-    enum-told
-    enum-told-2
-    enum-known-event-7
-    announced-requires
-    enum-known-event-8
-    enum-known-event-9
-    enum-told-3
-    returns
-    returns-2
-    returns-3
-    returns-4
-    returns-5
-    returns-6
-    returns-7
-    returns-8
-    returns-9
-    returns-10
-    returns-11
-    returns-12)
+    (λ c. search needs) (λ c κs. search needs) (λ c. search needs) (λ c κs. search needs) (λ c. search needs)
+    (λ c κs. search needs) (λ c. search needs) (λ c. search needs) (λ c κs. search needs) (λ c. search needs)
+    (λ c. search needs) (λ c. search needs) (λ c. search needs) (λ c κs. search needs) (λ c. search needs)
+    (λ c. search needs) (λ c. search needs) returns returns-2 returns-3 returns-4 returns-5 returns-6
+    (λ c. search needs) (λ c. search needs) returns-9 returns-10 returns-11 (λ c. search needs))

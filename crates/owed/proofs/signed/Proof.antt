@@ -16,4 +16,5 @@ returns-2 : tie.Need-returns-2
 returns-2 c = let f : toZ w64 (ofZ w64 (c .before .args .v)) ≡ c .before .args .v = search needs in simp f (signed-due (c .before .args .left) (c .before .args .id) (c .before .args .v) (c .if1 .left))
 
 pub signed-spec : {M : Type 1} → statement M
-signed-spec = tie.close (tie.spec returns returns-2)
+signed-spec =
+    tie.close (tie.spec returns returns-2)

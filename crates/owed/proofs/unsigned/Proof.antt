@@ -12,4 +12,5 @@ returns-2 : tie.Need-returns-2
 returns-2 c = unsigned-due (c .before .args .left) (c .before .args .id) (c .before .args .v) (c .if1 .left)
 
 pub unsigned-spec : {M : Type 1} → statement M
-unsigned-spec = tie.close (tie.spec returns returns-2)
+unsigned-spec =
+    tie.close (tie.spec returns returns-2)

@@ -12,4 +12,5 @@ returns-2 : tie.Need-returns-2
 returns-2 c = simp (le-leb _ _ (c .if1 .left))
 
 pub within-spec : {M : Type 1} → statement M
-within-spec = tie.close (tie.spec returns returns-2)
+within-spec =
+    tie.close (tie.spec returns returns-2)

@@ -5,9 +5,6 @@ use borrow.Author.Needs.{needs}
 use Rattle.own.proofs.array_at.Statement.{statement}
 use Rattle.own.proofs.array_at.Tie as tie
 
-count-at-requires : tie.Need-count-at-requires
-count-at-requires c κs = search needs
-
 returns : tie.Need-returns
 returns c = none
 
@@ -16,9 +13,6 @@ cast-row-at c = let h = count-small (c .before .count-at .ensures) (c .if1 .left
 
 row-at-requires : tie.Need-row-at-requires
 row-at-requires c κs = c .before .count-at .ensures .inside
-
-cast-if2 : tie.Need-cast-if2
-cast-if2 c = search needs
 
 returns-2 : tie.Need-returns-2
 returns-2 c =
@@ -31,4 +25,5 @@ returns-3 c = none
 pub array-at-spec : {M : Type 1} → statement M
 array-at-spec =
     tie.close
-    (tie.spec count-at-requires returns cast-row-at row-at-requires cast-if2 returns-2 returns-3)
+    (tie.spec
+    (λ c κs. search needs) returns cast-row-at row-at-requires (λ c. search needs) returns-2 returns-3)

@@ -7,24 +7,6 @@ use borrow.Author.Needs.{needs}
 use Rattle.own.proofs.body_at.Statement.{statement}
 use Rattle.own.proofs.body_at.Tie as tie
 
-fixlen-at-requires : tie.Need-fixlen-at-requires
-fixlen-at-requires c κs = search needs
-
-float-array-at-requires : tie.Need-float-array-at-requires
-float-array-at-requires c κs = search needs
-
-add-t11 : tie.Need-add-t11
-add-t11 c = search needs
-
-long-number-at-requires : tie.Need-long-number-at-requires
-long-number-at-requires c κs = search needs
-
-array-at-requires : tie.Need-array-at-requires
-array-at-requires c κs = search needs
-
-sub-t16 : tie.Need-sub-t16
-sub-t16 c = search needs
-
 returns : tie.Need-returns
 returns c = close-ends _ _ _ _ (c .before .before .before .before .before .before .pre .0) (c .before .if4 .taken) (c .if5 .taken)
 
@@ -58,18 +40,5 @@ pub body-at-spec : {M : Type 1} → statement M
 body-at-spec =
     tie.close
     (tie.spec
-    fixlen-at-requires
-    float-array-at-requires
-    add-t11
-    long-number-at-requires
-    array-at-requires
-    sub-t16
-    returns
-    returns-2
-    returns-3
-    returns-4
-    returns-5
-    returns-6
-    returns-7
-    returns-8
-    returns-9)
+    (λ c κs. search needs) (λ c κs. search needs) (λ c. search needs) (λ c κs. search needs) (λ c κs. search needs)
+    (λ c. search needs) returns returns-2 returns-3 returns-4 returns-5 returns-6 returns-7 returns-8 returns-9)

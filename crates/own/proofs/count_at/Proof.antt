@@ -4,12 +4,6 @@ use borrow.Author.Needs.{needs}
 use Rattle.own.proofs.count_at.Statement.{statement}
 use Rattle.own.proofs.count_at.Tie as tie
 
-value-at-requires : tie.Need-value-at-requires
-value-at-requires c κs = search needs
-
-cast-if1 : tie.Need-cast-if1
-cast-if1 c = search needs
-
 returns : tie.Need-returns
 returns c = ends-as (c .before .value-at .ensures) (λ bs q. (c .if1 .taken, q))
 
@@ -17,4 +11,5 @@ returns-2 : tie.Need-returns-2
 returns-2 c = none
 
 pub count-at-spec : {M : Type 1} → statement M
-count-at-spec = tie.close (tie.spec value-at-requires cast-if1 returns returns-2)
+count-at-spec =
+    tie.close (tie.spec (λ c κs. search needs) (λ c. search needs) returns returns-2)

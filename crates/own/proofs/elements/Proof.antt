@@ -4,13 +4,11 @@ use borrow.Author.Needs.{needs}
 use Rattle.own.proofs.elements.Statement.{statement}
 use Rattle.own.proofs.elements.Tie as tie
 
-row-at-requires : tie.Need-row-at-requires
-row-at-requires c κs = search needs
-
 returns : tie.Need-returns
 returns c =
     let r = c .row-at .ensures in
     (r .0, r .1, stretch-take _ (r .2) (r .0))
 
 pub elements-spec : {M : Type 1} → statement M
-elements-spec = tie.close (tie.spec row-at-requires returns)
+elements-spec =
+    tie.close (tie.spec (λ c κs. search needs) returns)

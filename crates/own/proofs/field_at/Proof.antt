@@ -5,14 +5,8 @@ use borrow.Author.Needs.{needs}
 use Rattle.own.proofs.field_at.Statement.{statement}
 use Rattle.own.proofs.field_at.Tie as tie
 
-small-at-requires : tie.Need-small-at-requires
-small-at-requires c κs = search needs
-
 returns : tie.Need-returns
 returns c = ends-as (c .before .small-at .ensures) (λ bs f. f _)
-
-header-at-requires : tie.Need-header-at-requires
-header-at-requires c κs = search needs
 
 returns-2 : tie.Need-returns-2
 returns-2 c = none
@@ -25,5 +19,4 @@ returns-3 c = field-ends _ _ _ (c .before .before .header-at .ensures) (c .befor
 
 pub field-at-spec : {M : Type 1} → statement M
 field-at-spec =
-    tie.close
-    (tie.spec small-at-requires returns header-at-requires returns-2 body-at-requires returns-3)
+    tie.close (tie.spec (λ c κs. search needs) returns (λ c κs. search needs) returns-2 body-at-requires returns-3)

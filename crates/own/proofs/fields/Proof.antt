@@ -16,16 +16,10 @@ abbrev μ-loop : tie.MeasureT-loop
 loop-holds : tie.Need-loop-holds Inv-loop μ-loop
 loop-holds c = ran-start _ _
 
-field-at-requires : tie.Need-field-at-requires Inv-loop μ-loop
-field-at-requires c κs = search needs
-
 returns : tie.Need-returns Inv-loop μ-loop
 returns c =
     let r = c .before .before .before .loop .inv in
     (r .0, stretch-take _ (r .1) (r .0))
-
-loop-less : tie.Need-loop-less Inv-loop μ-loop
-loop-less c = search needs
 
 loop-again : tie.Need-loop-again Inv-loop μ-loop
 loop-again c = ran-next (c .before .before .before .loop .inv) (c .if1 .left) (c .before .field-at .ensures)
@@ -38,4 +32,5 @@ returns-2 c =
 pub fields-spec : {M : Type 1} → statement M
 fields-spec =
     tie.close
-    (tie.spec Inv-loop μ-loop loop-holds field-at-requires returns loop-less loop-again returns-2)
+    (tie.spec
+    Inv-loop μ-loop loop-holds (λ c κs. search needs) returns (λ c. search needs) loop-again returns-2)

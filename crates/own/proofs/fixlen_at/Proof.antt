@@ -6,9 +6,6 @@ use borrow.Author.Needs.{needs}
 use Rattle.own.proofs.fixlen_at.Statement.{statement}
 use Rattle.own.proofs.fixlen_at.Tie as tie
 
-value-at-requires : tie.Need-value-at-requires
-value-at-requires c κs = search needs
-
 returns : tie.Need-returns
 returns c = none
 
@@ -17,9 +14,6 @@ jump-requires c κs = c .before .before .before .value-at .ensures .inside
 
 jump-requires-2 : tie.Need-jump-requires-2
 jump-requires-2 c κs = c .before .before .before .value-at .ensures .inside
-
-cast-if5 : tie.Need-cast-if5
-cast-if5 c = search needs
 
 jump-requires-3 : tie.Need-jump-requires-3
 jump-requires-3 c κs = c .before .before .before .before .value-at .ensures .inside
@@ -55,16 +49,5 @@ pub fixlen-at-spec : {M : Type 1} → statement M
 fixlen-at-spec =
     tie.close
     (tie.spec
-    value-at-requires
-    returns
-    jump-requires
-    jump-requires-2
-    cast-if5
-    jump-requires-3
-    returns-2
-    returns-3
-    returns-4
-    returns-5
-    returns-6
-    returns-7
-    returns-8)
+    (λ c κs. search needs) returns jump-requires jump-requires-2 (λ c. search needs) jump-requires-3 returns-2
+    returns-3 returns-4 returns-5 returns-6 returns-7 returns-8)

@@ -6,14 +6,8 @@ use borrow.Author.Needs.{needs}
 use Rattle.own.proofs.float_array_at.Statement.{statement}
 use Rattle.own.proofs.float_array_at.Tie as tie
 
-count-at-requires : tie.Need-count-at-requires
-count-at-requires c κs = search needs
-
 returns : tie.Need-returns
 returns c = none
-
-value-at-requires : tie.Need-value-at-requires
-value-at-requires c κs = search needs
 
 returns-2 : tie.Need-returns-2
 returns-2 c = none
@@ -47,14 +41,5 @@ pub float-array-at-spec : {M : Type 1} → statement M
 float-array-at-spec =
     tie.close
     (tie.spec
-    count-at-requires
-    returns
-    value-at-requires
-    returns-2
-    mul-jump
-    jump-requires
-    returns-3
-    mul-jump-2
-    jump-requires-2
-    returns-4
-    returns-5)
+    (λ c κs. search needs) returns (λ c κs. search needs) returns-2 mul-jump jump-requires returns-3 mul-jump-2
+    jump-requires-2 returns-4 returns-5)

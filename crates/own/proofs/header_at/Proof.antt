@@ -4,18 +4,6 @@ use borrow.Author.Needs.{needs}
 use Rattle.own.proofs.header_at.Statement.{statement}
 use Rattle.own.proofs.header_at.Tie as tie
 
-short-value-at-requires : tie.Need-short-value-at-requires
-short-value-at-requires c κs = search needs
-
-returns : tie.Need-returns
-returns c = search needs
-
-long-value-at-requires : tie.Need-long-value-at-requires
-long-value-at-requires c κs = search needs
-
-cast-if2 : tie.Need-cast-if2
-cast-if2 c = search needs
-
 returns-2 : tie.Need-returns-2
 returns-2 c = ends-as (c .before .long-value-at .ensures) (λ bs q. (c .if2 .taken, q))
 
@@ -25,4 +13,5 @@ returns-3 c = none
 pub header-at-spec : {M : Type 1} → statement M
 header-at-spec =
     tie.close
-    (tie.spec short-value-at-requires returns long-value-at-requires cast-if2 returns-2 returns-3)
+    (tie.spec
+    (λ c κs. search needs) (λ c. search needs) (λ c κs. search needs) (λ c. search needs) returns-2 returns-3)

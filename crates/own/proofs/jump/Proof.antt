@@ -4,12 +4,6 @@ use borrow.Author.Needs.{needs}
 use Rattle.own.proofs.jump.Statement.{statement}
 use Rattle.own.proofs.jump.Tie as tie
 
-sub-if1 : tie.Need-sub-if1
-sub-if1 c = search needs
-
-add-result : tie.Need-add-result
-add-result c = search needs
-
 returns : tie.Need-returns
 returns c = jumps _ _ _ (c .before .pre) (c .if1 .taken)
 
@@ -17,4 +11,5 @@ returns-2 : tie.Need-returns-2
 returns-2 c = none
 
 pub jump-spec : {M : Type 1} → statement M
-jump-spec = tie.close (tie.spec sub-if1 add-result returns returns-2)
+jump-spec =
+    tie.close (tie.spec (λ c. search needs) (λ c. search needs) returns returns-2)

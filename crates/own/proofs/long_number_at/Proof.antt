@@ -16,14 +16,8 @@ abbrev μ-loop : tie.MeasureT-loop
 loop-holds : tie.Need-loop-holds Inv-loop μ-loop
 loop-holds c = going-start _ _
 
-shared-slice-read-b : tie.Need-shared-slice-read-b Inv-loop μ-loop
-shared-slice-read-b c = search needs
-
 sub-if1 : tie.Need-sub-if1 Inv-loop μ-loop
 sub-if1 c = going-from (c .before .before .loop .inv)
-
-add-result : tie.Need-add-result Inv-loop μ-loop
-add-result c = search needs
 
 returns : tie.Need-returns Inv-loop μ-loop
 returns c =
@@ -33,27 +27,15 @@ returns c =
 returns-2 : tie.Need-returns-2 Inv-loop μ-loop
 returns-2 c = none
 
-add-result-2 : tie.Need-add-result-2 Inv-loop μ-loop
-add-result-2 c = search needs
-
 returns-3 : tie.Need-returns-3 Inv-loop μ-loop
 returns-3 c =
     let l = c .before .before .before .before .before in
     going-ends (l .before .loop .inv) (l .loop-test .taken) (c .before .before .if2 .taken) (c .if4 .left) (c .before .before .before .if1 .taken)
 
-add-i : tie.Need-add-i Inv-loop μ-loop
-add-i c = search needs
-
-loop-less : tie.Need-loop-less Inv-loop μ-loop
-loop-less c = search needs
-
 loop-again : tie.Need-loop-again Inv-loop μ-loop
 loop-again c =
     let l = c .before .before .before in
     going-more (l .before .loop .inv) (l .loop-test .taken) (c .if2 .left) (c .before .before .shared-slice-known .given _ .fits) (c .before .if1 .taken)
-
-add-result-3 : tie.Need-add-result-3 Inv-loop μ-loop
-add-result-3 c = search needs
 
 returns-4 : tie.Need-returns-4 Inv-loop μ-loop
 returns-4 c =
@@ -70,20 +52,5 @@ pub long-number-at-spec : {M : Type 1} → statement M
 long-number-at-spec =
     tie.close
     (tie.spec
-    Inv-loop
-    μ-loop
-    loop-holds
-    shared-slice-read-b
-    sub-if1
-    add-result
-    returns
-    returns-2
-    add-result-2
-    returns-3
-    add-i
-    loop-less
-    loop-again
-    add-result-3
-    returns-4
-    returns-5
-    returns-6)
+    Inv-loop μ-loop loop-holds (λ c. search needs) sub-if1 (λ c. search needs) returns returns-2 (λ c. search needs)
+    returns-3 (λ c. search needs) (λ c. search needs) loop-again (λ c. search needs) returns-4 returns-5 returns-6)

@@ -5,21 +5,6 @@ use borrow.Author.Needs.{needs}
 use Rattle.own.proofs.small_at.Statement.{statement}
 use Rattle.own.proofs.small_at.Tie as tie
 
-add-if2 : tie.Need-add-if2
-add-if2 c = search needs
-
-shared-slice-read-h : tie.Need-shared-slice-read-h
-shared-slice-read-h c = search needs
-
-add-if5 : tie.Need-add-if5
-add-if5 c = search needs
-
-shared-slice-read-if5 : tie.Need-shared-slice-read-if5
-shared-slice-read-if5 c = search needs
-
-add-result : tie.Need-add-result
-add-result c = search needs
-
 returns : tie.Need-returns
 returns c = small-ends _ _ (c .before .before .before .before .before .if2 .taken) (c .before .before .before .if3 .taken) (c .before .before .if4 .taken) (c .if5 .taken)
 
@@ -42,14 +27,5 @@ pub small-at-spec : {M : Type 1} → statement M
 small-at-spec =
     tie.close
     (tie.spec
-    add-if2
-    shared-slice-read-h
-    add-if5
-    shared-slice-read-if5
-    add-result
-    returns
-    returns-2
-    returns-3
-    returns-4
-    returns-5
-    returns-6)
+    (λ c. search needs) (λ c. search needs) (λ c. search needs) (λ c. search needs) (λ c. search needs) returns
+    returns-2 returns-3 returns-4 returns-5 returns-6)

@@ -10,4 +10,5 @@ returns-2 : tie.Need-returns-2
 returns-2 c = simp (ne-eqb _ _ (c .if1 .left))
 
 pub at-once-spec : {M : Type 1} → statement M
-at-once-spec = tie.close (tie.spec returns returns-2)
+at-once-spec =
+    tie.close (tie.spec returns returns-2)

@@ -18,21 +18,6 @@ abbrev μ-loop : tie.MeasureT-loop
 loop-holds : tie.Need-loop-holds Inv-loop μ-loop
 loop-holds c = (omega arith, refl, paste-zero (c .args .buf .now) (c .args .pos) (c .args .src .now))
 
-shared-slice-read-buf : tie.Need-shared-slice-read-buf Inv-loop μ-loop
-shared-slice-read-buf c = omega arith
-
-add-buf : tie.Need-add-buf Inv-loop μ-loop
-add-buf c = omega arith
-
-slice-write-buf : tie.Need-slice-write-buf Inv-loop μ-loop
-slice-write-buf c = omega arith
-
-add-k : tie.Need-add-k Inv-loop μ-loop
-add-k c = omega arith
-
-loop-less : tie.Need-loop-less Inv-loop μ-loop
-loop-less c = omega arith
-
 turn : (d : List ℕ) (at : ℕ) (s : List ℕ) (k : ℕ) → at + k < length d → k < length s
     → set (paste d at s k) (at + k) (getD s k 0) ≡ paste d at s (k + 1)
 turn d at s k hd hs = paste-suc d at s k 0 hd hs ∙ ap (paste d at s) (sym (add-one k))
@@ -55,14 +40,5 @@ pub copy-in-spec : {M : Type 1} → statement M
 copy-in-spec =
     tie.close
     (tie.spec
-    Inv-loop
-    μ-loop
-    loop-holds
-    shared-slice-read-buf
-    add-buf
-    slice-write-buf
-    add-k
-    loop-less
-    loop-again
-    same-length
-    returns)
+    Inv-loop μ-loop loop-holds (λ c. omega arith) (λ c. omega arith) (λ c. omega arith) (λ c. omega arith)
+    (λ c. omega arith) loop-again same-length returns)

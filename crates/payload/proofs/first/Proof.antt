@@ -9,9 +9,6 @@ use Rattle.payload.proofs.first.Tie as tie
 slice-aggregate-result : tie.Need-slice-aggregate-result
 slice-aggregate-result c = sym (length-take-le _ _ (c .before .if1 .taken))
 
-slice-aggregate-result-2 : tie.Need-slice-aggregate-result-2
-slice-aggregate-result-2 c = search needs
-
 returns : tie.Need-returns
 returns c = simp (le-leb _ _ (c .before .if1 .taken))
 
@@ -19,4 +16,5 @@ returns-2 : tie.Need-returns-2
 returns-2 c = simp (lt-leb _ _ (c .before .if1 .left))
 
 pub first-spec : {M : Type 1} → statement M
-first-spec = tie.close (tie.spec slice-aggregate-result slice-aggregate-result-2 returns returns-2)
+first-spec =
+    tie.close (tie.spec slice-aggregate-result (λ c. search needs) returns returns-2)

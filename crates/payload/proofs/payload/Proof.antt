@@ -4,35 +4,8 @@ use borrow.Author.Needs.{needs}
 use Rattle.payload.proofs.payload.Statement.{statement}
 use Rattle.payload.proofs.payload.Tie as tie
 
-slice-aggregate-result : tie.Need-slice-aggregate-result
-slice-aggregate-result c = search needs
-
 returns : tie.Need-returns
 returns c = simp (lt-leb _ _ (c .before .if1 .taken))
-
-enum-known-answer : tie.Need-enum-known-answer
-enum-known-answer c = search needs
-
-first-requires : tie.Need-first-requires
-first-requires c κs = search needs
-
-enum-known-answer-2 : tie.Need-enum-known-answer-2
-enum-known-answer-2 c = search needs
-
-first-requires-2 : tie.Need-first-requires-2
-first-requires-2 c κs = search needs
-
-enum-told : tie.Need-enum-told
-enum-told c = search needs
-
-slice-aggregate-result-2 : tie.Need-slice-aggregate-result-2
-slice-aggregate-result-2 c = search needs
-
-enum-known-answer-3 : tie.Need-enum-known-answer-3
-enum-known-answer-3 c = search needs
-
-slice-aggregate-result-3 : tie.Need-slice-aggregate-result-3
-slice-aggregate-result-3 c = search needs
 
 returns-2 : tie.Need-returns-2
 returns-2 c = simp (le-leb _ _ (c .before .before .before .before .if1 .left), c .before .before .answer .given .1) (c .first .ensures)
@@ -50,17 +23,6 @@ pub payload-spec : {M : Type 1} → statement M
 payload-spec =
     tie.close
     (tie.spec
-    slice-aggregate-result
-    returns
-    enum-known-answer
-    first-requires
-    enum-known-answer-2
-    first-requires-2
-    enum-told
-    slice-aggregate-result-2
-    enum-known-answer-3
-    slice-aggregate-result-3
-    returns-2
-    returns-3
-    returns-4
+    (λ c. search needs) returns (λ c. search needs) (λ c κs. search needs) (λ c. search needs) (λ c κs. search needs)
+    (λ c. search needs) (λ c. search needs) (λ c. search needs) (λ c. search needs) returns-2 returns-3 returns-4
     returns-5)

@@ -6,66 +6,6 @@ use borrow.Author.Needs.{needs}
 use Rattle.phase.proofs.anew.Statement.{statement}
 use Rattle.phase.proofs.anew.Tie as tie
 
-enum-known-phase : tie.Need-enum-known-phase
-enum-known-phase c = search needs
-
-acc-anew-requires : tie.Need-acc-anew-requires
-acc-anew-requires c κs = search needs
-
-enum-known-phase-2 : tie.Need-enum-known-phase-2
-enum-known-phase-2 c = search needs
-
-acc-anew-requires-2 : tie.Need-acc-anew-requires-2
-acc-anew-requires-2 c κs = search needs
-
-enum-known-phase-3 : tie.Need-enum-known-phase-3
-enum-known-phase-3 c = search needs
-
-acc-anew-requires-3 : tie.Need-acc-anew-requires-3
-acc-anew-requires-3 c κs = search needs
-
-enum-known-phase-4 : tie.Need-enum-known-phase-4
-enum-known-phase-4 c = search needs
-
-acc-anew-requires-4 : tie.Need-acc-anew-requires-4
-acc-anew-requires-4 c κs = search needs
-
-enum-known-phase-5 : tie.Need-enum-known-phase-5
-enum-known-phase-5 c = search needs
-
-acc-anew-requires-5 : tie.Need-acc-anew-requires-5
-acc-anew-requires-5 c κs = search needs
-
-enum-known-phase-6 : tie.Need-enum-known-phase-6
-enum-known-phase-6 c = search needs
-
-acc-anew-requires-6 : tie.Need-acc-anew-requires-6
-acc-anew-requires-6 c κs = search needs
-
-enum-known-phase-7 : tie.Need-enum-known-phase-7
-enum-known-phase-7 c = search needs
-
-acc-anew-requires-7 : tie.Need-acc-anew-requires-7
-acc-anew-requires-7 c κs = search needs
-
-enum-known-phase-8 : tie.Need-enum-known-phase-8
-enum-known-phase-8 c = search needs
-
-acc-anew-requires-8 : tie.Need-acc-anew-requires-8
-acc-anew-requires-8 c κs = search needs
-
-enum-known-phase-9 : tie.Need-enum-known-phase-9
-enum-known-phase-9 c = search needs
-
-enum-known-phase-10 : tie.Need-enum-known-phase-10
-enum-known-phase-10 c = search needs
-
-enum-known-phase-11 : tie.Need-enum-known-phase-11
-enum-known-phase-11 c = search needs
-
-enum-told : tie.Need-enum-told
-enum-told c = search needs
-
 returns : tie.Need-returns
 returns c =
     ap (λ (a : Acc). Header a) (c .acc-anew .ensures) ∙ sym (c .before .before .phase .given .1)
@@ -107,42 +47,13 @@ returns-10 c = sym (c .before .phase10 .given .1)
 returns-11 : tie.Need-returns-11
 returns-11 c = sym (c .before .phase11 .given .1)
 
-returns-12 : tie.Need-returns-12
-returns-12 c = search needs
-
 pub anew-spec : {M : Type 1} → statement M
 anew-spec =
     tie.close
     (tie.spec
-    enum-known-phase
-    acc-anew-requires
-    enum-known-phase-2
-    acc-anew-requires-2
-    enum-known-phase-3
-    acc-anew-requires-3
-    enum-known-phase-4
-    acc-anew-requires-4
-    enum-known-phase-5
-    acc-anew-requires-5
-    enum-known-phase-6
-    acc-anew-requires-6
-    enum-known-phase-7
-    acc-anew-requires-7
-    enum-known-phase-8
-    acc-anew-requires-8
-    enum-known-phase-9
-    enum-known-phase-10
-    enum-known-phase-11
-    enum-told
-    returns
-    returns-2
-    returns-3
-    returns-4
-    returns-5
-    returns-6
-    returns-7
-    returns-8
-    returns-9
-    returns-10
-    returns-11
-    returns-12)
+    (λ c. search needs) (λ c κs. search needs) (λ c. search needs) (λ c κs. search needs) (λ c. search needs)
+    (λ c κs. search needs) (λ c. search needs) (λ c κs. search needs) (λ c. search needs) (λ c κs. search needs)
+    (λ c. search needs) (λ c κs. search needs) (λ c. search needs) (λ c κs. search needs) (λ c. search needs)
+    (λ c κs. search needs) (λ c. search needs) (λ c. search needs) (λ c. search needs) (λ c. search needs) returns
+    returns-2 returns-3 returns-4 returns-5 returns-6 returns-7 returns-8 returns-9 returns-10 returns-11
+    (λ c. search needs))

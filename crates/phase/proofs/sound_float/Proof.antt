@@ -15,9 +15,6 @@ returns-2 : tie.Need-returns-2
 returns-2 c =
     simp (le-leb _ _ (c .before .if1 .left), lt-leb _ _ (c .if2 .taken))
 
-bytes-requires : tie.Need-bytes-requires
-bytes-requires c κs = search needs
-
 returns-3 : tie.Need-returns-3
 returns-3 c =
     simp (le-leb _ _ (c .before .before .before .if1 .left), le-leb _ _ (c .before .before .if2 .left), le-ltb _ _ (subst (λ (n : ℕ). n ≤ c .before .before .before .before .args .k) (c .before .bytes .ensures) (c .if3 .taken)))
@@ -25,9 +22,6 @@ returns-3 c =
 mul-result : tie.Need-mul-result
 mul-result c =
     record { fits = omega (arith, bytes-8 (c .before .before .before .before .args .w), c .if3 .left, c .before .bytes .ensures) }
-
-cast-result : tie.Need-cast-result
-cast-result c = search needs
 
 shr-result : tie.Need-shr-result
 shr-result c =
@@ -41,11 +35,4 @@ pub sound-float-spec : {M : Type 1} → statement M
 sound-float-spec =
     tie.close
     (tie.spec
-    returns
-    returns-2
-    bytes-requires
-    returns-3
-    mul-result
-    cast-result
-    shr-result
-    returns-4)
+    returns returns-2 (λ c κs. search needs) returns-3 mul-result (λ c. search needs) shr-result returns-4)

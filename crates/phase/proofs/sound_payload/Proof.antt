@@ -15,4 +15,5 @@ returns-3 c =
     simp (le-leb _ _ (c .before .if1 .left), le-leb _ _ (c .if2 .left))
 
 pub sound-payload-spec : {M : Type 1} → statement M
-sound-payload-spec = tie.close (tie.spec returns returns-2 returns-3)
+sound-payload-spec =
+    tie.close (tie.spec returns returns-2 returns-3)

@@ -22,9 +22,6 @@ mul-x : tie.Need-mul-x
 mul-x c =
     record { fits = omega (arith, bytes-8 (c .args .w), c .pre .0) }
 
-cast-x : tie.Need-cast-x
-cast-x c = search needs
-
 shl-x : tie.Need-shl-x
 shl-x c = omega (arith, bytes-8 (c .args .w), c .pre .0)
 
@@ -32,22 +29,10 @@ add-if1 : tie.Need-add-if1
 add-if1 c =
     record { fits = omega (arith, bytes-8 (c .args .w), c .pre .0) }
 
-bytes-requires : tie.Need-bytes-requires
-bytes-requires c κs = search needs
-
-add-t16 : tie.Need-add-t16
-add-t16 c = search needs
-
 float-event-requires : tie.Need-float-event-requires
 float-event-requires c κs =
     let e : c .before .before .args .k + 1 ≡ bytesOf (width (c .before .before .args .w)) = omega (arith, c .before .before .pre .0, c .if1 .left, c .before .bytes .ensures) in
     subst (λ (n : ℕ). n < 256 ^ bytesOf (width (c .before .before .args .w))) (sym (joined-byte (c .before .before .args .v) (c .before .before .args .b) (c .before .before .args .k) (omega (arith, bytes-8 (c .before .before .args .w), c .before .before .pre .0)) (c .before .before .fits .b .fits) (c .before .before .pre .1))) (subst (λ (j : ℕ). c .before .before .args .v + c .before .before .args .b * 256 ^ (c .before .before .args .k) < 256 ^ j) e (byte-below (c .before .before .args .v) (c .before .before .args .b) (c .before .before .args .k) (c .before .before .fits .b .fits) (c .before .before .pre .1)))
-
-less-requires : tie.Need-less-requires
-less-requires c κs = search needs
-
-floats-requires : tie.Need-floats-requires
-floats-requires c κs = search needs
 
 returns : tie.Need-returns
 unfolding step
@@ -66,14 +51,5 @@ pub float-spec : {M : Type 1} → statement M
 float-spec =
     tie.close
     (tie.spec
-    mul-x
-    cast-x
-    shl-x
-    add-if1
-    bytes-requires
-    add-t16
-    float-event-requires
-    less-requires
-    floats-requires
-    returns
-    returns-2)
+    mul-x (λ c. search needs) shl-x add-if1 (λ c κs. search needs) (λ c. search needs) float-event-requires
+    (λ c κs. search needs) (λ c κs. search needs) returns returns-2)

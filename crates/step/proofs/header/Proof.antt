@@ -7,15 +7,6 @@ use borrow.Author.Needs.{needs}
 use Rattle.step.proofs.header.Statement.{statement}
 use Rattle.step.proofs.header.Tie as tie
 
-push-requires : tie.Need-push-requires
-push-requires c κs = search needs
-
-enum-known-p : tie.Need-enum-known-p
-enum-known-p c = search needs
-
-enum-known-p-2 : tie.Need-enum-known-p-2
-enum-known-p-2 c = search needs
-
 returns : tie.Need-returns
 unfolding step
 returns c =
@@ -26,22 +17,10 @@ unfolding step
 returns-2 c =
     more-in (c .before .before .before .before .before .args .a) (c .before .before .before .before .before .args .b) (c .before .before .before .before .before .pre) (c .before .before .before .before .push .result) (c .before .before .before .before .push .ensures) _ _ _ _ (c .before .p2 .given .1)
 
-cast-if1 : tie.Need-cast-if1
-cast-if1 c = search needs
-
 returns-3 : tie.Need-returns-3
 unfolding step
 returns-3 c =
     id-beyond (c .before .before .before .before .before .args .depth) (c .before .before .p .given .0 .0) (c .if1 .taken) ∙ value-in (c .before .before .before .before .before .args .a) (c .before .before .before .before .before .args .b) (c .before .before .before .before .before .pre) (c .before .before .before .before .push .result) (c .before .before .before .before .push .ensures) _ _ _ _ (c .before .before .p .given .1)
-
-cast-field : tie.Need-cast-field
-cast-field c = search needs
-
-cast-field-2 : tie.Need-cast-field-2
-cast-field-2 c = search needs
-
-field-requires : tie.Need-field-requires
-field-requires c κs = search needs
 
 returns-4 : tie.Need-returns-4
 unfolding step
@@ -52,14 +31,5 @@ pub header-spec : {M : Type 1} → statement M
 header-spec =
     tie.close
     (tie.spec
-    push-requires
-    enum-known-p
-    enum-known-p-2
-    returns
-    returns-2
-    cast-if1
-    returns-3
-    cast-field
-    cast-field-2
-    field-requires
-    returns-4)
+    (λ c κs. search needs) (λ c. search needs) (λ c. search needs) returns returns-2 (λ c. search needs) returns-3
+    (λ c. search needs) (λ c. search needs) (λ c κs. search needs) returns-4)

@@ -15,15 +15,6 @@ use borrow.Author.Needs.{needs}
 use Rattle.step.proofs.signed.Statement.{statement}
 use Rattle.step.proofs.signed.Tie as tie
 
-push-requires : tie.Need-push-requires
-push-requires c κs = search needs
-
-enum-known-p : tie.Need-enum-known-p
-enum-known-p c = search needs
-
-enum-known-p-2 : tie.Need-enum-known-p-2
-enum-known-p-2 c = search needs
-
 returns : tie.Need-returns
 unfolding step
 returns c =
@@ -33,15 +24,6 @@ returns-2 : tie.Need-returns-2
 unfolding step
 returns-2 c =
     more-in (c .before .before .before .before .before .args .a) (c .before .before .before .before .before .args .b) (c .before .before .before .before .before .pre) (c .before .before .before .before .push .result) (c .before .before .before .before .push .ensures) _ _ _ _ (c .before .p2 .given .1)
-
-zigzag-decode-requires : tie.Need-zigzag-decode-requires
-zigzag-decode-requires c κs = search needs
-
-less-requires : tie.Need-less-requires
-less-requires c κs = search needs
-
-signeds-requires : tie.Need-signeds-requires
-signeds-requires c κs = search needs
 
 returns-3 : tie.Need-returns-3
 unfolding step atSigned
@@ -53,12 +35,5 @@ pub signed-spec : {M : Type 1} → statement M
 signed-spec =
     tie.close
     (tie.spec
-    push-requires
-    enum-known-p
-    enum-known-p-2
-    returns
-    returns-2
-    zigzag-decode-requires
-    less-requires
-    signeds-requires
-    returns-3)
+    (λ c κs. search needs) (λ c. search needs) (λ c. search needs) returns returns-2 (λ c κs. search needs)
+    (λ c κs. search needs) (λ c κs. search needs) returns-3)

@@ -11,15 +11,6 @@ use borrow.Author.Needs.{needs}
 use Rattle.step.proofs.unsigned.Statement.{statement}
 use Rattle.step.proofs.unsigned.Tie as tie
 
-push-requires : tie.Need-push-requires
-push-requires c κs = search needs
-
-enum-known-p : tie.Need-enum-known-p
-enum-known-p c = search needs
-
-enum-known-p-2 : tie.Need-enum-known-p-2
-enum-known-p-2 c = search needs
-
 returns : tie.Need-returns
 unfolding step
 returns c =
@@ -30,12 +21,6 @@ unfolding step
 returns-2 c =
     more-in (c .before .before .before .before .before .args .a) (c .before .before .before .before .before .args .b) (c .before .before .before .before .before .pre) (c .before .before .before .before .push .result) (c .before .before .before .before .push .ensures) _ _ _ _ (c .before .p2 .given .1)
 
-less-requires : tie.Need-less-requires
-less-requires c κs = search needs
-
-unsigneds-requires : tie.Need-unsigneds-requires
-unsigneds-requires c κs = search needs
-
 returns-3 : tie.Need-returns-3
 unfolding step atUnsigned
 returns-3 c =
@@ -45,11 +30,5 @@ pub unsigned-spec : {M : Type 1} → statement M
 unsigned-spec =
     tie.close
     (tie.spec
-    push-requires
-    enum-known-p
-    enum-known-p-2
-    returns
-    returns-2
-    less-requires
-    unsigneds-requires
-    returns-3)
+    (λ c κs. search needs) (λ c. search needs) (λ c. search needs) returns returns-2 (λ c κs. search needs)
+    (λ c κs. search needs) returns-3)

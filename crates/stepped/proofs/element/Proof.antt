@@ -9,12 +9,6 @@ use borrow.Author.Needs.{needs}
 use Rattle.stepped.proofs.element.Statement.{statement}
 use Rattle.stepped.proofs.element.Tie as tie
 
-float-array-requires : tie.Need-float-array-requires
-float-array-requires c κs = search needs
-
-float-array-requires-2 : tie.Need-float-array-requires-2
-float-array-requires-2 c κs = search needs
-
 returns : tie.Need-returns
 returns c =
     c .float-array .ensures ∙ sym (ap (λ (n : ℕ). stepped (atElement (c .before .before .args .depth) (c .before .before .args .id) (c .before .before .args .count) (c .before .before .args .len) (subtypeOf n))) (c .before .match .keys1))
@@ -29,4 +23,4 @@ returns-3 c =
 
 pub element-spec : {M : Type 1} → statement M
 element-spec =
-    tie.close (tie.spec float-array-requires float-array-requires-2 returns returns-2 returns-3)
+    tie.close (tie.spec (λ c κs. search needs) (λ c κs. search needs) returns returns-2 returns-3)

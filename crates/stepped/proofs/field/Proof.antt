@@ -10,12 +10,6 @@ use borrow.Author.Needs.{needs}
 use Rattle.stepped.proofs.field.Statement.{statement}
 use Rattle.stepped.proofs.field.Tie as tie
 
-sequence-begin-requires : tie.Need-sequence-begin-requires
-sequence-begin-requires c κs = search needs
-
-sequence-end-requires : tie.Need-sequence-end-requires
-sequence-end-requires c κs = search needs
-
 returns : tie.Need-returns
 returns c =
     sym (ap (λ (n : ℕ). stepped (atWire base (c .before .args .depth) (c .before .args .id) (wireOf n))) (c .match .keys1))
@@ -52,13 +46,5 @@ pub field-spec : {M : Type 1} → statement M
 field-spec =
     tie.close
     (tie.spec
-    sequence-begin-requires
-    sequence-end-requires
-    returns
-    returns-2
-    returns-3
-    returns-4
-    returns-5
-    returns-6
-    returns-7
+    (λ c κs. search needs) (λ c κs. search needs) returns returns-2 returns-3 returns-4 returns-5 returns-6 returns-7
     returns-8)

@@ -10,18 +10,6 @@ use borrow.Author.Needs.{needs}
 use Rattle.stepped.proofs.fixlen.Statement.{statement}
 use Rattle.stepped.proofs.fixlen.Tie as tie
 
-scalar-requires : tie.Need-scalar-requires
-scalar-requires c κs = search needs
-
-scalar-requires-2 : tie.Need-scalar-requires-2
-scalar-requires-2 c κs = search needs
-
-announced-requires : tie.Need-announced-requires
-announced-requires c κs = search needs
-
-announced-requires-2 : tie.Need-announced-requires-2
-announced-requires-2 c κs = search needs
-
 returns : tie.Need-returns
 returns c =
     c .scalar .ensures ∙ sym (ap (λ (n : ℕ). stepped (atSubtype base (c .before .before .args .depth) (c .before .before .args .id) (c .before .before .args .len) (subtypeOf n))) (c .before .match .keys1))
@@ -46,12 +34,5 @@ pub fixlen-spec : {M : Type 1} → statement M
 fixlen-spec =
     tie.close
     (tie.spec
-    scalar-requires
-    scalar-requires-2
-    announced-requires
-    announced-requires-2
-    returns
-    returns-2
-    returns-3
-    returns-4
-    returns-5)
+    (λ c κs. search needs) (λ c κs. search needs) (λ c κs. search needs) (λ c κs. search needs) returns returns-2
+    returns-3 returns-4 returns-5)

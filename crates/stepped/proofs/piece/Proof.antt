@@ -6,12 +6,6 @@ use borrow.Author.Needs.{needs}
 use Rattle.stepped.proofs.piece.Statement.{statement}
 use Rattle.stepped.proofs.piece.Tie as tie
 
-enum-told : tie.Need-enum-told
-enum-told c = search needs
-
-enum-told-2 : tie.Need-enum-told-2
-enum-told-2 c = search needs
-
 returns : tie.Need-returns
 returns c =
     sym (ap (λ (r : RawType). pieceIn (c .before .before .args .id) r (c .before .before .args .total) (c .before .before .args .offset) (c .before .before .args .len)) (c .enum-told .given .1))
@@ -21,4 +15,5 @@ returns-2 c =
     sym (ap (λ (r : RawType). pieceIn (c .before .before .args .id) r (c .before .before .args .total) (c .before .before .args .offset) (c .before .before .args .len)) (c .enum-told2 .given .1))
 
 pub piece-spec : {M : Type 1} → statement M
-piece-spec = tie.close (tie.spec enum-told enum-told-2 returns returns-2)
+piece-spec =
+    tie.close (tie.spec (λ c. search needs) (λ c. search needs) returns returns-2)

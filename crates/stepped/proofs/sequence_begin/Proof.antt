@@ -6,12 +6,6 @@ use borrow.Author.Needs.{needs}
 use Rattle.stepped.proofs.sequence_begin.Statement.{statement}
 use Rattle.stepped.proofs.sequence_begin.Tie as tie
 
-idle-requires : tie.Need-idle-requires
-idle-requires c κs = search needs
-
-add-t8 : tie.Need-add-t8
-add-t8 c = search needs
-
 returns : tie.Need-returns
 returns c =
     raised (Begin (c .before .before .args .id)) _ (c .idle .ensures) ∙ begins (c .before .before .args .depth) (c .before .before .args .id) (c .before .if1 .taken)
@@ -21,4 +15,5 @@ returns-2 c =
     too-deep (c .before .args .depth) (c .before .args .id) (c .if1 .left)
 
 pub sequence-begin-spec : {M : Type 1} → statement M
-sequence-begin-spec = tie.close (tie.spec idle-requires add-t8 returns returns-2)
+sequence-begin-spec =
+    tie.close (tie.spec (λ c κs. search needs) (λ c. search needs) returns returns-2)

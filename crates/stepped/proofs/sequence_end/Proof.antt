@@ -6,12 +6,6 @@ use borrow.Author.Needs.{needs}
 use Rattle.stepped.proofs.sequence_end.Statement.{statement}
 use Rattle.stepped.proofs.sequence_end.Tie as tie
 
-idle-requires : tie.Need-idle-requires
-idle-requires c κs = search needs
-
-sub-t6 : tie.Need-sub-t6
-sub-t6 c = search needs
-
 returns : tie.Need-returns
 returns c = not-open (c .before .args .depth) 0 (c .if1 .taken)
 
@@ -20,4 +14,5 @@ returns-2 c =
     raised End _ (c .idle .ensures) ∙ ends (c .before .before .args .depth) 0 (c .before .if1 .left)
 
 pub sequence-end-spec : {M : Type 1} → statement M
-sequence-end-spec = tie.close (tie.spec idle-requires sub-t6 returns returns-2)
+sequence-end-spec =
+    tie.close (tie.spec (λ c κs. search needs) (λ c. search needs) returns returns-2)

@@ -36,4 +36,5 @@ returns-2 c =
     ap natAbs (toZ-ofZ w64 (c .before .args .v) (c .before .fits .v)) ∙ ap natAbs (s .1) ∙ sym (ap (ofZ w64) (s .1))
 
 pub bits-spec : {M : Type 1} → statement M
-bits-spec = tie.close (tie.spec cast-result cast-result-2 returns returns-2)
+bits-spec =
+    tie.close (tie.spec cast-result cast-result-2 returns returns-2)

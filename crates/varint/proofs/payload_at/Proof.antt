@@ -9,17 +9,9 @@ use Rattle.varint.proofs.payload_at.Tie as tie
 cast-result : tie.Need-cast-result
 cast-result c = omega (arith, mask-lt (c .args .b) 7)
 
-mul-result : tie.Need-mul-result
-mul-result c = search needs
-
-cast-result-2 : tie.Need-cast-result-2
-cast-result-2 c = search needs
-
-shl-result : tie.Need-shl-result
-shl-result c = search needs
-
 returns : tie.Need-returns
 returns c = shifted (c .args .b) (c .args .k) (c .pre)
 
 pub payload-at-spec : {M : Type 1} → statement M
-payload-at-spec = tie.close (tie.spec cast-result mul-result cast-result-2 shl-result returns)
+payload-at-spec =
+    tie.close (tie.spec cast-result (λ c. search needs) (λ c. search needs) (λ c. search needs) returns)

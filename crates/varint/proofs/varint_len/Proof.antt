@@ -14,14 +14,8 @@ Inv-loop v rest₀ len₀ rest len = len + length (shortest rest) ≡ length (sh
 abbrev μ-loop : tie.MeasureT-loop
 μ-loop v rest₀ len₀ rest len = rest
 
-loop-holds : tie.Need-loop-holds Inv-loop μ-loop
-loop-holds c = omega arith
-
 add-len : tie.Need-add-len Inv-loop μ-loop
 add-len c = omega (arith, length-64 (c .before .before .args .v) (c .before .before .fits .v .fits))
-
-loop-less : tie.Need-loop-less Inv-loop μ-loop
-loop-less c = omega arith
 
 loop-again : tie.Need-loop-again Inv-loop μ-loop
 loop-again c = omega (arith, length-more (c .before .loop .rest) (omega (arith, c .loop-test .taken)))
@@ -31,4 +25,4 @@ returns c = omega (arith, length-one (c .before .loop .rest) (omega (arith, c .l
 
 pub varint-len-spec : {M : Type 1} → statement M
 varint-len-spec =
-    tie.close (tie.spec Inv-loop μ-loop loop-holds add-len loop-less loop-again returns)
+    tie.close (tie.spec Inv-loop μ-loop (λ c. omega arith) add-len (λ c. omega arith) loop-again returns)

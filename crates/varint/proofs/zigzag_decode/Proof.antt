@@ -10,9 +10,6 @@ use borrow.Author.Needs.{needs}
 use Rattle.varint.proofs.zigzag_decode.Statement.{statement}
 use Rattle.varint.proofs.zigzag_decode.Tie as tie
 
-cast-half : tie.Need-cast-half
-cast-half c = search needs
-
 returns : tie.Need-returns
 returns c =
     let h : c .before .args .u / 2 < 2 ^ 63 = omega arith in
@@ -24,4 +21,5 @@ returns-2 c =
     ap (toZ w64) e ∙ toZ-neg w64 (c .before .args .u / 2) (omega arith) ∙ simp (ne-eqb _ _ (c .if1 .left))
 
 pub zigzag-decode-spec : {M : Type 1} → statement M
-zigzag-decode-spec = tie.close (tie.spec cast-half returns returns-2)
+zigzag-decode-spec =
+    tie.close (tie.spec (λ c. search needs) returns returns-2)

@@ -11,12 +11,6 @@ use borrow.Author.Needs.{needs}
 use Rattle.varint.proofs.zigzag_encode.Statement.{statement}
 use Rattle.varint.proofs.zigzag_encode.Tie as tie
 
-bits-requires : tie.Need-bits-requires
-bits-requires c κs = search needs
-
-wrapping-add-u64-requires : tie.Need-wrapping-add-u64-requires
-wrapping-add-u64-requires c κs = search needs
-
 returns : tie.Need-returns
 returns c =
     let s = negative (c .before .before .before .args .v) (c .before .before .before .fits .v) (c .if1 .taken) in
@@ -32,4 +26,5 @@ returns-2 c =
     e ∙ sym (ap zigzag (s .1))
 
 pub zigzag-encode-spec : {M : Type 1} → statement M
-zigzag-encode-spec = tie.close (tie.spec bits-requires wrapping-add-u64-requires returns returns-2)
+zigzag-encode-spec =
+    tie.close (tie.spec (λ c κs. search needs) (λ c κs. search needs) returns returns-2)

@@ -7,15 +7,6 @@ use borrow.Author.Needs.{needs}
 use Rattle.whole.proofs.array_at.Statement.{statement}
 use Rattle.whole.proofs.array_at.Tie as tie
 
-count-at-requires : tie.Need-count-at-requires
-count-at-requires c κs = search needs
-
-enum-known-found : tie.Need-enum-known-found
-enum-known-found c = search needs
-
-leave-requires : tie.Need-leave-requires
-leave-requires c κs = search needs
-
 returns : tie.Need-returns
 returns c id = subst (Passes _ _ _) (sym (c .leave .ensures)) (array-else _ (c .before .match .keys2) (c .before .before .count-at .ensures) id)
 
@@ -29,9 +20,4 @@ pub array-at-spec : {M : Type 1} → statement M
 array-at-spec =
     tie.close
     (tie.spec
-    count-at-requires
-    enum-known-found
-    leave-requires
-    returns
-    skip-varints-requires
-    returns-2)
+    (λ c κs. search needs) (λ c. search needs) (λ c κs. search needs) returns skip-varints-requires returns-2)

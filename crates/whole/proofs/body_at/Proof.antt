@@ -6,36 +6,6 @@ use borrow.Author.Needs.{needs}
 use Rattle.whole.proofs.body_at.Statement.{statement}
 use Rattle.whole.proofs.body_at.Tie as tie
 
-fixlen-at-requires : tie.Need-fixlen-at-requires
-fixlen-at-requires c κs = search needs
-
-at-depth-requires : tie.Need-at-depth-requires
-at-depth-requires c κs = search needs
-
-float-array-at-requires : tie.Need-float-array-at-requires
-float-array-at-requires c κs = search needs
-
-at-depth-requires-2 : tie.Need-at-depth-requires-2
-at-depth-requires-2 c κs = search needs
-
-add-t10 : tie.Need-add-t10
-add-t10 c = search needs
-
-skip-at-requires : tie.Need-skip-at-requires
-skip-at-requires c κs = search needs
-
-at-depth-requires-3 : tie.Need-at-depth-requires-3
-at-depth-requires-3 c κs = search needs
-
-array-at-requires : tie.Need-array-at-requires
-array-at-requires c κs = search needs
-
-at-depth-requires-4 : tie.Need-at-depth-requires-4
-at-depth-requires-4 c κs = search needs
-
-sub-t15 : tie.Need-sub-t15
-sub-t15 c = search needs
-
 returns : tie.Need-returns
 returns c id = at-wire _ id T-fixlen _ _ (ap wireOf (c .before .before .match .keys1)) (deepens _ _ _ _ (c .before .fixlen-at .ensures id) (c .at-depth .ensures))
 
@@ -70,21 +40,6 @@ pub body-at-spec : {M : Type 1} → statement M
 body-at-spec =
     tie.close
     (tie.spec
-    fixlen-at-requires
-    at-depth-requires
-    float-array-at-requires
-    at-depth-requires-2
-    add-t10
-    skip-at-requires
-    at-depth-requires-3
-    array-at-requires
-    at-depth-requires-4
-    sub-t15
-    returns
-    returns-2
-    returns-3
-    returns-4
-    returns-5
-    returns-6
-    returns-7
-    returns-8)
+    (λ c κs. search needs) (λ c κs. search needs) (λ c κs. search needs) (λ c κs. search needs) (λ c. search needs)
+    (λ c κs. search needs) (λ c κs. search needs) (λ c κs. search needs) (λ c κs. search needs) (λ c. search needs)
+    returns returns-2 returns-3 returns-4 returns-5 returns-6 returns-7 returns-8)

@@ -5,17 +5,8 @@ use borrow.Author.Needs.{needs}
 use Rattle.whole.proofs.count_at.Statement.{statement}
 use Rattle.whole.proofs.count_at.Tie as tie
 
-varint-at-requires : tie.Need-varint-at-requires
-varint-at-requires c κs = search needs
-
-enum-known-found : tie.Need-enum-known-found
-enum-known-found c = search needs
-
 returns : tie.Need-returns
 returns c = else-checked _ _ _ _ _ (c .match .keys2) (c .before .varint-at .ensures)
-
-cast-if1 : tie.Need-cast-if1
-cast-if1 c = search needs
 
 returns-2 : tie.Need-returns-2
 returns-2 c = checked-fails _ _ _ _ _ _ _ (c .before .before .found .given .1) (c .before .before .before .before .varint-at .ensures) (lt-leb _ _ (c .if1 .taken))
@@ -25,4 +16,4 @@ returns-3 c = checked-passes _ _ _ _ _ _ _ (c .before .before .found .given .1) 
 
 pub count-at-spec : {M : Type 1} → statement M
 count-at-spec =
-    tie.close (tie.spec varint-at-requires enum-known-found returns cast-if1 returns-2 returns-3)
+    tie.close (tie.spec (λ c κs. search needs) (λ c. search needs) returns (λ c. search needs) returns-2 returns-3)

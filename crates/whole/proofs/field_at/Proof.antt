@@ -7,18 +7,6 @@ use borrow.Author.Needs.{needs}
 use Rattle.whole.proofs.field_at.Statement.{statement}
 use Rattle.whole.proofs.field_at.Tie as tie
 
-header-at-requires : tie.Need-header-at-requires
-header-at-requires c κs = search needs
-
-enum-known-found : tie.Need-enum-known-found
-enum-known-found c = search needs
-
-leave-requires : tie.Need-leave-requires
-leave-requires c κs = search needs
-
-at-depth-requires : tie.Need-at-depth-requires
-at-depth-requires c κs = search needs
-
 returns : tie.Need-returns
 returns c = field-else _ _ _ (c .before .before .match .keys2) (c .before .before .before .header-at .ensures) (c .at-depth .ensures ∙ ap (deepened _) (c .before .leave .ensures))
 
@@ -32,10 +20,5 @@ pub field-at-spec : {M : Type 1} → statement M
 field-at-spec =
     tie.close
     (tie.spec
-    header-at-requires
-    enum-known-found
-    leave-requires
-    at-depth-requires
-    returns
-    body-at-requires
+    (λ c κs. search needs) (λ c. search needs) (λ c κs. search needs) (λ c κs. search needs) returns body-at-requires
     returns-2)

@@ -8,15 +8,6 @@ use borrow.Author.Needs.{needs}
 use Rattle.whole.proofs.fixlen_at.Statement.{statement}
 use Rattle.whole.proofs.fixlen_at.Tie as tie
 
-varint-at-requires : tie.Need-varint-at-requires
-varint-at-requires c κs = search needs
-
-enum-known-found : tie.Need-enum-known-found
-enum-known-found c = search needs
-
-leave-requires : tie.Need-leave-requires
-leave-requires c κs = search needs
-
 returns : tie.Need-returns
 returns c id = subst (Passes _ _ _) (sym (c .leave .ensures)) (fixlen-else _ (c .before .match .keys2) (c .before .before .varint-at .ensures) id)
 
@@ -25,9 +16,6 @@ jump-requires c κs = let p = c .before .before .before in reaches-inside (p .fo
 
 jump-requires-2 : tie.Need-jump-requires-2
 jump-requires-2 c κs = let p = c .before .before .before in reaches-inside (p .found .given .1) (p .before .before .varint-at .ensures)
-
-cast-if4 : tie.Need-cast-if4
-cast-if4 c = search needs
 
 jump-requires-3 : tie.Need-jump-requires-3
 jump-requires-3 c κs = let p = c .before .before .before .before in reaches-inside (p .found .given .1) (p .before .before .varint-at .ensures)
@@ -71,18 +59,5 @@ pub fixlen-at-spec : {M : Type 1} → statement M
 fixlen-at-spec =
     tie.close
     (tie.spec
-    varint-at-requires
-    enum-known-found
-    leave-requires
-    returns
-    jump-requires
-    jump-requires-2
-    cast-if4
-    jump-requires-3
-    returns-2
-    returns-3
-    returns-4
-    returns-5
-    returns-6
-    returns-7
-    returns-8)
+    (λ c κs. search needs) (λ c. search needs) (λ c κs. search needs) returns jump-requires jump-requires-2
+    (λ c. search needs) jump-requires-3 returns-2 returns-3 returns-4 returns-5 returns-6 returns-7 returns-8)

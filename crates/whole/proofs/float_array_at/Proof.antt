@@ -9,26 +9,11 @@ use borrow.Author.Needs.{needs}
 use Rattle.whole.proofs.float_array_at.Statement.{statement}
 use Rattle.whole.proofs.float_array_at.Tie as tie
 
-count-at-requires : tie.Need-count-at-requires
-count-at-requires c κs = search needs
-
-enum-known-count : tie.Need-enum-known-count
-enum-known-count c = search needs
-
-leave-requires : tie.Need-leave-requires
-leave-requires c κs = search needs
-
 returns : tie.Need-returns
 returns c id = subst (Passes _ _ _) (sym (c .leave .ensures)) (floats-else _ (c .before .match .keys2) (c .before .before .count-at .ensures) id)
 
 varint-at-requires : tie.Need-varint-at-requires
 varint-at-requires c κs = let p = c .before in reaches-inside (p .count .given .1) (p .before .before .count-at .ensures)
-
-enum-known-found : tie.Need-enum-known-found
-enum-known-found c = search needs
-
-leave-requires-2 : tie.Need-leave-requires-2
-leave-requires-2 c κs = search needs
 
 returns-2 : tie.Need-returns-2
 returns-2 c id =
@@ -81,18 +66,5 @@ pub float-array-at-spec : {M : Type 1} → statement M
 float-array-at-spec =
     tie.close
     (tie.spec
-    count-at-requires
-    enum-known-count
-    leave-requires
-    returns
-    varint-at-requires
-    enum-known-found
-    leave-requires-2
-    returns-2
-    mul-jump
-    jump-requires
-    returns-3
-    mul-jump-2
-    jump-requires-2
-    returns-4
-    returns-5)
+    (λ c κs. search needs) (λ c. search needs) (λ c κs. search needs) returns varint-at-requires (λ c. search needs)
+    (λ c κs. search needs) returns-2 mul-jump jump-requires returns-3 mul-jump-2 jump-requires-2 returns-4 returns-5)

@@ -5,29 +5,11 @@ use borrow.Author.Needs.{needs}
 use Rattle.whole.proofs.header_at.Statement.{statement}
 use Rattle.whole.proofs.header_at.Tie as tie
 
-shared-slice-read-b : tie.Need-shared-slice-read-b
-shared-slice-read-b c = search needs
-
-cast-t12 : tie.Need-cast-t12
-cast-t12 c = search needs
-
-add-t13 : tie.Need-add-t13
-add-t13 c = search needs
-
 returns : tie.Need-returns
 returns c = one-header _ _ (c .before .before .if1 .taken) (c .if2 .taken)
 
-long-varint-at-requires : tie.Need-long-varint-at-requires
-long-varint-at-requires c κs = search needs
-
-enum-known-found : tie.Need-enum-known-found
-enum-known-found c = search needs
-
 returns-2 : tie.Need-returns-2
 returns-2 c = else-checked _ _ _ _ _ (c .match .keys2) (c .before .long-varint-at .ensures)
-
-cast-if3 : tie.Need-cast-if3
-cast-if3 c = search needs
 
 returns-3 : tie.Need-returns-3
 returns-3 c = checked-fails _ _ _ _ _ _ _ (c .before .before .found .given .1) (c .before .before .before .before .long-varint-at .ensures) (lt-leb _ _ (c .if3 .taken))
@@ -39,13 +21,5 @@ pub header-at-spec : {M : Type 1} → statement M
 header-at-spec =
     tie.close
     (tie.spec
-    shared-slice-read-b
-    cast-t12
-    add-t13
-    returns
-    long-varint-at-requires
-    enum-known-found
-    returns-2
-    cast-if3
-    returns-3
-    returns-4)
+    (λ c. search needs) (λ c. search needs) (λ c. search needs) returns (λ c κs. search needs) (λ c. search needs)
+    returns-2 (λ c. search needs) returns-3 returns-4)

@@ -6,9 +6,6 @@ use borrow.Author.Needs.{needs}
 use Rattle.whole.proofs.leave.Statement.{statement}
 use Rattle.whole.proofs.leave.Tie as tie
 
-enum-known-f : tie.Need-enum-known-f
-enum-known-f c = search needs
-
 returns : tie.Need-returns
 returns c = sym (ap leftBy (c .before .f .given .1))
 
@@ -16,4 +13,5 @@ returns-2 : tie.Need-returns-2
 returns-2 c = else-short (c .before .args .f) (c .match .keys2)
 
 pub leave-spec : {M : Type 1} → statement M
-leave-spec = tie.close (tie.spec enum-known-f returns returns-2)
+leave-spec =
+    tie.close (tie.spec (λ c. search needs) returns returns-2)

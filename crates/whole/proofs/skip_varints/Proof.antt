@@ -16,19 +16,10 @@ loop-holds c = skipped-start _ _ _ (c .before .pre)
 element-at-requires : tie.Need-element-at-requires Inv-loop μ-loop
 element-at-requires c κs = c .before .loop .inv .to
 
-enum-known-land : tie.Need-enum-known-land Inv-loop μ-loop
-enum-known-land c = search needs
-
 returns : tie.Need-returns Inv-loop μ-loop
 returns c =
     let l = c .before .before in
     skipped-else (l .before .loop .inv) (l .loop-test .taken) _ (c .before .element-at .ensures) (c .match .keys2)
-
-sub-left : tie.Need-sub-left Inv-loop μ-loop
-sub-left c = search needs
-
-loop-less : tie.Need-loop-less Inv-loop μ-loop
-loop-less c = search needs
 
 loop-again : tie.Need-loop-again Inv-loop μ-loop
 loop-again c =
@@ -42,13 +33,5 @@ pub skip-varints-spec : {M : Type 1} → statement M
 skip-varints-spec =
     tie.close
     (tie.spec
-    Inv-loop
-    μ-loop
-    loop-holds
-    element-at-requires
-    enum-known-land
-    returns
-    sub-left
-    loop-less
-    loop-again
-    returns-2)
+    Inv-loop μ-loop loop-holds element-at-requires (λ c. search needs) returns (λ c. search needs) (λ c. search needs)
+    loop-again returns-2)

@@ -4,25 +4,11 @@ use borrow.Author.Needs.{needs}
 use Rattle.whole.proofs.varint_at.Statement.{statement}
 use Rattle.whole.proofs.varint_at.Tie as tie
 
-shared-slice-read-b : tie.Need-shared-slice-read-b
-shared-slice-read-b c = search needs
-
-cast-t9 : tie.Need-cast-t9
-cast-t9 c = search needs
-
-add-t10 : tie.Need-add-t10
-add-t10 c = search needs
-
 returns : tie.Need-returns
 returns c = one-reaches _ _ (c .before .before .if1 .taken) (c .if2 .taken)
-
-long-varint-at-requires : tie.Need-long-varint-at-requires
-long-varint-at-requires c κs = search needs
-
-returns-2 : tie.Need-returns-2
-returns-2 c = search needs
 
 pub varint-at-spec : {M : Type 1} → statement M
 varint-at-spec =
     tie.close
-    (tie.spec shared-slice-read-b cast-t9 add-t10 returns long-varint-at-requires returns-2)
+    (tie.spec
+    (λ c. search needs) (λ c. search needs) (λ c. search needs) returns (λ c κs. search needs) (λ c. search needs))

@@ -20,9 +20,6 @@ loop-holds c = left-start _
 field-at-requires : tie.Need-field-at-requires Inv-loop μ-loop
 field-at-requires c κs = c .before .loop .inv .inside
 
-enum-known-i : tie.Need-enum-known-i Inv-loop μ-loop
-enum-known-i c = search needs
-
 loop-less : tie.Need-loop-less Inv-loop μ-loop
 loop-less c = falls _ _ _ _ (c .before .i .given .1) (c .before .before .before .field-at .ensures)
 
@@ -31,16 +28,10 @@ loop-again c =
     let f = c .before .before .before in
     left-next (f .before .before .loop .inv) (f .before .loop-test .taken) _ _ _ (c .before .i .given .1) (f .field-at .ensures)
 
-enum-told : tie.Need-enum-told Inv-loop μ-loop
-enum-told c = search needs
-
 returns : tie.Need-returns Inv-loop μ-loop
 returns c =
     let f = c .before .before in
     ap verdictIn (left-short (f .before .before .loop .inv) (f .before .loop-test .taken) _ (c .enum-told .given .1) (f .field-at .ensures))
-
-enum-known-i-2 : tie.Need-enum-known-i-2 Inv-loop μ-loop
-enum-known-i-2 c = search needs
 
 returns-2 : tie.Need-returns-2 Inv-loop μ-loop
 returns-2 c =
@@ -57,16 +48,5 @@ pub verdict-of-spec : {M : Type 1} → statement M
 verdict-of-spec =
     tie.close
     (tie.spec
-    Inv-loop
-    μ-loop
-    loop-holds
-    field-at-requires
-    enum-known-i
-    loop-less
-    loop-again
-    enum-told
-    returns
-    enum-known-i-2
-    returns-2
-    returns-3
-    returns-4)
+    Inv-loop μ-loop loop-holds field-at-requires (λ c. search needs) loop-less loop-again (λ c. search needs) returns
+    (λ c. search needs) returns-2 returns-3 returns-4)

@@ -20,39 +20,6 @@ Inv-loop n «data» buf₀ out₀ elements s₀ sent₀ i₀ buf out s sent i = 
 abbrev μ-loop : tie.MeasureT-loop
 μ-loop n «data» buf₀ out₀ elements s₀ sent₀ i₀ buf out s sent i = n - i
 
-new-requires : tie.Need-new-requires Inv-loop μ-loop
-new-requires c κs = search needs
-
-loop-holds : tie.Need-loop-holds Inv-loop μ-loop
-loop-holds c = search needs
-
-slice-aggregate-array : tie.Need-slice-aggregate-array Inv-loop μ-loop
-slice-aggregate-array c = search needs
-
-array-requires : tie.Need-array-requires Inv-loop μ-loop
-array-requires c κs = search needs
-
-enum-known-answer : tie.Need-enum-known-answer Inv-loop μ-loop
-enum-known-answer c = search needs
-
-anew-requires : tie.Need-anew-requires Inv-loop μ-loop
-anew-requires c κs = search needs
-
-which-requires : tie.Need-which-requires Inv-loop μ-loop
-which-requires c κs = search needs
-
-rest-requires : tie.Need-rest-requires Inv-loop μ-loop
-rest-requires c κs = search needs
-
-anew-requires-2 : tie.Need-anew-requires-2 Inv-loop μ-loop
-anew-requires-2 c κs = search needs
-
-add-i : tie.Need-add-i Inv-loop μ-loop
-add-i c = search needs
-
-loop-less : tie.Need-loop-less Inv-loop μ-loop
-loop-less c = search needs
-
 loop-again : tie.Need-loop-again Inv-loop μ-loop
 loop-again c = (
   ⊎-elim (λ x. ap length (x .13) ∙ x .7 .kept .1 .1 .1 .1 .1 .0 ∙ c .before .before .before .before .array .kept .1 .1 .1 .0 ∙ c .before .before .before .before .before .before .before .before .loop .inv .0) (λ x. ap length (x .1) ∙ search needs) (c .match .came),
@@ -60,33 +27,10 @@ loop-again c = (
   search needs,
 )
 
-same-length : tie.Need-same-length Inv-loop μ-loop
-same-length c = search needs
-
-same-length-2 : tie.Need-same-length-2 Inv-loop μ-loop
-same-length-2 c = search needs
-
-returns : tie.Need-returns Inv-loop μ-loop
-returns c = search needs
-
 pub arrays-spec : {M : Type 1} → statement M
 arrays-spec =
     tie.close
     (tie.spec
-    Inv-loop
-    μ-loop
-    new-requires
-    loop-holds
-    slice-aggregate-array
-    array-requires
-    enum-known-answer
-    anew-requires
-    which-requires
-    rest-requires
-    anew-requires-2
-    add-i
-    loop-less
-    loop-again
-    same-length
-    same-length-2
-    returns)
+    Inv-loop μ-loop (λ c κs. search needs) (λ c. search needs) (λ c. search needs) (λ c κs. search needs)
+    (λ c. search needs) (λ c κs. search needs) (λ c κs. search needs) (λ c κs. search needs) (λ c κs. search needs)
+    (λ c. search needs) (λ c. search needs) loop-again (λ c. search needs) (λ c. search needs) (λ c. search needs))

@@ -22,41 +22,17 @@ use Rattle.istream.proofs.IStream.sound.Reads as sound-reads
 small : (c : tie.Else1) → Fits w8 (c .before .before .before .before .before .args .self .reader .depth)
 small c = search needs
 
-sound-requires : tie.Need-sound-requires
-sound-requires c κs = search needs
-
-refuse-requires : tie.Need-refuse-requires
-refuse-requires c κs = search needs
-
 returns : tie.Need-returns
 returns c = let f : Fits w8 (c .before .before .before .before .before .before .args .self .reader .depth) = search needs in ap (λ (x : Copied). leftBy x (c .before .before .before .before .before .before .args .buf .now)) (c .refuse .ensures) ∙ feed-unsound (c .before .before .before .before .before .before .args .self) (c .before .before .before .before .before .before .args .chunk .now) (c .before .before .before .before .before .before .args .buf .now) (f .fits) (sym (c .before .before .sound .ensures) ∙ not-true _ (c .before .if1 .taken))
 
-sound-writer-requires : tie.Need-sound-writer-requires
-sound-writer-requires c κs = search needs
-
-refuse-requires-2 : tie.Need-refuse-requires-2
-refuse-requires-2 c κs = search needs
-
 returns-2 : tie.Need-returns-2
 returns-2 c = let f : Fits w8 (c .before .before .before .before .before .before .before .before .args .self .reader .depth) = search needs in ap (λ (x : Copied). leftBy x (c .before .before .before .before .before .before .before .before .args .buf .now)) (c .refuse2 .ensures) ∙ feed-unfit (c .before .before .before .before .before .before .before .before .args .self) (c .before .before .before .before .before .before .before .before .args .chunk .now) (c .before .before .before .before .before .before .before .before .args .buf .now) (f .fits) (sym (c .before .before .before .before .sound .ensures) ∙ not-false _ (c .before .before .before .if1 .left)) (sym (c .before .before .sound-writer .ensures) ∙ not-true _ (c .before .if2 .taken))
-
-is-broken-requires : tie.Need-is-broken-requires
-is-broken-requires c κs = search needs
-
-refuse-requires-3 : tie.Need-refuse-requires-3
-refuse-requires-3 c κs = search needs
 
 returns-3 : tie.Need-returns-3
 returns-3 c = let f : Fits w8 (c .before .before .before .before .before .before .before .before .before .before .args .self .reader .depth) = search needs in ap (λ (x : Copied). leftBy x (c .before .before .before .before .before .before .before .before .before .before .args .buf .now)) (c .refuse3 .ensures) ∙ feed-broken (c .before .before .before .before .before .before .before .before .before .before .args .self) (c .before .before .before .before .before .before .before .before .before .before .args .chunk .now) (c .before .before .before .before .before .before .before .before .before .before .args .buf .now) (f .fits) (sym (c .before .before .before .before .before .before .sound .ensures) ∙ not-false _ (c .before .before .before .before .before .if1 .left)) (sym (c .before .before .before .before .sound-writer .ensures) ∙ not-false _ (c .before .before .before .if2 .left)) (sym (c .before .before .is-broken .ensures) ∙ c .before .if3 .taken)
 
 carry-requires : tie.Need-carry-requires
 carry-requires c κs = ((sym (c .before .before .before .before .before .before .before .sound .ensures) ∙ not-false _ (c .before .before .before .before .before .before .if1 .left)), (live-if (stateOf (c .before .before .before .before .before .before .before .before .before .before .before .args .self .reader)) (sym (c .before .before .before .is-broken .ensures) ∙ c .before .before .if3 .left), (sym (c .before .before .before .before .before .sound-writer .ensures) ∙ not-false _ (c .before .before .before .before .if2 .left))))
-
-finish-requires : tie.Need-finish-requires
-finish-requires c κs = search needs
-
-same-length : tie.Need-same-length
-same-length c = search needs
 
 returns-4 : tie.Need-returns-4
 returns-4 c = let f = small (c .before .before .before .before .before .before .before .before .before .before) in feed-runs (c .before .before .before .before .before .before .before .before .before .before .before .before .before .before .before .args .self) (c .before .before .before .before .before .before .before .before .before .before .before .before .before .before .before .args .chunk .now) (c .before .before .before .before .before .before .before .before .before .before .before .before .before .before .before .args .buf .now) (f .fits) (sym (c .before .before .before .before .before .before .before .before .before .before .before .sound .ensures) ∙ not-false _ (c .before .before .before .before .before .before .before .before .before .before .if1 .left)) (sym (c .before .before .before .before .before .before .before .before .before .sound-writer .ensures) ∙ not-false _ (c .before .before .before .before .before .before .before .before .if2 .left)) (sym (c .before .before .before .before .before .before .before .is-broken .ensures) ∙ c .before .before .before .before .before .before .if3 .left) _ _ (c .before .before .before .carry .ensures) _ (c .finish .ensures)
@@ -65,16 +41,6 @@ pub feed-spec : {M : Type 1} → statement M
 feed-spec =
     tie.close
     (tie.spec
-    sound-requires
-    refuse-requires
-    returns
-    sound-writer-requires
-    refuse-requires-2
-    returns-2
-    is-broken-requires
-    refuse-requires-3
-    returns-3
-    carry-requires
-    finish-requires
-    same-length
+    (λ c κs. search needs) (λ c κs. search needs) returns (λ c κs. search needs) (λ c κs. search needs) returns-2
+    (λ c κs. search needs) (λ c κs. search needs) returns-3 carry-requires (λ c κs. search needs) (λ c. search needs)
     returns-4)

@@ -7,11 +7,9 @@ use Rattle.copier.proofs.Copier.flush.Reads as reads
 use Rattle.copier.proofs.Copier.flush.Lts as lts
 use Rattle.ostream.proofs.OStream.flush.Reads as flush-reads
 
-flush-requires : tie.Need-flush-requires
-flush-requires c κs = search needs
-
 returns : tie.Need-returns
 returns c = drained-is (c .before .before .before .before .before .args .self) _ (c .before .flush .result) (c .before .flush .ensures)
 
 pub flush-spec : {M : Type 1} → statement M
-flush-spec = tie.close (tie.spec flush-requires returns)
+flush-spec =
+    tie.close (tie.spec (λ c κs. search needs) returns)

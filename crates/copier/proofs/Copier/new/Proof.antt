@@ -9,17 +9,9 @@ use Rattle.copier.proofs.taken.Reads as taken-reads
 use Rattle.istream.proofs.IStream.new.Reads as new-reads
 use Rattle.ostream.proofs.OStream.with_flush.Reads as with-flush-reads
 
-with-flush-requires : tie.Need-with-flush-requires
-with-flush-requires c κs = search needs
-
-taken-requires : tie.Need-taken-requires
-taken-requires c κs = search needs
-
-new-requires : tie.Need-new-requires
-new-requires c κs = search needs
-
 returns : tie.Need-returns
 returns c = started-is _ (c .before .before .before .before .before .args .offset) (c .before .taken .result) (c .before .before .before .with-flush .result) (c .new .result) (c .before .before .before .with-flush .ensures) (c .before .taken .ensures) (c .new .ensures)
 
 pub new-spec : {M : Type 1} → statement M
-new-spec = tie.close (tie.spec with-flush-requires taken-requires new-requires returns)
+new-spec =
+    tie.close (tie.spec (λ c κs. search needs) (λ c κs. search needs) (λ c κs. search needs) returns)

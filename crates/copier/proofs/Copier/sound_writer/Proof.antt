@@ -24,25 +24,13 @@ returns : tie.Need-returns
 unfolding soundWriter
 returns c = and-false (soundStream (c .before .before .before .before .args .self .writer) (c .before .before .before .before .args .size)) _ (ap (λ (t : Bool). t && soundOwed base (stateOf (c .before .before .before .before .args .self .reader)) (c .before .before .before .before .args .self .writer .depth) (owedOf (c .before .before .before .before .args .self .owed) (c .before .before .before .before .args .self .place))) (ne-eqb _ _ (c .if1 .taken)))
 
-is-rested-requires : tie.Need-is-rested-requires
-is-rested-requires c κs = search needs
-
 returns-2 : tie.Need-returns-2
 unfolding soundWriter
 returns-2 c = simp (no-id-held (c .before .before .before .before .before .before .before .args .self .writer) (c .before .before .before .before .before .before .before .args .size) (c .before .before .before .if1 .left) ∙ sym (c .before .is-rested .ensures) ∙ not-true _ (c .if2 .taken))
 
-is-broken-requires : tie.Need-is-broken-requires
-is-broken-requires c κs = search needs
-
-is-nothing-requires : tie.Need-is-nothing-requires
-is-nothing-requires c κs = search needs
-
 returns-3 : tie.Need-returns-3
 unfolding soundWriter
 returns-3 c = simp (no-id-held (c .before .before .before .before .before .before .before .before .before .before .args .self .writer) (c .before .before .before .before .before .before .before .before .before .before .args .size) (c .before .before .before .before .before .before .if1 .left) ∙ sym (c .before .before .before .before .is-rested .ensures) ∙ not-false _ (c .before .before .before .if2 .left), eq-eqb _ _ (c .before .before .before .before .before .before .if1 .left)) (c .is-nothing .ensures ∙ sym (sound-broke (c .before .before .before .before .before .before .before .before .before .before .args .self) (sym (c .before .before .is-broken .ensures) ∙ c .before .if3 .taken)))
-
-sound-requires : tie.Need-sound-requires
-sound-requires c κs = search needs
 
 returns-4 : tie.Need-returns-4
 unfolding soundWriter
@@ -52,11 +40,5 @@ pub sound-writer-spec : {M : Type 1} → statement M
 sound-writer-spec =
     tie.close
     (tie.spec
-    returns
-    is-rested-requires
-    returns-2
-    is-broken-requires
-    is-nothing-requires
-    returns-3
-    sound-requires
-    returns-4)
+    returns (λ c κs. search needs) returns-2 (λ c κs. search needs) (λ c κs. search needs) returns-3
+    (λ c κs. search needs) returns-4)

@@ -12,12 +12,6 @@ use borrow.Author.Needs.{needs}
 use Rattle.istream.proofs.IStream.feed.Statement.{statement}
 use Rattle.istream.proofs.IStream.feed.Tie as tie
 
-enum-known-phase : tie.Need-enum-known-phase
-enum-known-phase c = search needs
-
-sound-payload-requires : tie.Need-sound-payload-requires
-sound-payload-requires c κs = search needs
-
 payload-requires : tie.Need-payload-requires
 payload-requires c κs =
     payload-owed (c .before .before .before .phase .given .0 .0) (c .before .before .before .phase .given .0 .1 .0) _ _ (sym (c .before .sound-payload .ensures) ∙ c .if1 .taken)
@@ -26,21 +20,6 @@ returns : tie.Need-returns
 returns c =
     let f : Fits w8 (c .before .before .before .before .before .before .before .args .self .depth) = search needs in
     from-payload (c .before .before .before .before .before .before .before .args .self) (c .before .before .before .before .before .before .before .args .chunk .now) _ _ _ _ (c .payload .result) (f .fits) (c .before .before .before .before .phase .given .1) (sym (c .before .before .sound-payload .ensures) ∙ c .before .if1 .taken) (c .payload .ensures)
-
-at-once-requires : tie.Need-at-once-requires
-at-once-requires c κs = search needs
-
-enum-known-q : tie.Need-enum-known-q
-enum-known-q c = search needs
-
-enum-told : tie.Need-enum-told
-enum-told c = search needs
-
-again-requires : tie.Need-again-requires
-again-requires c κs = search needs
-
-returns-2 : tie.Need-returns-2
-returns-2 c = search needs
 
 returns-3 : tie.Need-returns-3
 returns-3 c =
@@ -51,13 +30,5 @@ pub feed-spec : {M : Type 1} → statement M
 feed-spec =
     tie.close
     (tie.spec
-    enum-known-phase
-    sound-payload-requires
-    payload-requires
-    returns
-    at-once-requires
-    enum-known-q
-    enum-told
-    again-requires
-    returns-2
-    returns-3)
+    (λ c. search needs) (λ c κs. search needs) payload-requires returns (λ c κs. search needs) (λ c. search needs)
+    (λ c. search needs) (λ c κs. search needs) (λ c. search needs) returns-3)

@@ -5,12 +5,10 @@ use borrow.Author.Needs.{needs}
 use Rattle.istream.proofs.IStream.new.Statement.{statement}
 use Rattle.istream.proofs.IStream.new.Tie as tie
 
-idle-requires : tie.Need-idle-requires
-idle-requires c κs = search needs
-
 returns : tie.Need-returns
 returns c =
     ap (λ (p : Phase). record { phase = p; depth = 0 }) (c .idle .ensures)
 
 pub new-spec : {M : Type 1} → statement M
-new-spec = tie.close (tie.spec idle-requires returns)
+new-spec =
+    tie.close (tie.spec (λ c κs. search needs) returns)

@@ -13,32 +13,14 @@ use borrow.Author.Needs.{needs}
 use Rattle.istream.proofs.IStream.plain.Statement.{statement}
 use Rattle.istream.proofs.IStream.plain.Tie as tie
 
-sound-requires : tie.Need-sound-requires
-sound-requires c κs = search needs
-
 returns : tie.Need-returns
 returns c =
     let f : Fits w8 (c .before .before .before .args .self .depth) = search needs in
     fed-unsound (c .before .before .before .args .self) (c .before .before .before .args .chunk .now) (f .fits) (sym (c .before .sound .ensures) ∙ not-true _ (c .if1 .taken))
 
-enum-known-phase : tie.Need-enum-known-phase
-enum-known-phase c = search needs
-
 payload-requires : tie.Need-payload-requires
 payload-requires c κs =
     subst (λ (p : Phase). SoundState (stateAt (c .before .before .before .before .before .before .args .self .depth) p)) (c .before .phase .given .1) (is-sound (c .before .before .before .before .before .before .args .self) (sym (c .before .before .before .before .sound .ensures) ∙ not-false _ (c .before .before .before .if1 .left))) .1 .1 .1
-
-enum-known-phase-2 : tie.Need-enum-known-phase-2
-enum-known-phase-2 c = search needs
-
-piece-requires : tie.Need-piece-requires
-piece-requires c κs = search needs
-
-idle-requires : tie.Need-idle-requires
-idle-requires c κs = search needs
-
-enum-told : tie.Need-enum-told
-enum-told c = search needs
 
 scan-requires : tie.Need-scan-requires
 scan-requires c κs =
@@ -65,16 +47,5 @@ pub plain-spec : {M : Type 1} → statement M
 plain-spec =
     tie.close
     (tie.spec
-    sound-requires
-    returns
-    enum-known-phase
-    payload-requires
-    enum-known-phase-2
-    piece-requires
-    idle-requires
-    enum-told
-    scan-requires
-    returns-2
-    returns-3
-    returns-4
-    returns-5)
+    (λ c κs. search needs) returns (λ c. search needs) payload-requires (λ c. search needs) (λ c κs. search needs)
+    (λ c κs. search needs) (λ c. search needs) scan-requires returns-2 returns-3 returns-4 returns-5)

@@ -7,13 +7,11 @@ use borrow.Author.Needs.{needs}
 use Rattle.istream.proofs.IStream.sound.Statement.{statement}
 use Rattle.istream.proofs.IStream.sound.Tie as tie
 
-sound-requires : tie.Need-sound-requires
-sound-requires c κs = search needs
-
 returns : tie.Need-returns
 returns c =
     let f : Fits w8 (c .before .args .self .depth) = search needs in
     c .sound .ensures ∙ sound-in (c .before .args .self) _ (f .fits) refl
 
 pub sound-spec : {M : Type 1} → statement M
-sound-spec = tie.close (tie.spec sound-requires returns)
+sound-spec =
+    tie.close (tie.spec (λ c κs. search needs) returns)

@@ -4,14 +4,8 @@ use borrow.Author.Needs.{needs}
 use Rattle.istream.proofs.IStream.status.Statement.{statement}
 use Rattle.istream.proofs.IStream.status.Tie as tie
 
-enum-known-phase : tie.Need-enum-known-phase
-enum-known-phase c = search needs
-
 returns : tie.Need-returns
 returns c = status-complete (c .before .before .before .before .before .before .args .self) _ (c .before .before .before .before .phase .given .1) (c .before .if1 .taken) (c .if2 .taken)
-
-enum-told : tie.Need-enum-told
-enum-told c = search needs
 
 returns-2 : tie.Need-returns-2
 returns-2 c = status-deep (c .before .before .before .before .before .before .args .self) _ (c .before .before .before .before .phase .given .1) (c .before .if1 .taken) (c .if2 .left)
@@ -27,4 +21,4 @@ returns-5 c = status-else (c .before .args .self .depth) (c .before .args .self 
 
 pub status-spec : {M : Type 1} → statement M
 status-spec =
-    tie.close (tie.spec enum-known-phase returns enum-told returns-2 returns-3 returns-4 returns-5)
+    tie.close (tie.spec (λ c. search needs) returns (λ c. search needs) returns-2 returns-3 returns-4 returns-5)

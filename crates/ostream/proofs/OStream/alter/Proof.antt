@@ -7,9 +7,6 @@ use Rattle.ostream.proofs.OStream.alter.Reads as reads
 use Rattle.ostream.proofs.OStream.alter.Lts as lts
 use Rattle.ostream.proofs.OStream.refuse.Reads as refuse-reads
 
-refuse-requires : tie.Need-refuse-requires
-refuse-requires c κs = search needs
-
 returns : tie.Need-returns
 returns c = simp (lt-ltb _ _ (c .before .if1 .taken)) (c .refuse .ensures)
 
@@ -17,4 +14,5 @@ returns-2 : tie.Need-returns-2
 returns-2 c = simp (le-ltb _ _ (c .if1 .left))
 
 pub alter-spec : {M : Type 1} → statement M
-alter-spec = tie.close (tie.spec refuse-requires returns returns-2)
+alter-spec =
+    tie.close (tie.spec (λ c κs. search needs) returns returns-2)

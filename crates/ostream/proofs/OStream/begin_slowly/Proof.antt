@@ -31,15 +31,6 @@ use Rattle.ostream.proofs.OStream.refuse.Reads as refuse-reads
 use Rattle.ostream.proofs.OStream.settle.Reads as settle-reads
 use Rattle.ostream.proofs.OStream.sound.Reads as sound-reads
 
-sound-requires : tie.Need-sound-requires
-sound-requires c κs = search needs
-
-check-begin-requires : tie.Need-check-begin-requires
-check-begin-requires c κs = search needs
-
-refuse-requires : tie.Need-refuse-requires
-refuse-requires c κs = search needs
-
 abbrev verdict : tie.After-check-begin → Verdict
 verdict c = let a = c .before .before .before .args in judged (beginCall (a .self) (length (a .buf .now)) (a .id) .tests)
 
@@ -59,18 +50,12 @@ returns c = refuses _ _ _ _ _ _ (check-fails (verdict (c .before .before .before
 hold-requires : tie.Need-hold-requires
 hold-requires c κs = (c .if2 .taken, knows (c .before .before) .1)
 
-alter-requires : tie.Need-alter-requires
-alter-requires c κs = search needs
-
 returns-2 : tie.Need-returns-2
 unfolding holding
 returns-2 c =
     let a = c .before .before .before .before .before .before .before .before .before .args in
     let n = lt-ltb (a .self .npending) 8 (c .before .before .if2 .taken) in
     alters (beginCall (a .self) (length (a .buf .now)) (a .id)) _ _ _ _ (holding (a .self) (a .id)) (simp n) (simp n) (passes (c .before .before .before .before)) (knows (c .before .before .before .before) .0 .inside) refl (c .alter .ensures ∙ ap (λ (x : OStream). unwritten (a .self) (a .place) x) (c .before .hold .ensures))
-
-tagged-requires : tie.Need-tagged-requires
-tagged-requires c κs = search needs
 
 put-marker-requires : tie.Need-put-marker-requires
 put-marker-requires c κs = let k = knows (c .before .before .before .before .before) .0 in (k .few, k .inside)
@@ -80,9 +65,6 @@ add-settle c = let k = knows (c .before .before .before .before .before .before 
 
 settle-requires : tie.Need-settle-requires
 settle-requires c κs = few-clears (c .before .before .before .before .before .before .before .before .before .before .before .before .before .before .args .self) (knows (c .before .before .before .before .before .before .before .before .before) .0 .few) (c .before .before .before .put-marker .result)
-
-same-length : tie.Need-same-length
-same-length c = search needs
 
 returns-3 : tie.Need-returns-3
 unfolding heldBytes fieldBytes
@@ -95,16 +77,5 @@ pub begin-slowly-spec : {M : Type 1} → statement M
 begin-slowly-spec =
     tie.close
     (tie.spec
-    sound-requires
-    check-begin-requires
-    refuse-requires
-    returns
-    hold-requires
-    alter-requires
-    returns-2
-    tagged-requires
-    put-marker-requires
-    add-settle
-    settle-requires
-    same-length
-    returns-3)
+    (λ c κs. search needs) (λ c κs. search needs) (λ c κs. search needs) returns hold-requires (λ c κs. search needs)
+    returns-2 (λ c κs. search needs) put-marker-requires add-settle settle-requires (λ c. search needs) returns-3)

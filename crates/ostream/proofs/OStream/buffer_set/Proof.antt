@@ -15,12 +15,6 @@ use Rattle.ostream.proofs.OStream.buffer_set.Lts as lts
 use Rattle.buffers.proofs.change.Reads as change-reads
 use Rattle.ostream.proofs.OStream.count.Reads as count-reads
 
-change-requires : tie.Need-change-requires
-change-requires c κs = search needs
-
-count-requires : tie.Need-count-requires
-count-requires c κs = search needs
-
 returns : tie.Need-returns
 unfolding soundStream changing
 returns c =
@@ -29,4 +23,5 @@ returns c =
     ∙ counted-at (judged (badBuffer (length (a .new .now)) (a .offset) (a .drained) ∷ unsound (a .self) (length (a .old .now)) ∷ [])) (a .self) (a .offset)
 
 pub buffer-set-spec : {M : Type 1} → statement M
-buffer-set-spec = tie.close (tie.spec change-requires count-requires returns)
+buffer-set-spec =
+    tie.close (tie.spec (λ c κs. search needs) (λ c κs. search needs) returns)

@@ -20,12 +20,10 @@ returns-3 : tie.Need-returns-3
 unfolding holds
 returns-3 c = simp (lt-ltb _ _ (c .before .before .before .if1 .left), lt-ltb _ _ (c .before .if2 .left), lt-leb _ _ (c .if3 .taken))
 
-sound-requires : tie.Need-sound-requires
-sound-requires c κs = search needs
-
 returns-4 : tie.Need-returns-4
 unfolding holds
 returns-4 c = simp (lt-ltb _ _ (c .before .before .before .before .if1 .left), lt-ltb _ _ (c .before .before .if2 .left), le-leb _ _ (c .before .if3 .left)) (c .sound .ensures)
 
 pub can-hold-spec : {M : Type 1} → statement M
-can-hold-spec = tie.close (tie.spec returns returns-2 returns-3 sound-requires returns-4)
+can-hold-spec =
+    tie.close (tie.spec returns returns-2 returns-3 (λ c κs. search needs) returns-4)

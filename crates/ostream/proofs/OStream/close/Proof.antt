@@ -16,14 +16,8 @@ use Rattle.ostream.proofs.OStream.settle.Reads as settle-reads
 put-close-requires : tie.Need-put-close-requires
 put-close-requires c κs = let z = c .before .before .before in let h = is-sound (z .args .self) (length (z .args .buf .now)) (z .pre .0) in (h .few, h .inside)
 
-sub-settle : tie.Need-sub-settle
-sub-settle c = search needs
-
 settle-requires : tie.Need-settle-requires
 settle-requires c κs = let z = c .before .before .before .before .before .before .before in few-clears (z .args .self) (is-sound (z .args .self) (length (z .args .buf .now)) (z .pre .0) .few) (c .before .before .before .put-close .result)
-
-same-length : tie.Need-same-length
-same-length c = search needs
 
 returns : tie.Need-returns
 unfolding heldBytes
@@ -33,4 +27,5 @@ returns c =
     settles _ _ _ _ _ _ _ _ _ refl refl (simp (z .pre .0, ne-eqb (z .args .self .depth) 0 (λ e. omega arith))) (c .before .before .before .before .put-close .ensures) (c .settle .ensures)
 
 pub close-spec : {M : Type 1} → statement M
-close-spec = tie.close (tie.spec put-close-requires sub-settle settle-requires same-length returns)
+close-spec =
+    tie.close (tie.spec put-close-requires (λ c. search needs) settle-requires (λ c. search needs) returns)

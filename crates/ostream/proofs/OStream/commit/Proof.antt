@@ -10,12 +10,6 @@ use Rattle.ostream.proofs.OStream.commit.Reads as reads
 use Rattle.ostream.proofs.OStream.commit.Lts as lts
 use Rattle.held.proofs.clear.Reads as clear-reads
 
-cast-clear : tie.Need-cast-clear
-cast-clear c = search needs
-
-clear-requires : tie.Need-clear-requires
-clear-requires c κs = search needs
-
 returns : tie.Need-returns
 unfolding committed
 returns c =
@@ -23,4 +17,5 @@ returns c =
     ap (λ (l : List ℕ). record { offset = a .self .offset; depth = a .depth; pending = l; npending = 0 }) (c .clear .ensures)
 
 pub commit-spec : {M : Type 1} → statement M
-commit-spec = tie.close (tie.spec cast-clear clear-requires returns)
+commit-spec =
+    tie.close (tie.spec (λ c. search needs) (λ c κs. search needs) returns)

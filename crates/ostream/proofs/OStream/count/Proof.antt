@@ -7,12 +7,6 @@ use Rattle.ostream.proofs.OStream.count.Tie as tie
 use Rattle.ostream.proofs.OStream.count.Reads as reads
 use Rattle.ostream.proofs.OStream.count.Lts as lts
 
-enum-known-moved : tie.Need-enum-known-moved
-enum-known-moved c = search needs
-
-enum-known-moved-2 : tie.Need-enum-known-moved-2
-enum-known-moved-2 c = search needs
-
 returns : tie.Need-returns
 returns c = let a = c .before .before .before .args in sym (ap (countedAt (a .self)) (c .before .moved .given .1))
 
@@ -20,4 +14,5 @@ returns-2 : tie.Need-returns-2
 returns-2 c = let a = c .before .before .before .args in sym (ap (countedAt (a .self)) (c .before .moved2 .given .1))
 
 pub count-spec : {M : Type 1} → statement M
-count-spec = tie.close (tie.spec enum-known-moved enum-known-moved-2 returns returns-2)
+count-spec =
+    tie.close (tie.spec (λ c. search needs) (λ c. search needs) returns returns-2)

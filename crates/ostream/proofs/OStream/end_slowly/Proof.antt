@@ -28,15 +28,6 @@ use Rattle.ostream.proofs.OStream.refuse.Reads as refuse-reads
 use Rattle.ostream.proofs.OStream.sound.Reads as sound-reads
 use Rattle.ostream.proofs.OStream.unhold.Reads as unhold-reads
 
-sound-requires : tie.Need-sound-requires
-sound-requires c κs = search needs
-
-check-end-requires : tie.Need-check-end-requires
-check-end-requires c κs = search needs
-
-refuse-requires : tie.Need-refuse-requires
-refuse-requires c κs = search needs
-
 abbrev verdict : tie.After-check-end → Verdict
 verdict c = let a = c .before .before .before .args in judged (endCall (a .self) (length (a .buf .now)) .tests)
 
@@ -51,9 +42,6 @@ returns c = refuses _ _ _ _ _ _ (check-fails (verdict (c .before .before .before
 
 close-requires : tie.Need-close-requires
 close-requires c κs = let a = c .before .before .before .before .before .before .before .before .args in end-knows (a .self) (length (a .buf .now)) (passes (c .before .before .before))
-
-same-length : tie.Need-same-length
-same-length c = search needs
 
 returns-2 : tie.Need-returns-2
 returns-2 c =
@@ -71,9 +59,6 @@ unhold-requires c κs =
     let n = c .if2 .left in
     (omega arith, h .few, h .nested)
 
-alter-requires : tie.Need-alter-requires
-alter-requires c κs = search needs
-
 returns-3 : tie.Need-returns-3
 unfolding dropped
 returns-3 c =
@@ -87,13 +72,5 @@ pub end-slowly-spec : {M : Type 1} → statement M
 end-slowly-spec =
     tie.close
     (tie.spec
-    sound-requires
-    check-end-requires
-    refuse-requires
-    returns
-    close-requires
-    same-length
-    returns-2
-    unhold-requires
-    alter-requires
-    returns-3)
+    (λ c κs. search needs) (λ c κs. search needs) (λ c κs. search needs) returns close-requires (λ c. search needs)
+    returns-2 unhold-requires (λ c κs. search needs) returns-3)

@@ -15,12 +15,6 @@ use Rattle.ostream.proofs.OStream.flush.Lts as lts
 use Rattle.buffers.proofs.drain.Reads as drain-reads
 use Rattle.ostream.proofs.OStream.count.Reads as count-reads
 
-drain-requires : tie.Need-drain-requires
-drain-requires c κs = search needs
-
-count-requires : tie.Need-count-requires
-count-requires c κs = search needs
-
 returns : tie.Need-returns
 unfolding soundStream draining
 returns c =
@@ -28,4 +22,5 @@ returns c =
     c .count .ensures ∙ ap (countedAt (a .self)) (c .before .drain .ensures) ∙ counted-at (judged (unsound (a .self) (length (a .buf .now)) ∷ [])) (a .self) 0
 
 pub flush-spec : {M : Type 1} → statement M
-flush-spec = tie.close (tie.spec drain-requires count-requires returns)
+flush-spec =
+    tie.close (tie.spec (λ c κs. search needs) (λ c κs. search needs) returns)

@@ -10,15 +10,6 @@ use Rattle.ostream.proofs.OStream.hold.Reads as reads
 use Rattle.ostream.proofs.OStream.hold.Lts as lts
 use Rattle.held.proofs.add_id.Reads as add-id-reads
 
-add-id-requires : tie.Need-add-id-requires
-add-id-requires c κs = search needs
-
-add-self : tie.Need-add-self
-add-self c = search needs
-
-add-self-2 : tie.Need-add-self-2
-add-self-2 c = search needs
-
 returns : tie.Need-returns
 unfolding holding
 returns c =
@@ -26,4 +17,5 @@ returns c =
     ap (λ (l : List ℕ). record { offset = a .self .offset; depth = a .self .depth + 1; pending = l; npending = a .self .npending + 1 }) (c .before .before .add-id .ensures)
 
 pub hold-spec : {M : Type 1} → statement M
-hold-spec = tie.close (tie.spec add-id-requires add-self add-self-2 returns)
+hold-spec =
+    tie.close (tie.spec (λ c κs. search needs) (λ c. search needs) (λ c. search needs) returns)

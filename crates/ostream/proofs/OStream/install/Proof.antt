@@ -11,4 +11,5 @@ unfolding opened
 returns c = refl
 
 pub install-spec : {M : Type 1} → statement M
-install-spec = tie.close (tie.spec returns)
+install-spec =
+    tie.close (tie.spec returns)

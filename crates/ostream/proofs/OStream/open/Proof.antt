@@ -14,18 +14,6 @@ use Rattle.ostream.proofs.OStream.install.Reads as install-reads
 use Rattle.ostream.proofs.OStream.refuse.Reads as refuse-reads
 use Rattle.answers.proofs.unfit.Reads as unfit-reads
 
-unfit-requires : tie.Need-unfit-requires
-unfit-requires c κs = search needs
-
-install-requires : tie.Need-install-requires
-install-requires c κs = search needs
-
-refuse-requires : tie.Need-refuse-requires
-refuse-requires c κs = search needs
-
-install-requires-2 : tie.Need-install-requires-2
-install-requires-2 c κs = search needs
-
 returns : tie.Need-returns
 unfolding opening
 returns c = simp (sym (c .before .before .before .unfit .ensures) ∙ c .before .before .if1 .taken) (c .refuse .ensures ∙ ap (λ (s : OStream). refused s BadBuffer) (c .before .install .ensures))
@@ -37,4 +25,5 @@ returns-2 c = simp (sym (c .before .before .unfit .ensures) ∙ c .before .if1 .
 pub open-spec : {M : Type 1} → statement M
 open-spec =
     tie.close
-    (tie.spec unfit-requires install-requires refuse-requires install-requires-2 returns returns-2)
+    (tie.spec
+    (λ c κs. search needs) (λ c κs. search needs) (λ c κs. search needs) (λ c κs. search needs) returns returns-2)

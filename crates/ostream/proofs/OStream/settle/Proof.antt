@@ -13,20 +13,8 @@ use Rattle.ostream.proofs.OStream.settle.Lts as lts
 use Rattle.ostream.proofs.OStream.commit.Reads as commit-reads
 use Rattle.ostream.proofs.OStream.refuse.Reads as refuse-reads
 
-enum-known-outcome : tie.Need-enum-known-outcome
-enum-known-outcome c = search needs
-
 commit-requires : tie.Need-commit-requires
 commit-requires c κs = let z = c .before .before .before in subst (Clears (z .args .self)) (c .before .outcome .given .1) (z .pre)
-
-enum-known-outcome-2 : tie.Need-enum-known-outcome-2
-enum-known-outcome-2 c = search needs
-
-enum-known-outcome-3 : tie.Need-enum-known-outcome-3
-enum-known-outcome-3 c = search needs
-
-refuse-requires : tie.Need-refuse-requires
-refuse-requires c κs = search needs
 
 returns : tie.Need-returns
 returns c =
@@ -47,11 +35,5 @@ pub settle-spec : {M : Type 1} → statement M
 settle-spec =
     tie.close
     (tie.spec
-    enum-known-outcome
-    commit-requires
-    enum-known-outcome-2
-    enum-known-outcome-3
-    refuse-requires
-    returns
-    returns-2
-    returns-3)
+    (λ c. search needs) commit-requires (λ c. search needs) (λ c. search needs) (λ c κs. search needs) returns
+    returns-2 returns-3)

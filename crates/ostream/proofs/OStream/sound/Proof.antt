@@ -7,12 +7,10 @@ use Rattle.ostream.proofs.OStream.sound.Reads as reads
 use Rattle.ostream.proofs.OStream.sound.Lts as lts
 use Rattle.held.proofs.sound_for.Reads as sound-for-reads
 
-sound-for-requires : tie.Need-sound-for-requires
-sound-for-requires c κs = search needs
-
 returns : tie.Need-returns
 unfolding soundStream
 returns c = c .sound-for .ensures
 
 pub sound-spec : {M : Type 1} → statement M
-sound-spec = tie.close (tie.spec sound-for-requires returns)
+sound-spec =
+    tie.close (tie.spec (λ c κs. search needs) returns)

@@ -10,15 +10,6 @@ use Rattle.ostream.proofs.OStream.unhold.Reads as reads
 use Rattle.ostream.proofs.OStream.unhold.Lts as lts
 use Rattle.held.proofs.drop_id.Reads as drop-id-reads
 
-drop-id-requires : tie.Need-drop-id-requires
-drop-id-requires c κs = search needs
-
-sub-self : tie.Need-sub-self
-sub-self c = search needs
-
-sub-self-2 : tie.Need-sub-self-2
-sub-self-2 c = search needs
-
 returns : tie.Need-returns
 unfolding dropped
 returns c =
@@ -26,4 +17,5 @@ returns c =
     ap (λ (l : List ℕ). record { offset = a .self .offset; depth = a .self .depth - 1; pending = l; npending = a .self .npending - 1 }) (c .before .before .drop-id .ensures)
 
 pub unhold-spec : {M : Type 1} → statement M
-unhold-spec = tie.close (tie.spec drop-id-requires sub-self sub-self-2 returns)
+unhold-spec =
+    tie.close (tie.spec (λ c κs. search needs) (λ c. search needs) (λ c. search needs) returns)

@@ -18,14 +18,8 @@ use Rattle.ostream.proofs.OStream.write_array_fp32.Lts as lts
 use Rattle.checked.proofs.fp32_array.Reads as fp32-array-reads
 use Rattle.ostream.proofs.OStream.settle.Reads as settle-reads
 
-fp32-array-requires : tie.Need-fp32-array-requires
-fp32-array-requires c κs = search needs
-
 settle-requires : tie.Need-settle-requires
 settle-requires c κs = let a = c .before .before .before .before .before .before .before .args in field-clears (a .self) (a .buf .now) (a .id) (length (a .items .now)) (fieldBytes (floatArray (a .id) fp32 (map (toBits binary32) (a .items .now)))) (a .place) _ _ (c .before .before .fp32-array .ensures)
-
-same-length : tie.Need-same-length
-same-length c = search needs
 
 returns : tie.Need-returns
 unfolding heldBytes
@@ -34,4 +28,5 @@ returns c =
     goes (a .self) (a .buf .now) (a .id) (length (a .items .now)) (fieldBytes (floatArray (a .id) fp32 (map (toBits binary32) (a .items .now)))) (a .place) _ _ (c .before .before .before .fp32-array .ensures) _ _ (ap (λ (n : ℕ). judged (fieldTests (a .self) (length (a .buf .now)) (a .id) n)) (sym (length-map (a .items .now) (toBits binary32)))) refl refl (c .settle .ensures)
 
 pub write-array-fp32-spec : {M : Type 1} → statement M
-write-array-fp32-spec = tie.close (tie.spec fp32-array-requires settle-requires same-length returns)
+write-array-fp32-spec =
+    tie.close (tie.spec (λ c κs. search needs) settle-requires (λ c. search needs) returns)

@@ -18,14 +18,8 @@ use Rattle.ostream.proofs.OStream.write_array_fp64.Lts as lts
 use Rattle.checked.proofs.fp64_array.Reads as fp64-array-reads
 use Rattle.ostream.proofs.OStream.settle.Reads as settle-reads
 
-fp64-array-requires : tie.Need-fp64-array-requires
-fp64-array-requires c κs = search needs
-
 settle-requires : tie.Need-settle-requires
 settle-requires c κs = let a = c .before .before .before .before .before .before .before .args in field-clears (a .self) (a .buf .now) (a .id) (length (a .items .now)) (fieldBytes (floatArray (a .id) fp64 (map (toBits binary64) (a .items .now)))) (a .place) _ _ (c .before .before .fp64-array .ensures)
-
-same-length : tie.Need-same-length
-same-length c = search needs
 
 returns : tie.Need-returns
 unfolding heldBytes
@@ -34,4 +28,5 @@ returns c =
     goes (a .self) (a .buf .now) (a .id) (length (a .items .now)) (fieldBytes (floatArray (a .id) fp64 (map (toBits binary64) (a .items .now)))) (a .place) _ _ (c .before .before .before .fp64-array .ensures) _ _ (ap (λ (n : ℕ). judged (fieldTests (a .self) (length (a .buf .now)) (a .id) n)) (sym (length-map (a .items .now) (toBits binary64)))) refl refl (c .settle .ensures)
 
 pub write-array-fp64-spec : {M : Type 1} → statement M
-write-array-fp64-spec = tie.close (tie.spec fp64-array-requires settle-requires same-length returns)
+write-array-fp64-spec =
+    tie.close (tie.spec (λ c κs. search needs) settle-requires (λ c. search needs) returns)

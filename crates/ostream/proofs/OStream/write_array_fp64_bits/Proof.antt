@@ -13,14 +13,8 @@ use Rattle.ostream.proofs.OStream.write_array_fp64_bits.Lts as lts
 use Rattle.checked.proofs.fp64_bits_array.Reads as fp64-bits-array-reads
 use Rattle.ostream.proofs.OStream.settle.Reads as settle-reads
 
-fp64-bits-array-requires : tie.Need-fp64-bits-array-requires
-fp64-bits-array-requires c κs = search needs
-
 settle-requires : tie.Need-settle-requires
 settle-requires c κs = let a = c .before .before .before .before .before .before .before .args in field-clears (a .self) (a .buf .now) (a .id) (length (a .items .now)) (fieldBytes (floatArray (a .id) fp64 (a .items .now))) (a .place) _ _ (c .before .before .fp64-bits-array .ensures)
-
-same-length : tie.Need-same-length
-same-length c = search needs
 
 returns : tie.Need-returns
 unfolding heldBytes
@@ -29,4 +23,5 @@ returns c =
     goes (a .self) (a .buf .now) (a .id) (length (a .items .now)) (fieldBytes (floatArray (a .id) fp64 (a .items .now))) (a .place) _ _ (c .before .before .before .fp64-bits-array .ensures) _ _ refl refl refl (c .settle .ensures)
 
 pub write-array-fp64-bits-spec : {M : Type 1} → statement M
-write-array-fp64-bits-spec = tie.close (tie.spec fp64-bits-array-requires settle-requires same-length returns)
+write-array-fp64-bits-spec =
+    tie.close (tie.spec (λ c κs. search needs) settle-requires (λ c. search needs) returns)

@@ -41,36 +41,15 @@ unaltered c =
     (λ x. x .1)
     (c .if2 .came)
 
-anew-requires : tie.Need-anew-requires
-anew-requires c κs = search needs
-
-write-array-signed-slowly-requires : tie.Need-write-array-signed-slowly-requires
-write-array-signed-slowly-requires c κs = search needs
-
-anew-requires-2 : tie.Need-anew-requires-2
-anew-requires-2 c κs = search needs
-
-same-length : tie.Need-same-length
-same-length c = search needs
-
 returns : tie.Need-returns
 returns c =
     let a = c .before .before .before .before .before .before .before .before .args in
     left-to (λ s n. signedArrayCall s n (a .id) (a .items .now)) (a .self) _ (a .buf .now) (a .buf .now) (a .place) _ _ _ (c .before .before .before .before .before .anew .ensures) refl (c .anew2 .ensures) (c .before .before .before .write-array-signed-slowly .ensures)
 
-at-ease-requires : tie.Need-at-ease-requires
-at-ease-requires c κs = search needs
-
-tagged-requires : tie.Need-tagged-requires
-tagged-requires c κs = search needs
-
 put-signeds-requires : tie.Need-put-signeds-requires
 put-signeds-requires c κs =
     let a = c .before .before .before .before .before .before .before .args in
     is-easy (a .self) (a .id) (length (a .items .now)) (sym (c .before .before .before .before .at-ease .ensures) ∙ c .before .before .before .if2 .taken) .short
-
-same-length-2 : tie.Need-same-length-2
-same-length-2 c = search needs
 
 returns-2 : tie.Need-returns-2
 unfolding fieldBytes
@@ -90,15 +69,6 @@ returns-2 c =
     (q .2 (w .0))
     (w .1)
 
-anew-requires-3 : tie.Need-anew-requires-3
-anew-requires-3 c κs = search needs
-
-write-array-signed-slowly-requires-2 : tie.Need-write-array-signed-slowly-requires-2
-write-array-signed-slowly-requires-2 c κs = search needs
-
-anew-requires-4 : tie.Need-anew-requires-4
-anew-requires-4 c κs = search needs
-
 same-length-3 : tie.Need-same-length-3
 same-length-3 c = search (needs, ap length (unaltered (c .before .before .before .before .before .before)))
 
@@ -111,18 +81,6 @@ pub write-array-signed-spec : {M : Type 1} → statement M
 write-array-signed-spec =
     tie.close
     (tie.spec
-    anew-requires
-    write-array-signed-slowly-requires
-    anew-requires-2
-    same-length
-    returns
-    at-ease-requires
-    tagged-requires
-    put-signeds-requires
-    same-length-2
-    returns-2
-    anew-requires-3
-    write-array-signed-slowly-requires-2
-    anew-requires-4
-    same-length-3
-    returns-3)
+    (λ c κs. search needs) (λ c κs. search needs) (λ c κs. search needs) (λ c. search needs) returns
+    (λ c κs. search needs) (λ c κs. search needs) put-signeds-requires (λ c. search needs) returns-2
+    (λ c κs. search needs) (λ c κs. search needs) (λ c κs. search needs) same-length-3 returns-3)

@@ -13,14 +13,8 @@ use Rattle.ostream.proofs.OStream.write_array_unsigned_slowly.Lts as lt
 use Rattle.checked.proofs.unsigned_array.Reads as unsigned-array-reads
 use Rattle.ostream.proofs.OStream.settle.Reads as settle-reads
 
-unsigned-array-requires : tie.Need-unsigned-array-requires
-unsigned-array-requires c κs = search needs
-
 settle-requires : tie.Need-settle-requires
 settle-requires c κs = let a = c .before .before .before .before .before .before .before .args in field-clears (a .self) (a .buf .now) (a .id) (length (a .items .now)) (fieldBytes (unsignedArray (a .id) (a .items .now))) (a .place) _ _ (c .before .before .unsigned-array .ensures)
-
-same-length : tie.Need-same-length
-same-length c = search needs
 
 returns : tie.Need-returns
 unfolding heldBytes
@@ -29,4 +23,5 @@ returns c =
     goes (a .self) (a .buf .now) (a .id) (length (a .items .now)) (fieldBytes (unsignedArray (a .id) (a .items .now))) (a .place) _ _ (c .before .before .before .unsigned-array .ensures) _ _ refl refl refl (c .settle .ensures)
 
 pub write-array-unsigned-slowly-spec : {M : Type 1} → statement M
-write-array-unsigned-slowly-spec = tie.close (tie.spec unsigned-array-requires settle-requires same-length returns)
+write-array-unsigned-slowly-spec =
+    tie.close (tie.spec (λ c κs. search needs) settle-requires (λ c. search needs) returns)

@@ -12,15 +12,6 @@ use Rattle.ostream.proofs.OStream.write_boolean.Lts as lts
 use Rattle.ostream.proofs.OStream.write_unsigned.Reads as write-unsigned-reads
 use Rattle.ostream.proofs.scalar.bit.Reads as bit-reads
 
-bit-requires : tie.Need-bit-requires
-bit-requires c κs = search needs
-
-write-unsigned-requires : tie.Need-write-unsigned-requires
-write-unsigned-requires c κs = search needs
-
-same-length : tie.Need-same-length
-same-length c = search needs
-
 returns : tie.Need-returns
 returns c =
     let a = c .before .before .before .before .before .before .args in
@@ -29,4 +20,5 @@ returns c =
     e ∙ ap (λ (n : ℕ). written (unsignedCall (a .self) (length (a .buf .now)) (a .id) n) (a .self) (a .buf .now) (a .place)) b
 
 pub write-boolean-spec : {M : Type 1} → statement M
-write-boolean-spec = tie.close (tie.spec bit-requires write-unsigned-requires same-length returns)
+write-boolean-spec =
+    tie.close (tie.spec (λ c κs. search needs) (λ c κs. search needs) (λ c. search needs) returns)

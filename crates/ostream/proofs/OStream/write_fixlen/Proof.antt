@@ -18,15 +18,6 @@ use Rattle.ostream.proofs.OStream.refuse.Reads as refuse-reads
 use Rattle.ostream.proofs.OStream.sound.Reads as sound-reads
 use Rattle.ostream.proofs.OStream.write_fixlen_raw.Reads as write-fixlen-raw-reads
 
-sound-requires : tie.Need-sound-requires
-sound-requires c κs = search needs
-
-check-fixlen-requires : tie.Need-check-fixlen-requires
-check-fixlen-requires c κs = search needs
-
-refuse-requires : tie.Need-refuse-requires
-refuse-requires c κs = search needs
-
 abbrev verdict : tie.After-check-fixlen → Verdict
 verdict c = let a = c .before .before .before .before .args in judged (fixlenCall (a .self) (length (a .buf .now)) (a .id) (a .bytes .now) (a .subtype) .tests)
 
@@ -35,12 +26,6 @@ judges c = let a = c .before .before .before .before .args in c .check-fixlen .e
 
 returns : tie.Need-returns
 returns c = refuses _ _ _ _ _ _ (check-fails (verdict (c .before .before .before)) _ (judges (c .before .before .before)) (c .before .if1 .taken)) (c .refuse .ensures)
-
-write-fixlen-raw-requires : tie.Need-write-fixlen-raw-requires
-write-fixlen-raw-requires c κs = search needs
-
-same-length : tie.Need-same-length
-same-length c = search needs
 
 returns-2 : tie.Need-returns-2
 returns-2 c =
@@ -53,10 +38,5 @@ pub write-fixlen-spec : {M : Type 1} → statement M
 write-fixlen-spec =
     tie.close
     (tie.spec
-    sound-requires
-    check-fixlen-requires
-    refuse-requires
-    returns
-    write-fixlen-raw-requires
-    same-length
-    returns-2)
+    (λ c κs. search needs) (λ c κs. search needs) (λ c κs. search needs) returns (λ c κs. search needs)
+    (λ c. search needs) returns-2)

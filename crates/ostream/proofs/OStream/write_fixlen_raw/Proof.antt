@@ -39,46 +39,16 @@ unaltered c =
     (λ x. x .1)
     (c .if2 .came)
 
-anew-requires : tie.Need-anew-requires
-anew-requires c κs = search needs
-
-write-fixlen-slowly-requires : tie.Need-write-fixlen-slowly-requires
-write-fixlen-slowly-requires c κs = search needs
-
-anew-requires-2 : tie.Need-anew-requires-2
-anew-requires-2 c κs = search needs
-
-same-length : tie.Need-same-length
-same-length c = search needs
-
 returns : tie.Need-returns
 returns c =
     let a = c .before .before .before .before .before .before .before .before .before .args in
     left-to (λ s n. rawCall s n (a .id) (a .bytes .now) (a .subtype)) (a .self) _ (a .buf .now) (a .buf .now) (a .place) _ _ _ (c .before .before .before .before .before .anew .ensures) refl (c .anew2 .ensures) (c .before .before .before .write-fixlen-slowly .ensures)
-
-at-ease-requires : tie.Need-at-ease-requires
-at-ease-requires c κs = search needs
 
 cast-tagged : tie.Need-cast-tagged
 cast-tagged c =
     let a = c .before .before .before .before .before .before .args in
     let n = is-easy (a .self) (a .id) (length (a .bytes .now)) (sym (c .before .before .at-ease .ensures) ∙ c .before .if2 .taken) .short in
     record { fits = omega arith }
-
-raw-requires : tie.Need-raw-requires
-raw-requires c κs = search needs
-
-tagged-requires : tie.Need-tagged-requires
-tagged-requires c κs = search needs
-
-tagged-requires-2 : tie.Need-tagged-requires-2
-tagged-requires-2 c κs = search needs
-
-put-field-requires : tie.Need-put-field-requires
-put-field-requires c κs = search needs
-
-same-length-2 : tie.Need-same-length-2
-same-length-2 c = search needs
 
 returns-2 : tie.Need-returns-2
 unfolding fixlenBytes
@@ -102,15 +72,6 @@ returns-2 c =
     (omega arith)
     (q .1)
 
-anew-requires-3 : tie.Need-anew-requires-3
-anew-requires-3 c κs = search needs
-
-write-fixlen-slowly-requires-2 : tie.Need-write-fixlen-slowly-requires-2
-write-fixlen-slowly-requires-2 c κs = search needs
-
-anew-requires-4 : tie.Need-anew-requires-4
-anew-requires-4 c κs = search needs
-
 same-length-3 : tie.Need-same-length-3
 same-length-3 c = search (needs, ap length (unaltered (c .before .before .before .before .before .before)))
 
@@ -123,21 +84,7 @@ pub write-fixlen-raw-spec : {M : Type 1} → statement M
 write-fixlen-raw-spec =
     tie.close
     (tie.spec
-    anew-requires
-    write-fixlen-slowly-requires
-    anew-requires-2
-    same-length
-    returns
-    at-ease-requires
-    cast-tagged
-    raw-requires
-    tagged-requires
-    tagged-requires-2
-    put-field-requires
-    same-length-2
-    returns-2
-    anew-requires-3
-    write-fixlen-slowly-requires-2
-    anew-requires-4
-    same-length-3
-    returns-3)
+    (λ c κs. search needs) (λ c κs. search needs) (λ c κs. search needs) (λ c. search needs) returns
+    (λ c κs. search needs) cast-tagged (λ c κs. search needs) (λ c κs. search needs) (λ c κs. search needs)
+    (λ c κs. search needs) (λ c. search needs) returns-2 (λ c κs. search needs) (λ c κs. search needs)
+    (λ c κs. search needs) same-length-3 returns-3)

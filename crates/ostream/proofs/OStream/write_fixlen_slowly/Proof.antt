@@ -15,20 +15,11 @@ use Rattle.checked.proofs.fixlen_field.Reads as fixlen-field-reads
 use Rattle.ostream.proofs.OStream.anew.Reads as anew-reads
 use Rattle.ostream.proofs.OStream.settle.Reads as settle-reads
 
-anew-requires : tie.Need-anew-requires
-anew-requires c κs = search needs
-
-fixlen-field-requires : tie.Need-fixlen-field-requires
-fixlen-field-requires c κs = search needs
-
 settle-requires : tie.Need-settle-requires
 settle-requires c κs =
     let a = c .before .before .before .before .before .before .before .before .args in
     let s = c .before .before .before .before .before .anew .result in
     field-clears s (a .buf .now) (a .id) (length (a .bytes .now)) (fixlenBytes (a .id) (subtype (a .subtype)) (a .bytes .now)) (a .place) _ _ (c .before .before .fixlen-field .ensures)
-
-same-length : tie.Need-same-length
-same-length c = search needs
 
 returns : tie.Need-returns
 unfolding heldBytes
@@ -39,4 +30,5 @@ returns c =
     (goes s (a .buf .now) (a .id) (length (a .bytes .now)) (fixlenBytes (a .id) (subtype (a .subtype)) (a .bytes .now)) (a .place) _ _ (c .before .before .before .fixlen-field .ensures) _ _ refl refl refl (c .settle .ensures))
 
 pub write-fixlen-slowly-spec : {M : Type 1} → statement M
-write-fixlen-slowly-spec = tie.close (tie.spec anew-requires fixlen-field-requires settle-requires same-length returns)
+write-fixlen-slowly-spec =
+    tie.close (tie.spec (λ c κs. search needs) (λ c κs. search needs) settle-requires (λ c. search needs) returns)

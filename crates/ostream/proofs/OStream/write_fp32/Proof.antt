@@ -13,15 +13,6 @@ use Rattle.ostream.proofs.OStream.write_fp32.Lts as lts
 use Rattle.event.proofs.fp32_bits.Reads as fp32-bits-reads
 use Rattle.ostream.proofs.OStream.write_fp32_bits.Reads as write-fp32-bits-reads
 
-fp32-bits-requires : tie.Need-fp32-bits-requires
-fp32-bits-requires c κs = search needs
-
-write-fp32-bits-requires : tie.Need-write-fp32-bits-requires
-write-fp32-bits-requires c κs = search needs
-
-same-length : tie.Need-same-length
-same-length c = search needs
-
 returns : tie.Need-returns
 returns c =
     let a = c .before .before .before .before .before .before .args in
@@ -31,4 +22,4 @@ returns c =
 
 pub write-fp32-spec : {M : Type 1} → statement M
 write-fp32-spec =
-    tie.close (tie.spec fp32-bits-requires write-fp32-bits-requires same-length returns)
+    tie.close (tie.spec (λ c κs. search needs) (λ c κs. search needs) (λ c. search needs) returns)

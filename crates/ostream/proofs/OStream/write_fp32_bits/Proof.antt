@@ -11,18 +11,6 @@ use Rattle.ostream.proofs.OStream.write_fp32_bits.Lts as lts
 use Rattle.ostream.proofs.OStream.write_fixlen_raw.Reads as write-fixlen-raw-reads
 use Rattle.fields.proofs.le32.Reads as le32-reads
 
-le32-requires : tie.Need-le32-requires
-le32-requires c κs = search needs
-
-slice-aggregate-write-fixlen-raw : tie.Need-slice-aggregate-write-fixlen-raw
-slice-aggregate-write-fixlen-raw c = search needs
-
-write-fixlen-raw-requires : tie.Need-write-fixlen-raw-requires
-write-fixlen-raw-requires c κs = search needs
-
-same-length : tie.Need-same-length
-same-length c = search needs
-
 returns : tie.Need-returns
 returns c =
     let a = c .before .before .before .before .before .before .before .args in
@@ -30,10 +18,4 @@ returns c =
 
 pub write-fp32-bits-spec : {M : Type 1} → statement M
 write-fp32-bits-spec =
-    tie.close
-    (tie.spec
-    le32-requires
-    slice-aggregate-write-fixlen-raw
-    write-fixlen-raw-requires
-    same-length
-    returns)
+    tie.close (tie.spec (λ c κs. search needs) (λ c. search needs) (λ c κs. search needs) (λ c. search needs) returns)

@@ -13,15 +13,6 @@ use Rattle.ostream.proofs.OStream.write_fp64.Lts as lts
 use Rattle.event.proofs.fp64_bits.Reads as fp64-bits-reads
 use Rattle.ostream.proofs.OStream.write_fp64_bits.Reads as write-fp64-bits-reads
 
-fp64-bits-requires : tie.Need-fp64-bits-requires
-fp64-bits-requires c κs = search needs
-
-write-fp64-bits-requires : tie.Need-write-fp64-bits-requires
-write-fp64-bits-requires c κs = search needs
-
-same-length : tie.Need-same-length
-same-length c = search needs
-
 returns : tie.Need-returns
 returns c =
     let a = c .before .before .before .before .before .before .args in
@@ -31,4 +22,4 @@ returns c =
 
 pub write-fp64-spec : {M : Type 1} → statement M
 write-fp64-spec =
-    tie.close (tie.spec fp64-bits-requires write-fp64-bits-requires same-length returns)
+    tie.close (tie.spec (λ c κs. search needs) (λ c κs. search needs) (λ c. search needs) returns)

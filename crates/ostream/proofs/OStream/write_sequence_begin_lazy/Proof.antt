@@ -21,9 +21,6 @@ use Rattle.ostream.proofs.OStream.hold.Reads as hold-reads
 held : (c : tie.Then2) → Holds (c .before .before .before .before .args .self) (length (c .before .before .before .before .args .buf .now)) (c .before .before .before .before .args .id)
 held c = can-hold _ _ _ (sym (c .before .can-hold .ensures) ∙ c .if2 .taken)
 
-can-hold-requires : tie.Need-can-hold-requires
-can-hold-requires c κs = search needs
-
 hold-requires : tie.Need-hold-requires
 hold-requires c κs = let h = held c in (h .few, h .shallow)
 
@@ -43,16 +40,8 @@ returns c =
     refl
     (ap (λ (x : OStream). record { answer = Done; stream = x }) (c .hold .ensures) ∙ sym (simp (le-ltb 0 (a .place) (omega arith))))
 
-begin-slowly-requires : tie.Need-begin-slowly-requires
-begin-slowly-requires c κs = search needs
-
-same-length : tie.Need-same-length
-same-length c = search needs
-
-returns-2 : tie.Need-returns-2
-returns-2 c = search needs
-
 pub write-sequence-begin-lazy-spec : {M : Type 1} → statement M
 write-sequence-begin-lazy-spec =
     tie.close
-    (tie.spec can-hold-requires hold-requires returns begin-slowly-requires same-length returns-2)
+    (tie.spec
+    (λ c κs. search needs) hold-requires returns (λ c κs. search needs) (λ c. search needs) (λ c. search needs))

@@ -40,37 +40,16 @@ unaltered c =
     (λ x. x .1)
     (c .if2 .came)
 
-anew-requires : tie.Need-anew-requires
-anew-requires c κs = search needs
-
-end-slowly-requires : tie.Need-end-slowly-requires
-end-slowly-requires c κs = search needs
-
-anew-requires-2 : tie.Need-anew-requires-2
-anew-requires-2 c κs = search needs
-
-same-length : tie.Need-same-length
-same-length c = search needs
-
 returns : tie.Need-returns
 returns c =
     let a = c .before .before .before .before .before .before .before .before .args in
     left-to (λ s n. endCall s n) (a .self) _ (a .buf .now) (a .buf .now) (a .place) _ _ _ (c .before .before .before .before .before .anew .ensures) refl (c .anew2 .ensures) (c .before .before .before .end-slowly .ensures)
-
-closes-at-ease-requires : tie.Need-closes-at-ease-requires
-closes-at-ease-requires c κs = search needs
-
-put-end-requires : tie.Need-put-end-requires
-put-end-requires c κs = search needs
 
 sub-self : tie.Need-sub-self
 sub-self c =
     let a = c .before .before .before .before .before .before .before .before .before .before .before .before .args in
     let d = closes-easy (a .self) (sym (c .before .before .before .before .before .before .before .before .before .closes-at-ease .ensures) ∙ c .before .before .before .before .before .before .before .before .if2 .taken) .0 in
     omega arith
-
-same-length-2 : tie.Need-same-length-2
-same-length-2 c = search needs
 
 returns-2 : tie.Need-returns-2
 unfolding fieldBytes
@@ -92,15 +71,6 @@ returns-2 c =
     (omega arith)
     (w .1)
 
-anew-requires-3 : tie.Need-anew-requires-3
-anew-requires-3 c κs = search needs
-
-end-slowly-requires-2 : tie.Need-end-slowly-requires-2
-end-slowly-requires-2 c κs = search needs
-
-anew-requires-4 : tie.Need-anew-requires-4
-anew-requires-4 c κs = search needs
-
 same-length-3 : tie.Need-same-length-3
 same-length-3 c = search (needs, ap length (unaltered (c .before .before .before .before .before .before)))
 
@@ -113,18 +83,6 @@ pub write-sequence-end-spec : {M : Type 1} → statement M
 write-sequence-end-spec =
     tie.close
     (tie.spec
-    anew-requires
-    end-slowly-requires
-    anew-requires-2
-    same-length
-    returns
-    closes-at-ease-requires
-    put-end-requires
-    sub-self
-    same-length-2
-    returns-2
-    anew-requires-3
-    end-slowly-requires-2
-    anew-requires-4
-    same-length-3
-    returns-3)
+    (λ c κs. search needs) (λ c κs. search needs) (λ c κs. search needs) (λ c. search needs) returns
+    (λ c κs. search needs) (λ c κs. search needs) sub-self (λ c. search needs) returns-2 (λ c κs. search needs)
+    (λ c κs. search needs) (λ c κs. search needs) same-length-3 returns-3)

@@ -18,15 +18,6 @@ use Rattle.ostream.proofs.OStream.close.Reads as close-reads
 use Rattle.ostream.proofs.OStream.refuse.Reads as refuse-reads
 use Rattle.ostream.proofs.OStream.sound.Reads as sound-reads
 
-sound-requires : tie.Need-sound-requires
-sound-requires c κs = search needs
-
-check-end-requires : tie.Need-check-end-requires
-check-end-requires c κs = search needs
-
-refuse-requires : tie.Need-refuse-requires
-refuse-requires c κs = search needs
-
 abbrev verdict : tie.After-check-end → Verdict
 verdict c = let a = c .before .before .before .args in judged (endKeepCall (a .self) (length (a .buf .now)) .tests)
 
@@ -42,20 +33,9 @@ returns c = refuses _ _ _ _ _ _ (check-fails (verdict (c .before .before .before
 close-requires : tie.Need-close-requires
 close-requires c κs = let a = c .before .before .before .before .before .before .args in end-knows (a .self) (length (a .buf .now)) (passes (c .before))
 
-same-length : tie.Need-same-length
-same-length c = search needs
-
-returns-2 : tie.Need-returns-2
-returns-2 c = search needs
-
 pub write-sequence-end-keep-spec : {M : Type 1} → statement M
 write-sequence-end-keep-spec =
     tie.close
     (tie.spec
-    sound-requires
-    check-end-requires
-    refuse-requires
-    returns
-    close-requires
-    same-length
-    returns-2)
+    (λ c κs. search needs) (λ c κs. search needs) (λ c κs. search needs) returns close-requires (λ c. search needs)
+    (λ c. search needs))

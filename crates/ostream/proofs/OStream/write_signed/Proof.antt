@@ -16,15 +16,6 @@ use Rattle.ostream.proofs.OStream.write_signed.Lts as lts
 use Rattle.ostream.proofs.OStream.write_varint_field.Reads as write-varint-field-reads
 use Rattle.varint.proofs.zigzag_encode.Reads as zigzag-encode-reads
 
-zigzag-encode-requires : tie.Need-zigzag-encode-requires
-zigzag-encode-requires c κs = search needs
-
-write-varint-field-requires : tie.Need-write-varint-field-requires
-write-varint-field-requires c κs = search needs
-
-same-length : tie.Need-same-length
-same-length c = search needs
-
 returns : tie.Need-returns
 unfolding fieldBytes
 returns c =
@@ -35,4 +26,4 @@ returns c =
 
 pub write-signed-spec : {M : Type 1} → statement M
 write-signed-spec =
-    tie.close (tie.spec zigzag-encode-requires write-varint-field-requires same-length returns)
+    tie.close (tie.spec (λ c κs. search needs) (λ c κs. search needs) (λ c. search needs) returns)

@@ -7,15 +7,10 @@ use Rattle.ostream.proofs.OStream.write_unsigned.Reads as reads
 use Rattle.ostream.proofs.OStream.write_unsigned.Lts as lts
 use Rattle.ostream.proofs.OStream.write_varint_field.Reads as write-varint-field-reads
 
-write-varint-field-requires : tie.Need-write-varint-field-requires
-write-varint-field-requires c κs = search needs
-
-same-length : tie.Need-same-length
-same-length c = search needs
-
 returns : tie.Need-returns
 unfolding fieldBytes
 returns c = c .before .before .write-varint-field .ensures
 
 pub write-unsigned-spec : {M : Type 1} → statement M
-write-unsigned-spec = tie.close (tie.spec write-varint-field-requires same-length returns)
+write-unsigned-spec =
+    tie.close (tie.spec (λ c κs. search needs) (λ c. search needs) returns)

@@ -36,34 +36,10 @@ unaltered c =
     (λ x. x .1)
     (c .if2 .came)
 
-anew-requires : tie.Need-anew-requires
-anew-requires c κs = search needs
-
-write-varint-field-slowly-requires : tie.Need-write-varint-field-slowly-requires
-write-varint-field-slowly-requires c κs = search needs
-
-anew-requires-2 : tie.Need-anew-requires-2
-anew-requires-2 c κs = search needs
-
-same-length : tie.Need-same-length
-same-length c = search needs
-
 returns : tie.Need-returns
 returns c =
     let a = c .before .before .before .before .before .before .before .before .args in
     left-to (λ s n. varintCall s n (a .id) (a .wire) (a .value)) (a .self) _ (a .buf .now) (a .buf .now) (a .place) _ _ _ (c .before .before .before .before .before .anew .ensures) refl (c .anew2 .ensures) (c .before .before .before .write-varint-field-slowly .ensures)
-
-at-ease-requires : tie.Need-at-ease-requires
-at-ease-requires c κs = search needs
-
-tagged-requires : tie.Need-tagged-requires
-tagged-requires c κs = search needs
-
-put-pair-requires : tie.Need-put-pair-requires
-put-pair-requires c κs = search needs
-
-same-length-2 : tie.Need-same-length-2
-same-length-2 c = search needs
 
 returns-2 : tie.Need-returns-2
 returns-2 c =
@@ -85,15 +61,6 @@ returns-2 c =
     (omega arith)
     (w .1)
 
-anew-requires-3 : tie.Need-anew-requires-3
-anew-requires-3 c κs = search needs
-
-write-varint-field-slowly-requires-2 : tie.Need-write-varint-field-slowly-requires-2
-write-varint-field-slowly-requires-2 c κs = search needs
-
-anew-requires-4 : tie.Need-anew-requires-4
-anew-requires-4 c κs = search needs
-
 same-length-3 : tie.Need-same-length-3
 same-length-3 c = search (needs, ap length (unaltered (c .before .before .before .before .before .before)))
 
@@ -106,18 +73,6 @@ pub write-varint-field-spec : {M : Type 1} → statement M
 write-varint-field-spec =
     tie.close
     (tie.spec
-    anew-requires
-    write-varint-field-slowly-requires
-    anew-requires-2
-    same-length
-    returns
-    at-ease-requires
-    tagged-requires
-    put-pair-requires
-    same-length-2
-    returns-2
-    anew-requires-3
-    write-varint-field-slowly-requires-2
-    anew-requires-4
-    same-length-3
-    returns-3)
+    (λ c κs. search needs) (λ c κs. search needs) (λ c κs. search needs) (λ c. search needs) returns
+    (λ c κs. search needs) (λ c κs. search needs) (λ c κs. search needs) (λ c. search needs) returns-2
+    (λ c κs. search needs) (λ c κs. search needs) (λ c κs. search needs) same-length-3 returns-3)

@@ -16,20 +16,11 @@ use Rattle.checked.proofs.varint_field.Reads as varint-field-reads
 use Rattle.ostream.proofs.OStream.anew.Reads as anew-reads
 use Rattle.ostream.proofs.OStream.settle.Reads as settle-reads
 
-anew-requires : tie.Need-anew-requires
-anew-requires c κs = search needs
-
-varint-field-requires : tie.Need-varint-field-requires
-varint-field-requires c κs = search needs
-
 settle-requires : tie.Need-settle-requires
 settle-requires c κs =
     let a = c .before .before .before .before .before .before .before .args in
     let s = c .before .before .before .before .before .anew .result in
     field-clears s (a .buf .now) (a .id) 0 (shortest (a .id * 8 + a .wire) ++ shortest (a .value)) (a .place) _ _ (c .before .before .varint-field .ensures)
-
-same-length : tie.Need-same-length
-same-length c = search needs
 
 returns : tie.Need-returns
 unfolding heldBytes
@@ -40,4 +31,5 @@ returns c =
     (goes s (a .buf .now) (a .id) 0 (shortest (a .id * 8 + a .wire) ++ shortest (a .value)) (a .place) _ _ (c .before .before .before .varint-field .ensures) _ _ refl refl refl (c .settle .ensures))
 
 pub write-varint-field-slowly-spec : {M : Type 1} → statement M
-write-varint-field-slowly-spec = tie.close (tie.spec anew-requires varint-field-requires settle-requires same-length returns)
+write-varint-field-slowly-spec =
+    tie.close (tie.spec (λ c κs. search needs) (λ c κs. search needs) settle-requires (λ c. search needs) returns)

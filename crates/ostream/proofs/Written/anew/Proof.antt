@@ -8,11 +8,9 @@ use Rattle.ostream.proofs.Written.anew.Reads as reads
 use Rattle.ostream.proofs.Written.anew.Lts as lts
 use Rattle.ostream.proofs.OStream.anew.Reads as anew-reads
 
-anew-requires : tie.Need-anew-requires
-anew-requires c κs = search needs
-
 returns : tie.Need-returns
 returns c = ap (λ (x : OStream). record { answer = c .before .before .args .self .answer; stream = x }) (c .anew .ensures)
 
 pub anew-spec : {M : Type 1} → statement M
-anew-spec = tie.close (tie.spec anew-requires returns)
+anew-spec =
+    tie.close (tie.spec (λ c κs. search needs) returns)

@@ -17,53 +17,14 @@ use Rattle.owed.proofs.Output.len.Reads as reads
 use Rattle.owed.proofs.Output.len.Lts as lts
 use Rattle.varint.proofs.varint_len.Reads as varint-len-reads
 
-enum-told : tie.Need-enum-told
-enum-told c = search needs
-
-enum-known-self : tie.Need-enum-known-self
-enum-known-self c = search needs
-
-varint-len-requires : tie.Need-varint-len-requires
-varint-len-requires c κs = search needs
-
-enum-known-self-2 : tie.Need-enum-known-self-2
-enum-known-self-2 c = search needs
-
-varint-len-requires-2 : tie.Need-varint-len-requires-2
-varint-len-requires-2 c κs = search needs
-
-varint-len-requires-3 : tie.Need-varint-len-requires-3
-varint-len-requires-3 c κs = search needs
-
 add-result : tie.Need-add-result
 add-result c = let l0 = (let f : Fits w64 (c .before .before .before .self2 .given .0 .0) = search needs in length-64 (c .before .before .before .self2 .given .0 .0) (f .fits)) in let l1 = (let f : Fits w64 (c .before .before .before .self2 .given .0 .1 .0) = search needs in length-64 (c .before .before .before .self2 .given .0 .1 .0) (f .fits)) in let e = c .before .varint-len2 .ensures in let g = c .varint-len3 .ensures in record { fits = omega arith }
-
-enum-known-self-3 : tie.Need-enum-known-self-3
-enum-known-self-3 c = search needs
-
-varint-len-requires-4 : tie.Need-varint-len-requires-4
-varint-len-requires-4 c κs = search needs
-
-varint-len-requires-5 : tie.Need-varint-len-requires-5
-varint-len-requires-5 c κs = search needs
 
 add-result-2 : tie.Need-add-result-2
 add-result-2 c = let l0 = (let f : Fits w64 (c .before .before .before .self3 .given .0 .0) = search needs in length-64 (c .before .before .before .self3 .given .0 .0) (f .fits)) in let l1 = (let f : Fits w64 (c .before .before .before .self3 .given .0 .1 .0) = search needs in length-64 (c .before .before .before .self3 .given .0 .1 .0) (f .fits)) in let e = c .before .varint-len4 .ensures in let g = c .varint-len5 .ensures in record { fits = omega arith }
 
-varint-len-requires-6 : tie.Need-varint-len-requires-6
-varint-len-requires-6 c κs = search needs
-
 add-result-3 : tie.Need-add-result-3
 add-result-3 c = let l0 = (let f : Fits w64 (c .before .before .before .before .self3 .given .0 .0) = search needs in length-64 (c .before .before .before .before .self3 .given .0 .0) (f .fits)) in let l1 = (let f : Fits w64 (c .before .before .before .before .self3 .given .0 .1 .0) = search needs in length-64 (c .before .before .before .before .self3 .given .0 .1 .0) (f .fits)) in let l2 = (let f : Fits w64 (c .before .before .before .before .self3 .given .0 .1 .1 .0) = search needs in length-64 (c .before .before .before .before .self3 .given .0 .1 .1 .0) (f .fits)) in let e = c .before .before .varint-len4 .ensures in let g = c .before .varint-len5 .ensures in let h = c .varint-len6 .ensures in record { fits = omega arith }
-
-enum-told-2 : tie.Need-enum-told-2
-enum-told-2 c = search needs
-
-enum-told-3 : tie.Need-enum-told-3
-enum-told-3 c = search needs
-
-returns : tie.Need-returns
-returns c = search needs
 
 returns-2 : tie.Need-returns-2
 returns-2 c = let l0 = (let f : Fits w64 (c .before .before .self .given .0 .0) = search needs in length-64 (c .before .before .self .given .0 .0) (f .fits)) in let e = c .varint-len .ensures in (e ∙ sym (ap (λ (o : Output). length (outputBytes o)) (c .before .before .self .given .1)), omega arith)
@@ -84,24 +45,7 @@ pub len-spec : {M : Type 1} → statement M
 len-spec =
     tie.close
     (tie.spec
-    enum-told
-    enum-known-self
-    varint-len-requires
-    enum-known-self-2
-    varint-len-requires-2
-    varint-len-requires-3
-    add-result
-    enum-known-self-3
-    varint-len-requires-4
-    varint-len-requires-5
-    add-result-2
-    varint-len-requires-6
-    add-result-3
-    enum-told-2
-    enum-told-3
-    returns
-    returns-2
-    returns-3
-    returns-4
-    returns-5
-    returns-6)
+    (λ c. search needs) (λ c. search needs) (λ c κs. search needs) (λ c. search needs) (λ c κs. search needs)
+    (λ c κs. search needs) add-result (λ c. search needs) (λ c κs. search needs) (λ c κs. search needs) add-result-2
+    (λ c κs. search needs) add-result-3 (λ c. search needs) (λ c. search needs) (λ c. search needs) returns-2
+    returns-3 returns-4 returns-5 returns-6)

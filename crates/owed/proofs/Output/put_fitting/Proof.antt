@@ -17,44 +17,17 @@ use Rattle.owed.proofs.Output.put_fitting.Lts as lts
 use Rattle.emit.proofs.put_fitting.Reads as put-fitting-reads
 use Rattle.owed.proofs.Output.put_bounded.Reads as put-bounded-reads
 
-enum-told : tie.Need-enum-told
-enum-told c = search needs
-
-enum-known-self : tie.Need-enum-known-self
-enum-known-self c = search needs
-
-put-fitting-requires : tie.Need-put-fitting-requires
-put-fitting-requires c κs = search needs
-
-enum-known-self-2 : tie.Need-enum-known-self-2
-enum-known-self-2 c = search needs
-
-put-fitting-requires-2 : tie.Need-put-fitting-requires-2
-put-fitting-requires-2 c κs = search needs
-
 put-fitting-requires-3 : tie.Need-put-fitting-requires-3
 put-fitting-requires-3 c κs = mid-room (c .before .before .before .before .before .before .before .before .before .args .buf .now) (c .before .before .before .before .before .before .before .before .before .args .pos) (shortest (c .before .before .before .before .before .before .self2 .given .0 .0)) _ _ (c .before .before .before .before .before .before .before .before .before .pre) (let f : Fits w64 (c .before .before .before .before .before .before .self2 .given .0 .0) = search needs in length-64 (c .before .before .before .before .before .before .self2 .given .0 .0) (f .fits)) (c .before .before .before .put-fitting2 .ensures)
-
-put-bounded-requires : tie.Need-put-bounded-requires
-put-bounded-requires c κs = search needs
 
 returns : tie.Need-returns
 returns c = fitting-none (c .before .before .before .args .buf .now) (c .before .before .before .args .pos) (outputBytes (c .before .before .before .args .self)) (ap outputBytes (c .enum-told .given .1))
 
-same-length : tie.Need-same-length
-same-length c = search needs
-
 returns-2 : tie.Need-returns-2
 returns-2 c = let l = (let f : Fits w64 (c .before .before .before .before .before .self .given .0 .0) = search needs in length-64 (c .before .before .before .before .before .self .given .0 .0) (f .fits)) in fitting-one (c .before .before .before .before .before .before .before .before .args .buf .now) (c .before .before .before .before .before .before .before .before .args .pos) (shortest (c .before .before .before .before .before .self .given .0 .0)) (outputBytes (c .before .before .before .before .before .before .before .before .args .self)) _ _ (ap outputBytes (c .before .before .before .before .before .self .given .1)) (c .before .before .put-fitting .ensures) (omega arith)
 
-same-length-2 : tie.Need-same-length-2
-same-length-2 c = search needs
-
 returns-3 : tie.Need-returns-3
 returns-3 c = let h : c .before .before .before .before .before .before .before .before .before .before .before .before .args .pos ≤ length (c .before .before .before .before .before .before .before .before .before .before .before .before .args .buf .now) = (let g = c .before .before .before .before .before .before .before .before .before .before .before .before .pre in omega arith) in fitting-two (c .before .before .before .before .before .before .before .before .before .before .before .before .args .buf .now) (c .before .before .before .before .before .before .before .before .before .before .before .before .args .pos) (shortest (c .before .before .before .before .before .before .before .before .before .self2 .given .0 .0)) (shortest (c .before .before .before .before .before .before .before .before .before .self2 .given .0 .1 .0)) (outputBytes (c .before .before .before .before .before .before .before .before .before .before .before .before .args .self)) _ _ _ _ h (ap outputBytes (c .before .before .before .before .before .before .before .before .before .self2 .given .1)) (c .before .before .before .before .before .before .put-fitting2 .ensures) (c .before .before .put-fitting3 .ensures) (let f : Fits w64 (c .before .before .before .before .before .before .before .before .before .self2 .given .0 .0) = search needs in length-64 (c .before .before .before .before .before .before .before .before .before .self2 .given .0 .0) (f .fits)) (let f : Fits w64 (c .before .before .before .before .before .before .before .before .before .self2 .given .0 .1 .0) = search needs in length-64 (c .before .before .before .before .before .before .before .before .before .self2 .given .0 .1 .0) (f .fits))
-
-same-length-3 : tie.Need-same-length-3
-same-length-3 c = search needs
 
 returns-4 : tie.Need-returns-4
 returns-4 c = c .before .before .put-bounded .ensures
@@ -63,17 +36,6 @@ pub put-fitting-spec : {M : Type 1} → statement M
 put-fitting-spec =
     tie.close
     (tie.spec
-    enum-told
-    enum-known-self
-    put-fitting-requires
-    enum-known-self-2
-    put-fitting-requires-2
-    put-fitting-requires-3
-    put-bounded-requires
-    returns
-    same-length
-    returns-2
-    same-length-2
-    returns-3
-    same-length-3
-    returns-4)
+    (λ c. search needs) (λ c. search needs) (λ c κs. search needs) (λ c. search needs) (λ c κs. search needs)
+    put-fitting-requires-3 (λ c κs. search needs) returns (λ c. search needs) returns-2 (λ c. search needs) returns-3
+    (λ c. search needs) returns-4)

@@ -13,20 +13,11 @@ use Rattle.owed.proofs.Owed.has_place.Lts as lts
 use Rattle.owed.proofs.Output.len.Reads as len-reads
 use Rattle.owed.proofs.Owed.output.Reads as output-reads
 
-enum-told : tie.Need-enum-told
-enum-told c = search needs
-
-returns : tie.Need-returns
-returns c = search needs
-
-output-requires : tie.Need-output-requires
-output-requires c κs = search needs
-
-len-requires : tie.Need-len-requires
-len-requires c κs = search needs
-
 returns-2 : tie.Need-returns-2
 returns-2 c = ap (ltb (c .before .before .before .args .place)) (c .len .ensures .0 ∙ ap (λ (o : Output). length (outputBytes o)) (c .before .output .ensures)) ∙ place-else (c .before .before .before .args .self) (c .before .before .before .args .place) (c .before .before .match .keys2)
 
 pub has-place-spec : {M : Type 1} → statement M
-has-place-spec = tie.close (tie.spec enum-told returns output-requires len-requires returns-2)
+has-place-spec =
+    tie.close
+    (tie.spec
+    (λ c. search needs) (λ c. search needs) (λ c κs. search needs) (λ c κs. search needs) returns-2)

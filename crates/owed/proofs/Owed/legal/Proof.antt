@@ -7,30 +7,6 @@ use Rattle.owed.proofs.Owed.legal.Reads as reads
 use Rattle.owed.proofs.Owed.legal.Lts as lts
 use Rattle.owed.proofs.within.Reads as within-reads
 
-enum-known-self : tie.Need-enum-known-self
-enum-known-self c = search needs
-
-enum-known-self-2 : tie.Need-enum-known-self-2
-enum-known-self-2 c = search needs
-
-enum-known-self-3 : tie.Need-enum-known-self-3
-enum-known-self-3 c = search needs
-
-enum-known-self-4 : tie.Need-enum-known-self-4
-enum-known-self-4 c = search needs
-
-within-requires : tie.Need-within-requires
-within-requires c κs = search needs
-
-enum-known-self-5 : tie.Need-enum-known-self-5
-enum-known-self-5 c = search needs
-
-within-requires-2 : tie.Need-within-requires-2
-within-requires-2 c κs = search needs
-
-enum-known-self-6 : tie.Need-enum-known-self-6
-enum-known-self-6 c = search needs
-
 returns : tie.Need-returns
 returns c = simp (c .before .self .given .1)
 
@@ -56,18 +32,6 @@ pub legal-spec : {M : Type 1} → statement M
 legal-spec =
     tie.close
     (tie.spec
-    enum-known-self
-    enum-known-self-2
-    enum-known-self-3
-    enum-known-self-4
-    within-requires
-    enum-known-self-5
-    within-requires-2
-    enum-known-self-6
-    returns
-    returns-2
-    returns-3
-    returns-4
-    returns-5
-    returns-6
-    returns-7)
+    (λ c. search needs) (λ c. search needs) (λ c. search needs) (λ c. search needs) (λ c κs. search needs)
+    (λ c. search needs) (λ c κs. search needs) (λ c. search needs) returns returns-2 returns-3 returns-4 returns-5
+    returns-6 returns-7)

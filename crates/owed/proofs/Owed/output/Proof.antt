@@ -20,96 +20,6 @@ use Rattle.types.proofs.FloatType.fixlen.Reads as FloatType-fixlen-reads
 use Rattle.types.proofs.RawType.fixlen.Reads as RawType-fixlen-reads
 use Rattle.varint.proofs.zigzag_encode.Reads as zigzag-encode-reads
 
-enum-told : tie.Need-enum-told
-enum-told c = search needs
-
-enum-known-self : tie.Need-enum-known-self
-enum-known-self c = search needs
-
-tagged-requires : tie.Need-tagged-requires
-tagged-requires c κs = search needs
-
-enum-known-self-2 : tie.Need-enum-known-self-2
-enum-known-self-2 c = search needs
-
-tagged-requires-2 : tie.Need-tagged-requires-2
-tagged-requires-2 c κs = search needs
-
-zigzag-encode-requires : tie.Need-zigzag-encode-requires
-zigzag-encode-requires c κs = search needs
-
-enum-known-self-3 : tie.Need-enum-known-self-3
-enum-known-self-3 c = search needs
-
-enum-known-self-4 : tie.Need-enum-known-self-4
-enum-known-self-4 c = search needs
-
-zigzag-encode-requires-2 : tie.Need-zigzag-encode-requires-2
-zigzag-encode-requires-2 c κs = search needs
-
-enum-known-self-5 : tie.Need-enum-known-self-5
-enum-known-self-5 c = search needs
-
-enum-known-self-6 : tie.Need-enum-known-self-6
-enum-known-self-6 c = search needs
-
-enum-known-self-7 : tie.Need-enum-known-self-7
-enum-known-self-7 c = search needs
-
-bytes-requires : tie.Need-bytes-requires
-bytes-requires c κs = search needs
-
-cast-tagged : tie.Need-cast-tagged
-cast-tagged c = search needs
-
-fixlen-requires : tie.Need-fixlen-requires
-fixlen-requires c κs = search needs
-
-raw-requires : tie.Need-raw-requires
-raw-requires c κs = search needs
-
-tagged-requires-3 : tie.Need-tagged-requires-3
-tagged-requires-3 c κs = search needs
-
-tagged-requires-4 : tie.Need-tagged-requires-4
-tagged-requires-4 c κs = search needs
-
-enum-known-self-8 : tie.Need-enum-known-self-8
-enum-known-self-8 c = search needs
-
-tagged-requires-5 : tie.Need-tagged-requires-5
-tagged-requires-5 c κs = search needs
-
-fixlen-requires-2 : tie.Need-fixlen-requires-2
-fixlen-requires-2 c κs = search needs
-
-raw-requires-2 : tie.Need-raw-requires-2
-raw-requires-2 c κs = search needs
-
-tagged-requires-6 : tie.Need-tagged-requires-6
-tagged-requires-6 c κs = search needs
-
-enum-known-self-9 : tie.Need-enum-known-self-9
-enum-known-self-9 c = search needs
-
-array-output-requires : tie.Need-array-output-requires
-array-output-requires c κs = search needs
-
-enum-known-self-10 : tie.Need-enum-known-self-10
-enum-known-self-10 c = search needs
-
-tagged-requires-7 : tie.Need-tagged-requires-7
-tagged-requires-7 c κs = search needs
-
-enum-told-2 : tie.Need-enum-told-2
-enum-told-2 c = search needs
-
-tagged-requires-8 : tie.Need-tagged-requires-8
-tagged-requires-8 c κs = search needs
-
-returns : tie.Need-returns
-returns c = search needs
-
 returns-2 : tie.Need-returns-2
 returns-2 c = simp (c .before .before .self .given .1, c .tagged .ensures)
 
@@ -147,44 +57,10 @@ pub output-spec : {M : Type 1} → statement M
 output-spec =
     tie.close
     (tie.spec
-    enum-told
-    enum-known-self
-    tagged-requires
-    enum-known-self-2
-    tagged-requires-2
-    zigzag-encode-requires
-    enum-known-self-3
-    enum-known-self-4
-    zigzag-encode-requires-2
-    enum-known-self-5
-    enum-known-self-6
-    enum-known-self-7
-    bytes-requires
-    cast-tagged
-    fixlen-requires
-    raw-requires
-    tagged-requires-3
-    tagged-requires-4
-    enum-known-self-8
-    tagged-requires-5
-    fixlen-requires-2
-    raw-requires-2
-    tagged-requires-6
-    enum-known-self-9
-    array-output-requires
-    enum-known-self-10
-    tagged-requires-7
-    enum-told-2
-    tagged-requires-8
-    returns
-    returns-2
-    returns-3
-    returns-4
-    returns-5
-    returns-6
-    returns-7
-    returns-8
-    returns-9
-    returns-10
-    returns-11
-    returns-12)
+    (λ c. search needs) (λ c. search needs) (λ c κs. search needs) (λ c. search needs) (λ c κs. search needs)
+    (λ c κs. search needs) (λ c. search needs) (λ c. search needs) (λ c κs. search needs) (λ c. search needs)
+    (λ c. search needs) (λ c. search needs) (λ c κs. search needs) (λ c. search needs) (λ c κs. search needs)
+    (λ c κs. search needs) (λ c κs. search needs) (λ c κs. search needs) (λ c. search needs) (λ c κs. search needs)
+    (λ c κs. search needs) (λ c κs. search needs) (λ c κs. search needs) (λ c. search needs) (λ c κs. search needs)
+    (λ c. search needs) (λ c κs. search needs) (λ c. search needs) (λ c κs. search needs) (λ c. search needs)
+    returns-2 returns-3 returns-4 returns-5 returns-6 returns-7 returns-8 returns-9 returns-10 returns-11 returns-12)

@@ -11,9 +11,6 @@ returns c = over-already _ _ _ _ _ (c .if1 .taken)
 returns-2 : tie.Need-returns-2
 returns-2 c = too-long _ _ _ _ _ (c .before .if1 .left) (c .if2 .taken)
 
-at-once-requires : tie.Need-at-once-requires
-at-once-requires c κs = search needs
-
 returns-3 : tie.Need-returns-3
 returns-3 c =
     let t = c .before in
@@ -24,12 +21,6 @@ returns-4 c =
     let e = c .before .before in
     let t = e .before in
     elsewhere _ _ _ _ _ (t .before .before .if1 .left) (t .before .if2 .left) (sym (t .at-once .ensures) ∙ e .if3 .left) (c .if4 .taken)
-
-append-requires : tie.Need-append-requires
-append-requires c κs = search needs
-
-same-length : tie.Need-same-length
-same-length c = search needs
 
 returns-5 : tie.Need-returns-5
 returns-5 c =
@@ -42,11 +33,4 @@ pub accept-spec : {M : Type 1} → statement M
 accept-spec =
     tie.close
     (tie.spec
-    returns
-    returns-2
-    at-once-requires
-    returns-3
-    returns-4
-    append-requires
-    same-length
-    returns-5)
+    returns returns-2 (λ c κs. search needs) returns-3 returns-4 (λ c κs. search needs) (λ c. search needs) returns-5)

@@ -4,26 +4,11 @@ use Rattle.payload.proofs.Cases.{partial, filled}
 use Rattle.payload.proofs.PayloadAcc.append.Statement.{statement}
 use Rattle.payload.proofs.PayloadAcc.append.Tie as tie
 
-owing-requires : tie.Need-owing-requires
-owing-requires c κs = search needs
-
-copy-in-requires : tie.Need-copy-in-requires
-copy-in-requires c κs = search needs
-
-add-len : tie.Need-add-len
-add-len c = search needs
-
-same-length : tie.Need-same-length
-same-length c = search needs
-
 returns : tie.Need-returns
 returns c =
     let copy = c .before .before .before in
     let start = copy .before .before .before .before .before in
     partial _ _ _ _ _ _ (copy .before .before .owing .ensures) (copy .copy-in .ensures) (start .pre .2) (c .if1 .taken)
-
-same-length-2 : tie.Need-same-length-2
-same-length-2 c = search needs
 
 returns-2 : tie.Need-returns-2
 returns-2 c =
@@ -33,4 +18,6 @@ returns-2 c =
 pub append-spec : {M : Type 1} → statement M
 append-spec =
     tie.close
-    (tie.spec owing-requires copy-in-requires add-len same-length returns same-length-2 returns-2)
+    (tie.spec
+    (λ c κs. search needs) (λ c κs. search needs) (λ c. search needs) (λ c. search needs) returns (λ c. search needs)
+    returns-2)

@@ -4,9 +4,6 @@ use borrow.Author.Needs.{needs}
 use Rattle.payload.proofs.PayloadAcc.begin.Statement.{statement}
 use Rattle.payload.proofs.PayloadAcc.begin.Tie as tie
 
-new-requires : tie.Need-new-requires
-new-requires c κs = search needs
-
 returns : tie.Need-returns
 returns c = simp (eq-eqb _ _ (c .before .if1 .taken)) (c .new .ensures)
 
@@ -14,4 +11,5 @@ returns-2 : tie.Need-returns-2
 returns-2 c = simp (ne-eqb _ _ (c .if1 .left))
 
 pub begin-spec : {M : Type 1} → statement M
-begin-spec = tie.close (tie.spec new-requires returns returns-2)
+begin-spec =
+    tie.close (tie.spec (λ c κs. search needs) returns returns-2)

@@ -10,16 +10,10 @@ use Rattle.payload.proofs.PayloadAcc.feed.Tie as tie
 returns : tie.Need-returns
 returns c = unsound _ _ _ _ _ (c .if1 .taken)
 
-begin-requires : tie.Need-begin-requires
-begin-requires c κs = search needs
-
 accept-requires : tie.Need-accept-requires
 accept-requires c κs =
     let a = c .before .before .before .before .before .before .args in
     begun-within (a .self) _ (a .offset) _ (c .before .begin .ensures) (c .before .before .if1 .left)
-
-same-length : tie.Need-same-length
-same-length c = search needs
 
 returns-2 : tie.Need-returns-2
 returns-2 c =
@@ -31,4 +25,5 @@ returns-2 c =
     ∙ sym (in-order (a .self) (a .buf .now) (a .total) (a .offset) (a .chunk .now) (s .before .if1 .left))
 
 pub feed-spec : {M : Type 1} → statement M
-feed-spec = tie.close (tie.spec returns begin-requires accept-requires same-length returns-2)
+feed-spec =
+    tie.close (tie.spec returns (λ c κs. search needs) accept-requires (λ c. search needs) returns-2)

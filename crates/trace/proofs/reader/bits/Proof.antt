@@ -20,11 +20,6 @@ cast-result-2 c =
     let s = natural (c .before .args .v) (c .before .fits .v) (c .if1 .left) in
     casts _ (s .0) (toZ-ofZ w64 (c .before .args .v) (c .before .fits .v) ∙ s .1) (s .2)
 
-returns : tie.Need-returns
-returns c = search needs
-
-returns-2 : tie.Need-returns-2
-returns-2 c = search needs
-
 pub bits-spec : {M : Type 1} → statement M
-bits-spec = tie.close (tie.spec cast-result cast-result-2 returns returns-2)
+bits-spec =
+    tie.close (tie.spec cast-result cast-result-2 (λ c. search needs) (λ c. search needs))

@@ -10,12 +10,6 @@ use borrow.Author.Needs.{needs}
 use Rattle.varint.proofs.Acc.push.Statement.{statement}
 use Rattle.varint.proofs.Acc.push.Tie as tie
 
-payload-at-requires : tie.Need-payload-at-requires
-payload-at-requires c κs = search needs
-
-add-t11 : tie.Need-add-t11
-add-t11 c = search needs
-
 returns : tie.Need-returns
 returns c =
     let s = c .before .before .before in
@@ -39,4 +33,5 @@ returns-4 c =
     ∙ pushed-last (s .args .self) (s .args .b) (c .before .if1 .left) (omega (arith, c .if3 .left))
 
 pub push-spec : {M : Type 1} → statement M
-push-spec = tie.close (tie.spec payload-at-requires add-t11 returns returns-2 returns-3 returns-4)
+push-spec =
+    tie.close (tie.spec (λ c κs. search needs) (λ c. search needs) returns returns-2 returns-3 returns-4)

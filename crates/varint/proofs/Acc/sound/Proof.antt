@@ -8,17 +8,9 @@ use Rattle.varint.proofs.Acc.sound.Tie as tie
 returns : tie.Need-returns
 returns c = many (c .before .args .self) (omega (arith, c .if1 .taken))
 
-mul-result : tie.Need-mul-result
-mul-result c = search needs
-
-cast-result : tie.Need-cast-result
-cast-result c = search needs
-
-shr-result : tie.Need-shr-result
-shr-result c = search needs
-
 returns-2 : tie.Need-returns-2
 returns-2 c = few (c .before .args .self) (omega (arith, c .if1 .left))
 
 pub sound-spec : {M : Type 1} → statement M
-sound-spec = tie.close (tie.spec returns mul-result cast-result shr-result returns-2)
+sound-spec =
+    tie.close (tie.spec returns (λ c. search needs) (λ c. search needs) (λ c. search needs) returns-2)

@@ -8,10 +8,10 @@ use Rattle.bench_writer.proofs.writing.arrays.Statement.{statement}
 use Rattle.bench_writer.proofs.writing.arrays.Tie as tie
 use Rattle.bench_writer.proofs.writing.arrays.Reads as reads
 use Rattle.bench_writer.proofs.writing.arrays.Lts as lts
-use Rattle.bench_writer.proofs.writing.anew.Reads as anew-reads
-use Rattle.bench_writer.proofs.writing.array.Reads as array-reads
-use Rattle.bench_writer.proofs.writing.rest.Reads as rest-reads
-use Rattle.bench_writer.proofs.writing.which.Reads as which-reads
+use Rattle.bench_calls.proofs.anew.Reads as anew-reads
+use Rattle.bench_calls.proofs.array.Reads as array-reads
+use Rattle.bench_calls.proofs.rest.Reads as rest-reads
+use Rattle.bench_calls.proofs.which.Reads as which-reads
 use Rattle.ostream.proofs.OStream.new.Reads as new-reads
 
 abbrev Inv-loop : tie.InvT-loop

@@ -7,9 +7,9 @@ use Rattle.bench_writer.proofs.writing.blobs.Statement.{statement}
 use Rattle.bench_writer.proofs.writing.blobs.Tie as tie
 use Rattle.bench_writer.proofs.writing.blobs.Reads as reads
 use Rattle.bench_writer.proofs.writing.blobs.Lts as lts
-use Rattle.bench_writer.proofs.writing.rest.Reads as rest-reads
-use Rattle.bench_writer.proofs.writing.start.Reads as start-reads
-use Rattle.bench_writer.proofs.writing.which.Reads as which-reads
+use Rattle.bench_calls.proofs.rest.Reads as rest-reads
+use Rattle.bench_calls.proofs.start.Reads as start-reads
+use Rattle.bench_calls.proofs.which.Reads as which-reads
 
 abbrev Inv-loop : tie.InvT-loop
 Inv-loop n «data» buf₀ out₀ r₀ i₀ buf out r i = (length buf ≡ length buf₀) × (length out ≡ length out₀) × (i ≤ n)

@@ -1,13 +1,13 @@
--- `bench_writer::writing::rest` is safe and ends.
+-- `bench_calls::rest` is safe and ends.
 use mathlib.Core.Path.{_≡_}
 use lib.ListN.{length}
 use borrow.Author.Needs.{needs}
-use Rattle.bench_writer.proofs.writing.rest.Statement.{statement}
-use Rattle.bench_writer.proofs.writing.rest.Tie as tie
-use Rattle.bench_writer.proofs.writing.rest.Reads as reads
-use Rattle.bench_writer.proofs.writing.rest.Lts as lts
-use Rattle.bench_writer.proofs.writing.turn.Reads as turn-reads
-use Rattle.bench_writer.proofs.writing.which.Reads as which-reads
+use Rattle.bench_calls.proofs.rest.Statement.{statement}
+use Rattle.bench_calls.proofs.rest.Tie as tie
+use Rattle.bench_calls.proofs.rest.Reads as reads
+use Rattle.bench_calls.proofs.rest.Lts as lts
+use Rattle.bench_calls.proofs.turn.Reads as turn-reads
+use Rattle.bench_calls.proofs.which.Reads as which-reads
 
 abbrev Inv-loop : tie.InvT-loop
 Inv-loop sent full c «data» buf₀ out₀ t₀ turns₀ buf out t turns = (length buf ≡ length buf₀) × (length out ≡ length out₀)

@@ -26,7 +26,7 @@ extern "C" {
 }
 
 const PAGE: usize = 4096;
-const ROOM: usize = 16 * PAGE;
+const ROOM: usize = 1 << 20;
 
 /// Bytes between two pages that cannot be read or written.
 struct Guarded(*mut u8);

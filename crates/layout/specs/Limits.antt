@@ -1,5 +1,5 @@
 -- The numbers that a build of the layout fixes, and 01's build.
-use Prim.Native.Nat.{ℕ, _-_, _*_, _/_, _^_}
+use Prim.Native.Nat.{ℕ, _+_, _-_, _*_, _/_, _^_}
 use mathlib.Core.Bool.{Bool, true, false}
 
 pub record Limits : Type 0 where
@@ -21,6 +21,10 @@ base = record { bits = 64; id = 2147483647; size = 2147483647; count = 214748364
 -- the place, counted from 0, of the last varint byte that a value of this width can need: 9, for the tenth
 abbrev pub lastPlace : Limits → ℕ
 lastPlace L = (L .bits - 1) / 7
+
+-- the most bytes that a varint of this width has: ten
+abbrev pub longest : Limits → ℕ
+longest L = lastPlace L + 1
 
 -- what that byte stays below, so that the value fits the width: 2
 abbrev pub lastBound : Limits → ℕ

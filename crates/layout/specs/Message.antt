@@ -61,7 +61,7 @@ payloadOf id r zero bs = raise (Piece id r 0 0 [] ∷ []) (quiet (whole [] bs))
 payloadOf id r (suc n) bs = payloadFrom id r (suc n) 0 (suc n) bs
 
 -- "2 fixed-length: a word varint (length × 8 + subtype), then the bytes": what follows the word. Broken: "subtype 4 to 7", "a float word
--- of another length", "length above 2,147,483,647".
+-- of another length", "length or count above 2,147,483,647".
 unfoldable pub fixlen : Limits → ℕ → ℕ → Subtyped → List ℕ → Reading Field
 fixlen L id n (known (float w)) bs =
     pick (eqb n (bytesOf w))

@@ -103,7 +103,7 @@ table =
     ∷ good [] [] []
     -- the example of "the program that lists events": 36 08 AC 02 07
     ∷ good (0x36 ∷ 0x08 ∷ 0xAC ∷ 0x02 ∷ 0x07 ∷ []) (begin 6 ∷ unsigned 1 300 ∷ end 0 ∷ []) (Begin 6 ∷ Unsigned 1 300 ∷ End ∷ [])
-    -- broken: "length above 2,147,483,647"; "a string or blob word in an array", with count 0 and length 4 too; subtype 4 there; "an open at depth 255"
+    -- broken: "length or count above 2,147,483,647"; "a string or blob word in an array", with count 0 and length 4 too; subtype 4 there; "an open at depth 255"
     ∷ part (0x1A ∷ 0xFA ∷ 0xFF ∷ 0xFF ∷ 0xFF ∷ 0x3F ∷ []) (Fixlen 3 (raw string) 2147483647 ∷ [])
     ∷ bad (0x1A ∷ 0x82 ∷ 0x80 ∷ 0x80 ∷ 0x80 ∷ 0x40 ∷ []) [] 6
     ∷ bad (0x2D ∷ 0x00 ∷ 0x22 ∷ []) [] 3

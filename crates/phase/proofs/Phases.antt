@@ -10,6 +10,7 @@ use lib.Dec.{leb, ltb, eqb, lit≤}
 use borrow.Author.Tests.{leb-true, ltb-true, ltb-false, le-leb, eq-eqb, ne-eqb}
 use types.Run.{OneOf, miss}
 use denote.Enum.Declared.{tagOf}
+use Rattle.layout.specs.Limits.{Limits}
 use Rattle.layout.specs.Field.{Width, Raw, bytesOf, fp32, fp64, string, blob}
 use Rattle.machine.specs.Machine as machine
 use Rattle.machine.specs.Machine.{inHeader, inUnsigned, inSigned, inWord, inUnsignedCount, inSignedCount, inFloatCount, inArrayWord, inFloat, inPayload, idle, nextOr, firstOr}
@@ -92,10 +93,10 @@ phase-back d (Payload id r total o) l = ap (λ (x : RawType). Payload id x total
 phase-back d (Empty id r) l = ap (λ (x : RawType). Empty id x) (raw-back r)
 phase-back d Broken l = absurd l
 
-pub at-bytes-live : (st : State) → AtBytes st → Live st
-at-bytes-live (reading d p) a = tt
-at-bytes-live (owing d id r) a = tt
-at-bytes-live broke a = a
+pub at-bytes-live : (L : Limits) (st : State) → AtBytes L st → Live st
+at-bytes-live L (reading d p) a = tt
+at-bytes-live L (owing d id r) a = tt
+at-bytes-live L broke a = a
 
 pub depth-back : (d : ℕ) (p : Phase) → Live (stateAt d p) → depthOf (stateAt d p) ≡ d
 depth-back d (Header a) l = refl
@@ -120,32 +121,32 @@ both false y e = let z : _≡_ {A = ℕ} 0 1 = cc in absurd (omega arith)
 pub join : {x y : Bool} → x ≡ true → y ≡ true → (x && y) ≡ true
 join e f = simp (e, f)
 
-pub phase-is : (d : ℕ) (p : Phase) → d ≤ 255 → soundPhase p ≡ true → SoundState (stateAt d p)
-phase-is d (Header a) l e = (l, varint.is-sound a e)
-phase-is d (Unsigned id left a) l e = let (i, f) = both _ _ e in let (c, s) = both _ _ f in (l, (leb-true _ _ i, (leb-true _ _ c, varint.is-sound a s)))
-phase-is d (Signed id left a) l e = let (i, f) = both _ _ e in let (c, s) = both _ _ f in (l, (leb-true _ _ i, (leb-true _ _ c, varint.is-sound a s)))
-phase-is d (Word id a) l e = let (i, s) = both _ _ e in (l, (leb-true _ _ i, varint.is-sound a s))
-phase-is d (UnsignedCount id a) l e = let (i, s) = both _ _ e in (l, (leb-true _ _ i, varint.is-sound a s))
-phase-is d (SignedCount id a) l e = let (i, s) = both _ _ e in (l, (leb-true _ _ i, varint.is-sound a s))
-phase-is d (FloatCount id a) l e = let (i, s) = both _ _ e in (l, (leb-true _ _ i, varint.is-sound a s))
-phase-is d (ArrayWord id count a) l e = let (i, f) = both _ _ e in let (c, s) = both _ _ f in (l, (leb-true _ _ i, (leb-true _ _ c, varint.is-sound a s)))
-phase-is d (Float id w left k v) l e =
+pub phase-is : (L : Limits) (d : ℕ) (p : Phase) → d ≤ L .depth → soundPhase L p ≡ true → SoundState L (stateAt d p)
+phase-is L d (Header a) l e = (l, varint.is-sound L a e)
+phase-is L d (Unsigned id left a) l e = let (i, f) = both _ _ e in let (c, s) = both _ _ f in (l, (leb-true _ _ i, (leb-true _ _ c, varint.is-sound L a s)))
+phase-is L d (Signed id left a) l e = let (i, f) = both _ _ e in let (c, s) = both _ _ f in (l, (leb-true _ _ i, (leb-true _ _ c, varint.is-sound L a s)))
+phase-is L d (Word id a) l e = let (i, s) = both _ _ e in (l, (leb-true _ _ i, varint.is-sound L a s))
+phase-is L d (UnsignedCount id a) l e = let (i, s) = both _ _ e in (l, (leb-true _ _ i, varint.is-sound L a s))
+phase-is L d (SignedCount id a) l e = let (i, s) = both _ _ e in (l, (leb-true _ _ i, varint.is-sound L a s))
+phase-is L d (FloatCount id a) l e = let (i, s) = both _ _ e in (l, (leb-true _ _ i, varint.is-sound L a s))
+phase-is L d (ArrayWord id count a) l e = let (i, f) = both _ _ e in let (c, s) = both _ _ f in (l, (leb-true _ _ i, (leb-true _ _ c, varint.is-sound L a s)))
+phase-is L d (Float id w left k v) l e =
     let (i, f) = both _ _ e in
     let (c, g) = both _ _ f in
     let (m, s) = both _ _ g in
     (l, (leb-true _ _ i, (leb-true _ _ c, (ltb-true _ _ m, ltb-true _ _ s))))
-phase-is d (Payload id r total o) l e = let (i, f) = both _ _ e in let (c, s) = both _ _ f in (l, (leb-true _ _ i, (leb-true _ _ c, ltb-true _ _ s)))
-phase-is d (Empty id r) l e = (l, leb-true _ _ e)
-phase-is d Broken l e = tt
+phase-is L d (Payload id r total o) l e = let (i, f) = both _ _ e in let (c, s) = both _ _ f in (l, (leb-true _ _ i, (leb-true _ _ c, ltb-true _ _ s)))
+phase-is L d (Empty id r) l e = (l, leb-true _ _ e)
+phase-is L d Broken l e = tt
 
-pub varint-is : (k v : ℕ) → Sound (record { value = v; taken = k }) → soundAcc (record { value = v; taken = k }) ≡ true
-varint-is k v s = varint.sound-is (record { value = v; taken = k }) s
+pub varint-is : (L : Limits) (k v : ℕ) → Sound L (record { value = v; taken = k }) → soundAcc L (record { value = v; taken = k }) ≡ true
+varint-is L k v s = varint.sound-is L (record { value = v; taken = k }) s
 
 -- the phases that are read byte by byte
-pub at-bytes : (d : ℕ) (p : Phase) → SoundState (stateAt d p) → OneOf (0 ∷ 1 ∷ 2 ∷ 3 ∷ 4 ∷ 5 ∷ 6 ∷ 7 ∷ 8 ∷ []) (tagOf the-type p) → AtBytes (stateAt d p)
-at-bytes d p s o = go d p s o
+pub at-bytes : (L : Limits) (d : ℕ) (p : Phase) → SoundState L (stateAt d p) → OneOf (0 ∷ 1 ∷ 2 ∷ 3 ∷ 4 ∷ 5 ∷ 6 ∷ 7 ∷ 8 ∷ []) (tagOf the-type p) → AtBytes L (stateAt d p)
+at-bytes L d p s o = go d p s o
   where
-    go : (d : ℕ) (p : Phase) → SoundState (stateAt d p) → OneOf (0 ∷ 1 ∷ 2 ∷ 3 ∷ 4 ∷ 5 ∷ 6 ∷ 7 ∷ 8 ∷ []) (tagOf the-type p) → AtBytes (stateAt d p)
+    go : (d : ℕ) (p : Phase) → SoundState L (stateAt d p) → OneOf (0 ∷ 1 ∷ 2 ∷ 3 ∷ 4 ∷ 5 ∷ 6 ∷ 7 ∷ 8 ∷ []) (tagOf the-type p) → AtBytes L (stateAt d p)
     go d (Header a) (l, h) o = (l, (h, refl))
     go d (Unsigned id left a) (l, h) o = (l, (h, refl))
     go d (Signed id left a) (l, h) o = (l, (h, refl))
@@ -160,19 +161,19 @@ at-bytes d p s o = go d p s o
     go d Broken h o = absurd (miss (0 ∷ 1 ∷ 2 ∷ 3 ∷ 4 ∷ 5 ∷ 6 ∷ 7 ∷ 8 ∷ []) 11 tt o)
 
 -- a broken reader passes the test
-pub broken-sound : (d : ℕ) (p : Phase) → d < 256 → stateAt d p ≡ broke → (leb d 255 && soundPhase p) ≡ true
-broken-sound d (Header a) h e = let z : _≡_ {A = ℕ} 0 1 = cc in absurd (omega arith)
-broken-sound d (Unsigned id left a) h e = let z : _≡_ {A = ℕ} 0 1 = cc in absurd (omega arith)
-broken-sound d (Signed id left a) h e = let z : _≡_ {A = ℕ} 0 1 = cc in absurd (omega arith)
-broken-sound d (Word id a) h e = let z : _≡_ {A = ℕ} 0 1 = cc in absurd (omega arith)
-broken-sound d (UnsignedCount id a) h e = let z : _≡_ {A = ℕ} 0 1 = cc in absurd (omega arith)
-broken-sound d (SignedCount id a) h e = let z : _≡_ {A = ℕ} 0 1 = cc in absurd (omega arith)
-broken-sound d (FloatCount id a) h e = let z : _≡_ {A = ℕ} 0 1 = cc in absurd (omega arith)
-broken-sound d (ArrayWord id count a) h e = let z : _≡_ {A = ℕ} 0 1 = cc in absurd (omega arith)
-broken-sound d (Float id w left k v) h e = let z : _≡_ {A = ℕ} 0 1 = cc in absurd (omega arith)
-broken-sound d (Payload id r total o) h e = let z : _≡_ {A = ℕ} 0 1 = cc in absurd (omega arith)
-broken-sound d (Empty id r) h e = let z : _≡_ {A = ℕ} 0 1 = cc in absurd (omega arith)
-broken-sound d Broken h e = join (le-leb d 255 (omega arith)) refl
+pub broken-sound : (L : Limits) (d : ℕ) (p : Phase) → d ≤ L .depth → stateAt d p ≡ broke → (leb d (L .depth) && soundPhase L p) ≡ true
+broken-sound L d (Header a) h e = let z : _≡_ {A = ℕ} 0 1 = cc in absurd (omega arith)
+broken-sound L d (Unsigned id left a) h e = let z : _≡_ {A = ℕ} 0 1 = cc in absurd (omega arith)
+broken-sound L d (Signed id left a) h e = let z : _≡_ {A = ℕ} 0 1 = cc in absurd (omega arith)
+broken-sound L d (Word id a) h e = let z : _≡_ {A = ℕ} 0 1 = cc in absurd (omega arith)
+broken-sound L d (UnsignedCount id a) h e = let z : _≡_ {A = ℕ} 0 1 = cc in absurd (omega arith)
+broken-sound L d (SignedCount id a) h e = let z : _≡_ {A = ℕ} 0 1 = cc in absurd (omega arith)
+broken-sound L d (FloatCount id a) h e = let z : _≡_ {A = ℕ} 0 1 = cc in absurd (omega arith)
+broken-sound L d (ArrayWord id count a) h e = let z : _≡_ {A = ℕ} 0 1 = cc in absurd (omega arith)
+broken-sound L d (Float id w left k v) h e = let z : _≡_ {A = ℕ} 0 1 = cc in absurd (omega arith)
+broken-sound L d (Payload id r total o) h e = let z : _≡_ {A = ℕ} 0 1 = cc in absurd (omega arith)
+broken-sound L d (Empty id r) h e = let z : _≡_ {A = ℕ} 0 1 = cc in absurd (omega arith)
+broken-sound L d Broken h e = join (le-leb d (L .depth) h) refl
 
 -- ---- a float's bytes
 

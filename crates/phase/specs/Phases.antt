@@ -2,7 +2,7 @@
 use Prim.Native.Nat.{ℕ, _^_}
 use mathlib.Core.Bool.{Bool, true, _&&_}
 use lib.Dec.{leb, ltb}
-use Rattle.layout.specs.Limits.{base}
+use Rattle.layout.specs.Limits.{Limits}
 use Rattle.layout.specs.Field.{bytesOf}
 use Rattle.machine.specs.Machine as machine
 use Rattle.machine.specs.Machine.{inHeader, inUnsigned, inSigned, inWord, inUnsignedCount, inSignedCount, inFloatCount, inArrayWord, inFloat, inPayload}
@@ -10,6 +10,7 @@ use Rattle.machine.specs.Call.{State, reading, owing, broke}
 use Rattle.types.specs.Types.{width, floatType, rawSort, rawType}
 use Rattle.varint.specs.declared.Acc.{Acc}
 use Rattle.varint.specs.Varint.{soundAcc}
+use Rattle.phase.specs.declared.Carried.{Carried}
 use Rattle.phase.specs.declared.Phase.{Phase}
 use Rattle.phase.specs.declared.Phase.the-variants.{Header, Unsigned, Signed, Word, UnsignedCount, SignedCount, FloatCount, ArrayWord, Float, Payload, Empty, Broken}
 
@@ -50,30 +51,37 @@ phaseOf (reading d p) = phaseIn p
 phaseOf (owing d id r) = Empty id (rawType r)
 phaseOf broke = Broken
 
+-- what is carried along at a depth
+abbrev pub carriedAt : ℕ → Carried
+carriedAt d = record { depth = d }
+
 abbrev pub depthOf : State → ℕ
 depthOf (reading d p) = d
 depthOf (owing d id r) = d
 depthOf broke = 0
 
+abbrev pub carriedOf : State → Carried
+carriedOf st = carriedAt (depthOf st)
+
 -- "Only numbers in force are tested. Reader: id to `ID_MAX`, depth to 255; within a varint k bytes taken, 0 to 9, value below 2 to the 7k;
 -- within a float fewer bytes than its width, value below 256 to that number; elements left to 2,147,483,647; within a payload, total 1
 -- to 2,147,483,647 and offset below it." "A broken reader has no number in force."
-abbrev pub idIn : ℕ → Bool
-idIn id = leb id (base .id)
+abbrev pub idIn : Limits → ℕ → Bool
+idIn L id = leb id (L .id)
 
-abbrev pub countIn : ℕ → Bool
-countIn n = leb n (base .count)
+abbrev pub countIn : Limits → ℕ → Bool
+countIn L n = leb n (L .count)
 
-abbrev pub soundPhase : Phase → Bool
-soundPhase (Header a) = soundAcc a
-soundPhase (Unsigned id left a) = idIn id && (countIn left && soundAcc a)
-soundPhase (Signed id left a) = idIn id && (countIn left && soundAcc a)
-soundPhase (Word id a) = idIn id && soundAcc a
-soundPhase (UnsignedCount id a) = idIn id && soundAcc a
-soundPhase (SignedCount id a) = idIn id && soundAcc a
-soundPhase (FloatCount id a) = idIn id && soundAcc a
-soundPhase (ArrayWord id count a) = idIn id && (countIn count && soundAcc a)
-soundPhase (Float id w left k v) = idIn id && (countIn left && (ltb k (bytesOf (width w)) && ltb v (256 ^ k)))
-soundPhase (Payload id r total o) = idIn id && (leb total (base .size) && ltb o total)
-soundPhase (Empty id r) = idIn id
-soundPhase Broken = true
+abbrev pub soundPhase : Limits → Phase → Bool
+soundPhase L (Header a) = soundAcc L a
+soundPhase L (Unsigned id left a) = idIn L id && (countIn L left && soundAcc L a)
+soundPhase L (Signed id left a) = idIn L id && (countIn L left && soundAcc L a)
+soundPhase L (Word id a) = idIn L id && soundAcc L a
+soundPhase L (UnsignedCount id a) = idIn L id && soundAcc L a
+soundPhase L (SignedCount id a) = idIn L id && soundAcc L a
+soundPhase L (FloatCount id a) = idIn L id && soundAcc L a
+soundPhase L (ArrayWord id count a) = idIn L id && (countIn L count && soundAcc L a)
+soundPhase L (Float id w left k v) = idIn L id && (countIn L left && (ltb k (bytesOf (width w)) && ltb v (256 ^ k)))
+soundPhase L (Payload id r total o) = idIn L id && (leb total (L .size) && ltb o total)
+soundPhase L (Empty id r) = idIn L id
+soundPhase L Broken = true

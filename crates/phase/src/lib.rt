@@ -3,11 +3,13 @@
 ghost use mathlib.Core.Path.{_≡_};
 ghost use mathlib.Core.Bool.{_&&_};
 ghost use Prim.Native.Nat.{_-_};
+ghost use Rattle.layout.specs.Limits.{base};
 ghost use Rattle.machine.specs.Machine.{inUnsigned, inSigned, inFloat, firstOr, idle};
 ghost use Rattle.types.specs.Types.{width};
 ghost use Rattle.varint.specs.Varint.{soundAcc};
 ghost use Rattle.phase.specs.Phases.{phaseIn, idIn, countIn, soundPhase};
 use types::ARRAY_MAX;
+use types::FIXLEN_MAX;
 use types::FloatType;
 use types::ID_MAX;
 use types::RawType;
@@ -29,6 +31,11 @@ pub enum Phase {
     Payload(u32, RawType, u32, u32),
     Empty(u32, RawType),
     Broken,
+}
+
+// What every step carries along, whatever is under way: how many sequences are open.
+pub struct Carried {
+    pub depth: u8,
 }
 
 // Between fields.
@@ -78,7 +85,7 @@ pub fn less(left: u32) -> u32
 
 // Whether a varint under way can be so: its id, the elements left and its bytes.
 pub fn sound_varint(id: u32, left: u32, a: Acc) -> bool
-    ensures { λ r. ⌜ r ≡ (idIn id && (countIn left && soundAcc a)) ⌝ }
+    ensures { λ r. ⌜ r ≡ (idIn base id && (countIn base left && soundAcc base a)) ⌝ }
 {
     if ID_MAX < id {
         return false;
@@ -90,7 +97,7 @@ pub fn sound_varint(id: u32, left: u32, a: Acc) -> bool
 }
 
 pub fn sound_float(id: u32, w: FloatType, left: u32, k: u8, v: u64) -> bool
-    ensures { λ r. ⌜ r ≡ soundPhase (Phase.Float id w left k v) ⌝ }
+    ensures { λ r. ⌜ r ≡ soundPhase base (Phase.Float id w left k v) ⌝ }
 {
     if ID_MAX < id {
         return false;
@@ -106,12 +113,12 @@ pub fn sound_float(id: u32, w: FloatType, left: u32, k: u8, v: u64) -> bool
 }
 
 pub fn sound_payload(id: u32, r: RawType, total: u32, offset: u32) -> bool
-    ensures { λ s. ⌜ s ≡ soundPhase (Phase.Payload id r total offset) ⌝ }
+    ensures { λ s. ⌜ s ≡ soundPhase base (Phase.Payload id r total offset) ⌝ }
 {
     if ID_MAX < id {
         return false;
     }
-    if ARRAY_MAX < total {
+    if FIXLEN_MAX < total {
         return false;
     }
     offset < total
@@ -119,7 +126,7 @@ pub fn sound_payload(id: u32, r: RawType, total: u32, offset: u32) -> bool
 
 // Whether a reader can be within this. Only numbers in force are tested.
 pub fn sound(phase: Phase) -> bool
-    ensures { λ r. ⌜ r ≡ soundPhase phase ⌝ }
+    ensures { λ r. ⌜ r ≡ soundPhase base phase ⌝ }
 {
     match phase {
         Phase::Header(a) => a.sound(),
@@ -137,7 +144,7 @@ pub fn sound(phase: Phase) -> bool
     }
 }
 
-// The same, made anew from its numbers.
+// A varint under way, made anew from its numbers.
 fn acc_anew(a: Acc) -> Acc
     ensures { λ r. ⌜ r ≡ a ⌝ }
 {
@@ -147,6 +154,7 @@ fn acc_anew(a: Acc) -> Acc
     }
 }
 
+// A phase, made anew from its numbers: docs/PERFORMANCE.md says why.
 pub fn anew(phase: Phase) -> Phase
     ensures { λ r. ⌜ r ≡ phase ⌝ }
 {

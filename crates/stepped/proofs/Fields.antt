@@ -3,7 +3,7 @@ use mathlib.Core.Path.{_≡_, refl, sym, ap, subst}
 use Prim.Native.Nat.{ℕ, zero, suc, _+_, _-_, _/_, _%_, _<_, _≤_}
 use native.Mathlib.Omega.{arith}
 use borrow.Author.Tests.{lt-ltb, le-ltb, le-leb, lt-leb, eq-eqb, ne-eqb}
-use Rattle.layout.specs.Limits.{base}
+use Rattle.layout.specs.Limits.{Limits}
 use Rattle.layout.specs.Field.{bytesOf, subtypeOf, wireOf, known, float, raw, floats, T-begin, T-end}
 use Rattle.layout.specs.Event as layout
 use Rattle.machine.specs.Machine as machine
@@ -15,31 +15,32 @@ use Rattle.types.specs.declared.ArrayKind.{ArrayKind}
 use Rattle.types.specs.Types.{width, rawSort, floatFixlen, rawFixlenType, arrayKind}
 use Rattle.event.specs.declared.Event.{Event}
 use Rattle.event.specs.declared.Event.the-variants.{Fixlen, Array, Begin, End}
+use Rattle.phase.specs.declared.Carried.{Carried}
 use Rattle.phase.specs.declared.Phase.{Phase}
 use Rattle.phase.specs.declared.Phase.the-variants.{Float, Payload, Empty}
-use Rattle.phase.specs.Phases.{phaseIn}
+use Rattle.phase.specs.Phases.{phaseIn, carriedAt}
 use Rattle.phase.proofs.Phases.{float-back, raw-back}
 use Rattle.stepped.specs.declared.Stepped.the-variants.{Raised, Bad}
 use Rattle.stepped.specs.Steps.{stepped}
 
 -- ---- an event with the phase after it
 
-pub raised : (e : Event) {p q : Phase} (d : ℕ) → p ≡ q → Raised e p d ≡ Raised e q d
-raised e d h = ap (λ (p : Phase). Raised e p d) h
+pub raised : (e : Event) {p q : Phase} (c : Carried) → p ≡ q → Raised e p c ≡ Raised e q c
+raised e c h = ap (λ (p : Phase). Raised e p c) h
 
 -- ---- headers
 
-pub begins : (d id : ℕ) → d < 255 → Raised (Begin id) (phaseIn idle) (d + 1) ≡ stepped (atWire base d id T-begin)
-begins d id h = let e : d + 1 ≡ suc d = omega arith in simp (lt-ltb d 255 h) (ap (λ (n : ℕ). Raised (Begin id) (phaseIn idle) n) e)
+pub begins : (L : Limits) (d id : ℕ) → d < L .depth → Raised (Begin id) (phaseIn idle) (carriedAt (d + 1)) ≡ stepped (atWire L d id T-begin)
+begins L d id h = let e : d + 1 ≡ suc d = omega arith in simp (lt-ltb d (L .depth) h) (ap (λ (n : ℕ). Raised (Begin id) (phaseIn idle) (carriedAt n)) e)
 
-pub too-deep : (d id : ℕ) → 255 ≤ d → Bad ≡ stepped (atWire base d id T-begin)
-too-deep d id h = simp (le-ltb d 255 h)
+pub too-deep : (L : Limits) (d id : ℕ) → L .depth ≤ d → Bad ≡ stepped (atWire L d id T-begin)
+too-deep L d id h = simp (le-ltb d (L .depth) h)
 
-pub ends : (d id : ℕ) → (d ≡ 0 → ⊥) → Raised End (phaseIn idle) (d - 1) ≡ stepped (atWire base d id T-end)
-ends d id h = simp (ne-eqb d 0 h)
+pub ends : (L : Limits) (d id : ℕ) → (d ≡ 0 → ⊥) → Raised End (phaseIn idle) (carriedAt (d - 1)) ≡ stepped (atWire L d id T-end)
+ends L d id h = simp (ne-eqb d 0 h)
 
-pub not-open : (d id : ℕ) → d ≡ 0 → Bad ≡ stepped (atWire base d id T-end)
-not-open d id h = simp (eq-eqb d 0 h)
+pub not-open : (L : Limits) (d id : ℕ) → d ≡ 0 → Bad ≡ stepped (atWire L d id T-end)
+not-open L d id h = simp (eq-eqb d 0 h)
 
 pub last-wire : (n : ℕ) → (n ≡ 0 → ⊥) → (n ≡ 1 → ⊥) → (n ≡ 2 → ⊥) → (n ≡ 3 → ⊥) → (n ≡ 4 → ⊥) → (n ≡ 5 → ⊥) → (n ≡ 6 → ⊥) → wireOf n ≡ T-end
 last-wire zero h i j k l m o = absurd (h refl)
@@ -51,13 +52,13 @@ last-wire (suc (suc (suc (suc (suc zero))))) h i j k l m o = absurd (m refl)
 last-wire (suc (suc (suc (suc (suc (suc zero)))))) h i j k l m o = absurd (o refl)
 last-wire (suc (suc (suc (suc (suc (suc (suc n))))))) h i j k l m o = refl
 
-pub header-in : (d h : ℕ) → h / 8 ≤ 2147483647 → stepped (atWire base d (h / 8) (wireOf (h % 8))) ≡ stepped (atHeader base d h)
+pub header-in : (L : Limits) (d h : ℕ) → h / 8 ≤ L .id → stepped (atWire L d (h / 8) (wireOf (h % 8))) ≡ stepped (atHeader L d h)
 unfolding atHeader
-header-in d h l = simp (le-leb _ _ l)
+header-in L d h l = simp (le-leb _ _ l)
 
-pub id-beyond : (d h : ℕ) → 2147483647 < h / 8 → Bad ≡ stepped (atHeader base d h)
+pub id-beyond : (L : Limits) (d h : ℕ) → L .id < h / 8 → Bad ≡ stepped (atHeader L d h)
 unfolding atHeader
-id-beyond d h l = simp (lt-leb _ _ l)
+id-beyond L d h l = simp (lt-leb _ _ l)
 
 -- ---- words
 
@@ -68,28 +69,28 @@ no-element d id count len (suc (suc zero)) h i = refl
 no-element d id count len (suc (suc (suc zero))) h i = refl
 no-element d id count len (suc (suc (suc (suc n)))) h i = refl
 
-pub scalar-in : (d id : ℕ) (w : FloatType) (len : ℕ) (f : FixlenType) → f ≡ floatFixlen w → len ≡ bytesOf (width w)
-    → Raised (Fixlen id f len) (Float id w 0 0 0) d ≡ stepped (atSubtype base d id len (known (float (width w))))
-scalar-in d id w len f e h = simp (eq-eqb _ _ h, e, float-back w)
+pub scalar-in : (L : Limits) (d id : ℕ) (w : FloatType) (len : ℕ) (f : FixlenType) → f ≡ floatFixlen w → len ≡ bytesOf (width w)
+    → Raised (Fixlen id f len) (Float id w 0 0 0) (carriedAt d) ≡ stepped (atSubtype L d id len (known (float (width w))))
+scalar-in L d id w len f e h = simp (eq-eqb _ _ h, e, float-back w)
 
-pub scalar-bad : (d id : ℕ) (w : FloatType) (len : ℕ) → (len ≡ bytesOf (width w) → ⊥) → Bad ≡ stepped (atSubtype base d id len (known (float (width w))))
-scalar-bad d id w len h = simp (ne-eqb _ _ h)
+pub scalar-bad : (L : Limits) (d id : ℕ) (w : FloatType) (len : ℕ) → (len ≡ bytesOf (width w) → ⊥) → Bad ≡ stepped (atSubtype L d id len (known (float (width w))))
+scalar-bad L d id w len h = simp (ne-eqb _ _ h)
 
 pub array-in : (d id count : ℕ) (w : FloatType) (len : ℕ) (k : ArrayKind) (p : Phase) → k ≡ arrayKind (floats (width w)) → len ≡ bytesOf (width w)
-    → p ≡ phaseIn (firstOr count (λ m. inFloat id (width w) m 0 0)) → Raised (Array id k count) p d ≡ stepped (atElement d id count len (known (float (width w))))
+    → p ≡ phaseIn (firstOr count (λ m. inFloat id (width w) m 0 0)) → Raised (Array id k count) p (carriedAt d) ≡ stepped (atElement d id count len (known (float (width w))))
 array-in d id count w len k p e h q = simp (eq-eqb _ _ h, e, q)
 
 pub array-bad : (d id count : ℕ) (w : FloatType) (len : ℕ) → (len ≡ bytesOf (width w) → ⊥) → Bad ≡ stepped (atElement d id count len (known (float (width w))))
 array-bad d id count w len h = simp (ne-eqb _ _ h)
 
-pub payload-bad : (d id : ℕ) (r : RawType) (len : ℕ) → 2147483647 < len → Bad ≡ stepped (atSubtype base d id len (known (raw (rawSort r))))
-payload-bad d id r len h = simp (lt-leb _ _ h)
+pub payload-bad : (L : Limits) (d id : ℕ) (r : RawType) (len : ℕ) → L .size < len → Bad ≡ stepped (atSubtype L d id len (known (raw (rawSort r))))
+payload-bad L d id r len h = simp (lt-leb _ _ h)
 
-pub payload-empty : (d id : ℕ) (r : RawType) (len : ℕ) (f : FixlenType) → f ≡ rawFixlenType r → len ≡ 0
-    → Raised (Fixlen id f 0) (Empty id r) d ≡ stepped (atSubtype base d id len (known (raw (rawSort r))))
-payload-empty d id r len f e h = subst (λ (n : ℕ). Raised (Fixlen id f 0) (Empty id r) d ≡ stepped (atSubtype base d id n (known (raw (rawSort r))))) (sym h) (simp (e, raw-back r))
+pub payload-empty : (L : Limits) (d id : ℕ) (r : RawType) (len : ℕ) (f : FixlenType) → f ≡ rawFixlenType r → len ≡ 0
+    → Raised (Fixlen id f 0) (Empty id r) (carriedAt d) ≡ stepped (atSubtype L d id len (known (raw (rawSort r))))
+payload-empty L d id r len f e h = subst (λ (n : ℕ). Raised (Fixlen id f 0) (Empty id r) (carriedAt d) ≡ stepped (atSubtype L d id n (known (raw (rawSort r))))) (sym h) (simp (e, raw-back r))
 
-pub payload-in : (d id : ℕ) (r : RawType) (len : ℕ) (f : FixlenType) → f ≡ rawFixlenType r → (len ≡ 0 → ⊥) → len ≤ 2147483647
-    → Raised (Fixlen id f len) (Payload id r len 0) d ≡ stepped (atSubtype base d id len (known (raw (rawSort r))))
-payload-in d id r zero f e h l = absurd (h refl)
-payload-in d id r (suc n) f e h l = simp (le-leb _ _ l, e, raw-back r)
+pub payload-in : (L : Limits) (d id : ℕ) (r : RawType) (len : ℕ) (f : FixlenType) → f ≡ rawFixlenType r → (len ≡ 0 → ⊥) → len ≤ L .size
+    → Raised (Fixlen id f len) (Payload id r len 0) (carriedAt d) ≡ stepped (atSubtype L d id len (known (raw (rawSort r))))
+payload-in L d id r zero f e h l = absurd (h refl)
+payload-in L d id r (suc n) f e h l = simp (le-leb _ _ l, e, raw-back r)

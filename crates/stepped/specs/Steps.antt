@@ -2,7 +2,7 @@
 use Prim.Native.Nat.{ℕ}
 use mathlib.Core.List.{[], _∷_}
 use lib.ListN.{length}
-use Rattle.layout.specs.Limits.{base}
+use Rattle.layout.specs.Limits.{Limits}
 use Rattle.layout.specs.Event as layout
 use Rattle.machine.specs.Machine as machine
 use Rattle.machine.specs.Machine.{on, bad}
@@ -12,21 +12,21 @@ use Rattle.types.specs.declared.RawType.the-variants as Raws
 use Rattle.event.specs.declared.Event.{Event}
 use Rattle.event.specs.declared.Event.the-variants.{Str, Blob}
 use Rattle.event.specs.Event.{declared}
-use Rattle.phase.specs.Phases.{phaseIn, phaseOf, depthOf}
+use Rattle.phase.specs.Phases.{phaseIn, phaseOf, carriedAt, carriedOf}
 use Rattle.stepped.specs.declared.Stepped.{Stepped}
 use Rattle.stepped.specs.declared.Stepped.the-variants.{On, Raised, Bad}
 
 -- what the machine makes of a byte, as this crate's: the first event, and the state with the second one still due
 abbrev pub stepped : machine.Stepped → Stepped
-stepped (on [] d p) = On (phaseIn p) d
-stepped (on (e ∷ es) d p) = Raised (declared 0 e) (phaseOf (raisedState d p es)) (depthOf (raisedState d p es))
+stepped (on [] d p) = On (phaseIn p) (carriedAt d)
+stepped (on (e ∷ es) d p) = Raised (declared 0 e) (phaseOf (raisedState d p es)) (carriedOf (raisedState d p es))
 stepped bad = Bad
 
 -- a byte in a state that reads on
-abbrev pub stepOn : State → ℕ → machine.Stepped
-stepOn (reading d p) b = machine.step base d p b
-stepOn (owing d id r) b = bad
-stepOn broke b = bad
+abbrev pub stepOn : Limits → State → ℕ → machine.Stepped
+stepOn L (reading d p) b = machine.step L d p b
+stepOn L (owing d id r) b = bad
+stepOn L broke b = bad
 
 -- how many bytes of the chunk an event covers
 abbrev pub covered : layout.Event → ℕ

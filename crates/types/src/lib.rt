@@ -12,8 +12,11 @@ pub const ID_MAX: u32 = 2147483647;
 // Deepest nesting of sequences.
 pub const MAX_DEPTH: u32 = 255;
 
-// Most elements of an array, and most bytes of a fixed-length field.
+// Most elements of an array.
 pub const ARRAY_MAX: u32 = 2147483647;
+
+// Most bytes of a string or blob: the Rust's ARRAY_MAX serves both.
+pub const FIXLEN_MAX: u32 = 2147483647;
 
 // How many opened sequences a writer holds back at once.
 pub const LAZY_SEQ_DEPTH: usize = 8;

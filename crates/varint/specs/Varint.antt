@@ -1,10 +1,10 @@
--- The decoder's step on this crate's types, at 01's width; and which states a varint can be in.
+-- The decoder's step on this crate's types, over any width; and which states a varint can be in.
 -- Callers live on `Laws` of proofs/, and open none of these but `start`.
 use Prim.Native.Nat.{ℕ, _+_, _^_, _<_, _≤_}
 use mathlib.Core.Bool.{Bool, _&&_}
 use lib.Dec.{leb, ltb}
 use lib.Bits.{bitOr}
-use Rattle.layout.specs.Limits.{base, lastPlace, lastBound, pick}
+use Rattle.layout.specs.Limits.{Limits, lastPlace, lastBound, pick}
 use Rattle.layout.specs.Varint as layout
 use Rattle.varint.specs.declared.Acc.{Acc}
 use Rattle.varint.specs.declared.Push.{Push}
@@ -15,13 +15,13 @@ abbrev pub start : Acc
 start = record { value = 0; taken = 0 }
 
 -- k bytes taken, so that one more may follow, and a value of 7 k bits
-pub record Sound (a : Acc) : Type 0 where
-  pub few : a .taken ≤ lastPlace base
+pub record Sound (L : Limits) (a : Acc) : Type 0 where
+  pub few : a .taken ≤ lastPlace L
   pub small : a .value < 128 ^ (a .taken)
 
--- the same as a test
-unfoldable pub soundAcc : Acc → Bool
-soundAcc a = leb (a .taken) (lastPlace base) && ltb (a .value) (128 ^ (a .taken))
+-- as a test
+unfoldable pub soundAcc : Limits → Acc → Bool
+soundAcc L a = leb (a .taken) (lastPlace L) && ltb (a .value) (128 ^ (a .taken))
 
 -- an answer as the layout's
 abbrev pub unanswer : Push → layout.Push
@@ -34,8 +34,8 @@ unanswer Overlong = layout.overrun
 abbrev with-bits : Acc → ℕ → ℕ → ℕ
 with-bits a k b = bitOr (a .value) (layout.digit k b)
 
-unfoldable pub pushed : Acc → ℕ → Push
-pushed a b =
-    pick (ltb (a .taken) (lastPlace base))
+unfoldable pub pushed : Limits → Acc → ℕ → Push
+pushed L a b =
+    pick (ltb (a .taken) (lastPlace L))
     (pick (ltb b 128) (Value (with-bits a (a .taken) b)) (More (record { value = with-bits a (a .taken) b; taken = a .taken + 1 })))
-    (pick (ltb b (lastBound base)) (Value (with-bits a (lastPlace base) b)) Overlong)
+    (pick (ltb b (lastBound L)) (Value (with-bits a (lastPlace L) b)) Overlong)

@@ -5,9 +5,15 @@ ghost use Prim.Native.Nat.{_+_, _*_, _%_, _<_, _≤_};
 ghost use lib.ListN.{length};
 ghost use mir.Syntax.{w64};
 ghost use mir.Val.{ofZ};
+ghost use Rattle.layout.specs.Limits.{base};
 ghost use Rattle.layout.specs.Varint.{digit, shortest};
 ghost use Rattle.layout.specs.Zigzag.{zigzag, unzigzag};
 ghost use Rattle.varint.specs.Varint.{soundAcc, start, pushed};
+
+// Most bytes of a varint, and the place of the last of them, counted from 0.
+pub const VARINT_MAX: usize = 10;
+
+pub const LAST_PLACE: u8 = 9;
 
 // A varint under way: how many bytes it had, and what they came to.
 pub struct Acc {
@@ -39,11 +45,11 @@ impl Acc {
 
     // Whether such bytes can have come before.
     pub fn sound(self) -> bool
-        ensures { λ r. ⌜ r ≡ soundAcc self ⌝ }
+        ensures { λ r. ⌜ r ≡ soundAcc base self ⌝ }
     {
         let taken = self.taken;
         let value = self.value;
-        if 9 < taken {
+        if LAST_PLACE < taken {
             return false;
         }
         value >> (taken * 7) == 0
@@ -52,11 +58,11 @@ impl Acc {
     // Every way past 64 bits lies at the tenth byte: bit 7 set, or a payload above 1. No state is tested: one that no bytes can have made
     // has an answer too.
     pub fn push(self, b: u8) -> Push
-        ensures { λ r. ⌜ r ≡ pushed self b ⌝ }
+        ensures { λ r. ⌜ r ≡ pushed base self b ⌝ }
     {
         let taken = self.taken;
         let held = self.value;
-        if taken < 9 {
+        if taken < LAST_PLACE {
             let value = held | payload_at(b, taken);
             if b < 128 {
                 Push::Value(value)

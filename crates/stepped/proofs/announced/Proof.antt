@@ -1,4 +1,5 @@
 -- `stepped::announced` meets its contract.
+use Rattle.layout.specs.Limits.{base}
 use Rattle.stepped.proofs.Fields.{payload-bad, payload-empty, payload-in}
 use borrow.Author.Needs.{needs}
 use Rattle.stepped.proofs.announced.Statement.{statement}
@@ -6,15 +7,15 @@ use Rattle.stepped.proofs.announced.Tie as tie
 
 returns : tie.Need-returns
 returns c =
-    payload-bad (c .before .args .depth) (c .before .args .id) (c .before .args .r) (c .before .args .len) (c .if1 .taken)
+    payload-bad base (c .before .args .carried .depth) (c .before .args .id) (c .before .args .r) (c .before .args .len) (c .if1 .taken)
 
 returns-2 : tie.Need-returns-2
 returns-2 c =
-    payload-empty (c .before .before .before .args .depth) (c .before .before .before .args .id) (c .before .before .before .args .r) (c .before .before .before .args .len) (c .fixlen .result) (c .fixlen .ensures) (c .before .if2 .taken)
+    payload-empty base (c .before .before .before .args .carried .depth) (c .before .before .before .args .id) (c .before .before .before .args .r) (c .before .before .before .args .len) (c .fixlen .result) (c .fixlen .ensures) (c .before .if2 .taken)
 
 returns-3 : tie.Need-returns-3
 returns-3 c =
-    payload-in (c .before .before .before .args .depth) (c .before .before .before .args .id) (c .before .before .before .args .r) (c .before .before .before .args .len) (c .fixlen2 .result) (c .fixlen2 .ensures) (c .before .if2 .left) (c .before .before .if1 .left)
+    payload-in base (c .before .before .before .args .carried .depth) (c .before .before .before .args .id) (c .before .before .before .args .r) (c .before .before .before .args .len) (c .fixlen2 .result) (c .fixlen2 .ensures) (c .before .if2 .left) (c .before .before .if1 .left)
 
 pub announced-spec : {M : Type 1} → statement M
 announced-spec =

@@ -11,15 +11,15 @@ use Rattle.stepped.proofs.element.Tie as tie
 
 returns : tie.Need-returns
 returns c =
-    c .float-array .ensures ∙ sym (ap (λ (n : ℕ). stepped (atElement (c .before .before .args .depth) (c .before .before .args .id) (c .before .before .args .count) (c .before .before .args .len) (subtypeOf n))) (c .before .match .keys1))
+    c .float-array .ensures ∙ sym (ap (λ (n : ℕ). stepped (atElement (c .before .before .args .carried .depth) (c .before .before .args .id) (c .before .before .args .count) (c .before .before .args .len) (subtypeOf n))) (c .before .match .keys1))
 
 returns-2 : tie.Need-returns-2
 returns-2 c =
-    c .float-array2 .ensures ∙ sym (ap (λ (n : ℕ). stepped (atElement (c .before .before .args .depth) (c .before .before .args .id) (c .before .before .args .count) (c .before .before .args .len) (subtypeOf n))) (c .before .match .keys2))
+    c .float-array2 .ensures ∙ sym (ap (λ (n : ℕ). stepped (atElement (c .before .before .args .carried .depth) (c .before .before .args .id) (c .before .before .args .count) (c .before .before .args .len) (subtypeOf n))) (c .before .match .keys2))
 
 returns-3 : tie.Need-returns-3
 returns-3 c =
-    no-element (c .before .args .depth) (c .before .args .id) (c .before .args .count) (c .before .args .len) (c .before .args .subtype) (c .match .rest .0 .1) (c .match .rest .1)
+    no-element (c .before .args .carried .depth) (c .before .args .id) (c .before .args .count) (c .before .args .len) (c .before .args .subtype) (c .match .rest .0 .1) (c .match .rest .1)
 
 pub element-spec : {M : Type 1} → statement M
 element-spec =

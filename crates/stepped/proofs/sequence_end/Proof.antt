@@ -1,5 +1,6 @@
 -- `stepped::sequence_end` meets its contract.
 use mathlib.Core.Path.{_∙_}
+use Rattle.layout.specs.Limits.{base}
 use Rattle.event.specs.declared.Event.the-variants.{End}
 use Rattle.stepped.proofs.Fields.{raised, ends, not-open}
 use borrow.Author.Needs.{needs}
@@ -7,11 +8,11 @@ use Rattle.stepped.proofs.sequence_end.Statement.{statement}
 use Rattle.stepped.proofs.sequence_end.Tie as tie
 
 returns : tie.Need-returns
-returns c = not-open (c .before .args .depth) 0 (c .if1 .taken)
+returns c = not-open base (c .before .args .carried .depth) 0 (c .if1 .taken)
 
 returns-2 : tie.Need-returns-2
 returns-2 c =
-    raised End _ (c .idle .ensures) ∙ ends (c .before .before .args .depth) 0 (c .before .if1 .left)
+    raised End _ (c .idle .ensures) ∙ ends base (c .before .before .args .carried .depth) 0 (c .before .if1 .left)
 
 pub sequence-end-spec : {M : Type 1} → statement M
 sequence-end-spec =

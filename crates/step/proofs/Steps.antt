@@ -10,7 +10,7 @@ use lib.Bits.{bitOr, or-shifted-r}
 use borrow.Author.Tests.{lt-ltb, le-ltb, le-leb, lt-leb}
 use types.Run.{OneOf}
 use denote.Enum.Declared.{tagOf}
-use Rattle.layout.specs.Limits.{base}
+use Rattle.layout.specs.Limits.{Limits}
 use Rattle.layout.specs.Varint as varints
 use Rattle.layout.specs.Field.{bytesOf}
 use Rattle.layout.specs.Event as layout
@@ -28,26 +28,26 @@ use Rattle.varint.proofs.Push.{the-type}
 use Rattle.event.specs.declared.Event.the-variants.{Array}
 use Rattle.event.specs.Event.{declared}
 use Rattle.phase.specs.declared.Phase.the-variants.{Float}
-use Rattle.phase.specs.Phases.{phaseIn}
+use Rattle.phase.specs.Phases.{phaseIn, carriedAt}
 use Rattle.phase.proofs.Phases.{float-back, pow256}
 use Rattle.stepped.specs.declared.Stepped.the-variants.{On, Raised, Bad}
 use Rattle.stepped.specs.Steps.{stepped}
 
 -- ---- a varint's byte, from what the code knows of the push
 
-module _ (a : Acc) (b : ℕ) (s : Sound a) (p : Push) (e : p ≡ pushed a b) (d : ℕ) (P : ℕ → ℕ → machine.Phase) (F : ℕ → machine.Stepped) where
-  pushing : (q : Push) → p ≡ q → within d (varints.push base (a .taken) (a .value) b) P F ≡ within d (unanswer q) P F
-  pushing q h = ap (λ (x : varints.Push). within d x P F) (layout-step a b s ∙ ap unanswer (sym e ∙ h))
+module _ (L : Limits) (a : Acc) (b : ℕ) (s : Sound L a) (p : Push) (e : p ≡ pushed L a b) (d : ℕ) (P : ℕ → ℕ → machine.Phase) (F : ℕ → machine.Stepped) where
+  pushing : (q : Push) → p ≡ q → within d (varints.push L (a .taken) (a .value) b) P F ≡ within d (unanswer q) P F
+  pushing q h = ap (λ (x : varints.Push). within d x P F) (layout-step L a b s ∙ ap unanswer (sym e ∙ h))
 
-  pub value-in : (n : ℕ) → p ≡ Value n → stepped (F n) ≡ stepped (within d (varints.push base (a .taken) (a .value) b) P F)
+  pub value-in : (n : ℕ) → p ≡ Value n → stepped (F n) ≡ stepped (within d (varints.push L (a .taken) (a .value) b) P F)
   unfolding within
   value-in n h = sym (ap stepped (pushing (Value n) h))
 
-  pub more-in : (x : Acc) → p ≡ More x → On (phaseIn (P (x .taken) (x .value))) d ≡ stepped (within d (varints.push base (a .taken) (a .value) b) P F)
+  pub more-in : (x : Acc) → p ≡ More x → On (phaseIn (P (x .taken) (x .value))) (carriedAt d) ≡ stepped (within d (varints.push L (a .taken) (a .value) b) P F)
   unfolding within
   more-in x h = sym (ap stepped (pushing (More x) h))
 
-  pub over-in : OneOf (0 ∷ 2 ∷ []) (tagOf the-type p) → OneOf (1 ∷ 2 ∷ []) (tagOf the-type p) → Bad ≡ stepped (within d (varints.push base (a .taken) (a .value) b) P F)
+  pub over-in : OneOf (0 ∷ 2 ∷ []) (tagOf the-type p) → OneOf (1 ∷ 2 ∷ []) (tagOf the-type p) → Bad ≡ stepped (within d (varints.push L (a .taken) (a .value) b) P F)
   unfolding within
   over-in h i = sym (ap stepped (pushing Overlong (overlong p h i)))
     where
@@ -60,29 +60,29 @@ module _ (a : Acc) (b : ℕ) (s : Sound a) (p : Push) (e : p ≡ pushed a b) (d 
 
 -- ---- counts
 
-pub count-bad : (d id n : ℕ) → 2147483647 < n → Bad ≡ stepped (atUnsignedCount base d id n)
+pub count-bad : (L : Limits) (d id n : ℕ) → L .count < n → Bad ≡ stepped (atUnsignedCount L d id n)
 unfolding atUnsignedCount
-count-bad d id n h = simp (lt-leb _ _ h)
+count-bad L d id n h = simp (lt-leb _ _ h)
 
-pub count-bad-signed : (d id n : ℕ) → 2147483647 < n → Bad ≡ stepped (atSignedCount base d id n)
+pub count-bad-signed : (L : Limits) (d id n : ℕ) → L .count < n → Bad ≡ stepped (atSignedCount L d id n)
 unfolding atSignedCount
-count-bad-signed d id n h = simp (lt-leb _ _ h)
+count-bad-signed L d id n h = simp (lt-leb _ _ h)
 
-pub count-bad-float : (d id n : ℕ) → 2147483647 < n → Bad ≡ stepped (atFloatCount base d id n)
+pub count-bad-float : (L : Limits) (d id n : ℕ) → L .count < n → Bad ≡ stepped (atFloatCount L d id n)
 unfolding atFloatCount
-count-bad-float d id n h = simp (lt-leb _ _ h)
+count-bad-float L d id n h = simp (lt-leb _ _ h)
 
-pub count-in : (d id n : ℕ) → n ≤ 2147483647 → Raised (Array id ArrayKinds.Unsigned n) (phaseIn (firstOr n (λ m. inUnsigned id m 0 0))) d ≡ stepped (atUnsignedCount base d id n)
+pub count-in : (L : Limits) (d id n : ℕ) → n ≤ L .count → Raised (Array id ArrayKinds.Unsigned n) (phaseIn (firstOr n (λ m. inUnsigned id m 0 0))) (carriedAt d) ≡ stepped (atUnsignedCount L d id n)
 unfolding atUnsignedCount
-count-in d id n h = simp (le-leb _ _ h)
+count-in L d id n h = simp (le-leb _ _ h)
 
-pub count-in-signed : (d id n : ℕ) → n ≤ 2147483647 → Raised (Array id ArrayKinds.Signed n) (phaseIn (firstOr n (λ m. inSigned id m 0 0))) d ≡ stepped (atSignedCount base d id n)
+pub count-in-signed : (L : Limits) (d id n : ℕ) → n ≤ L .count → Raised (Array id ArrayKinds.Signed n) (phaseIn (firstOr n (λ m. inSigned id m 0 0))) (carriedAt d) ≡ stepped (atSignedCount L d id n)
 unfolding atSignedCount
-count-in-signed d id n h = simp (le-leb _ _ h)
+count-in-signed L d id n h = simp (le-leb _ _ h)
 
-pub count-in-float : (d id n : ℕ) → n ≤ 2147483647 → On (phaseIn (inArrayWord id n 0 0)) d ≡ stepped (atFloatCount base d id n)
+pub count-in-float : (L : Limits) (d id n : ℕ) → n ≤ L .count → On (phaseIn (inArrayWord id n 0 0)) (carriedAt d) ≡ stepped (atFloatCount L d id n)
 unfolding atFloatCount
-count-in-float d id n h = simp (le-leb _ _ h)
+count-in-float L d id n h = simp (le-leb _ _ h)
 
 -- ---- floats, low byte first
 
@@ -95,11 +95,11 @@ joined-byte v b k l h s =
     ∙ ap (λ (p : ℕ). v + b * p) (sym (pow256 k))
 
 pub float-more : (d id : ℕ) (w : FloatType) (left k x : ℕ) → k + 1 < bytesOf (width w)
-    → On (Float id w left (k + 1) x) d ≡ stepped (atFloat d id (width w) left k x)
+    → On (Float id w left (k + 1) x) (carriedAt d) ≡ stepped (atFloat d id (width w) left k x)
 unfolding atFloat
 float-more d id w left k x h = simp (lt-ltb _ _ h, float-back w)
 
 pub float-whole : (d id : ℕ) (w : FloatType) (left k x : ℕ) → bytesOf (width w) ≤ k + 1
-    → Raised (declared 0 (layout.Float id (width w) x)) (phaseIn (nextOr left (λ m. inFloat id (width w) m 0 0))) d ≡ stepped (atFloat d id (width w) left k x)
+    → Raised (declared 0 (layout.Float id (width w) x)) (phaseIn (nextOr left (λ m. inFloat id (width w) m 0 0))) (carriedAt d) ≡ stepped (atFloat d id (width w) left k x)
 unfolding atFloat
 float-whole d id w left k x h = simp (le-ltb _ _ h)

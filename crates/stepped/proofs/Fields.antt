@@ -88,7 +88,7 @@ payload-bad L d id r len h = simp (lt-leb _ _ h)
 
 pub payload-empty : (L : Limits) (d id : ℕ) (r : RawType) (len : ℕ) (f : FixlenType) → f ≡ rawFixlenType r → len ≡ 0
     → Raised (Fixlen id f 0) (Empty id r) (carriedAt d) ≡ stepped (atSubtype L d id len (known (raw (rawSort r))))
-payload-empty L d id r len f e h = subst (λ (n : ℕ). Raised (Fixlen id f 0) (Empty id r) (carriedAt d) ≡ stepped (atSubtype L d id n (known (raw (rawSort r))))) (sym h) (simp (e, raw-back r))
+payload-empty L d id r len f e h = subst (λ (n : ℕ). Raised (Fixlen id f 0) (Empty id r) (carriedAt d) ≡ stepped (atSubtype L d id n (known (raw (rawSort r))))) (sym h) (simp (le-leb 0 (L .size) (omega arith), e, raw-back r))
 
 pub payload-in : (L : Limits) (d id : ℕ) (r : RawType) (len : ℕ) (f : FixlenType) → f ≡ rawFixlenType r → (len ≡ 0 → ⊥) → len ≤ L .size
     → Raised (Fixlen id f len) (Payload id r len 0) (carriedAt d) ≡ stepped (atSubtype L d id len (known (raw (rawSort r))))

@@ -33,11 +33,9 @@ pub enum Stepped {
 pub fn sequence_begin(carried: Carried, id: u32) -> Stepped
     ensures { λ r. ⌜ r ≡ stepped (atWire base (carried .depth) id T-begin) ⌝ }
 {
-    if (carried.depth as u32) < MAX_DEPTH {
-        let inner = Carried {
-            depth: carried.depth + 1,
-        };
-        Stepped::Raised(Event::Begin(id), idle(), inner)
+    let depth = carried.depth;
+    if (depth as u32) < MAX_DEPTH {
+        Stepped::Raised(Event::Begin(id), idle(), Carried { depth: depth + 1 })
     } else {
         Stepped::Bad
     }
@@ -47,13 +45,11 @@ pub fn sequence_begin(carried: Carried, id: u32) -> Stepped
 pub fn sequence_end(carried: Carried) -> Stepped
     ensures { λ r. ⌜ r ≡ stepped (atWire base (carried .depth) 0 T-end) ⌝ }
 {
-    if carried.depth == 0 {
+    let depth = carried.depth;
+    if depth == 0 {
         Stepped::Bad
     } else {
-        let outer = Carried {
-            depth: carried.depth - 1,
-        };
-        Stepped::Raised(Event::End, idle(), outer)
+        Stepped::Raised(Event::End, idle(), Carried { depth: depth - 1 })
     }
 }
 

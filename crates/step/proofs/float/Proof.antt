@@ -37,15 +37,15 @@ float-event-requires c κs =
 returns : tie.Need-returns
 unfolding step
 returns c =
-    ap (λ (x : ℕ). On (Float (c .before .before .args .id) (c .before .before .args .w) (c .before .before .args .left) (c .before .before .args .k + 1) x) (c .before .before .args .depth)) (joined-byte (c .before .before .args .v) (c .before .before .args .b) (c .before .before .args .k) (omega (arith, bytes-8 (c .before .before .args .w), c .before .before .pre .0)) (c .before .before .fits .b .fits) (c .before .before .pre .1)) ∙ float-more (c .before .before .args .depth) (c .before .before .args .id) (c .before .before .args .w) (c .before .before .args .left) (c .before .before .args .k) _ (subst (λ (n : ℕ). c .before .before .args .k + 1 < n) (c .before .bytes .ensures) (c .if1 .taken))
+    ap (λ (x : ℕ). On (Float (c .before .before .args .id) (c .before .before .args .w) (c .before .before .args .left) (c .before .before .args .k + 1) x) (c .before .before .args .carried)) (joined-byte (c .before .before .args .v) (c .before .before .args .b) (c .before .before .args .k) (omega (arith, bytes-8 (c .before .before .args .w), c .before .before .pre .0)) (c .before .before .fits .b .fits) (c .before .before .pre .1)) ∙ float-more (c .before .before .args .carried .depth) (c .before .before .args .id) (c .before .before .args .w) (c .before .before .args .left) (c .before .before .args .k) _ (subst (λ (n : ℕ). c .before .before .args .k + 1 < n) (c .before .bytes .ensures) (c .if1 .taken))
 
 returns-2 : tie.Need-returns-2
 unfolding step
 returns-2 c =
     let e = joined-byte (c .before .before .before .before .before .args .v) (c .before .before .before .before .before .args .b) (c .before .before .before .before .before .args .k) (omega (arith, bytes-8 (c .before .before .before .before .before .args .w), c .before .before .before .before .before .pre .0)) (c .before .before .before .before .before .fits .b .fits) (c .before .before .before .before .before .pre .1) in
     raised _ _ (c .floats .ensures ∙ ap (λ (n : ℕ). phaseIn (firstOr n (λ m. inFloat (c .before .before .before .before .before .args .id) (width (c .before .before .before .before .before .args .w)) m 0 0))) (c .before .less .ensures) ∙ ap phaseIn (next-first (c .before .before .before .before .before .args .left) (λ m. inFloat (c .before .before .before .before .before .args .id) (width (c .before .before .before .before .before .args .w)) m 0 0)))
-    ∙ ap (λ (v : Event). Raised v (phaseIn (nextOr (c .before .before .before .before .before .args .left) (λ m. inFloat (c .before .before .before .before .before .args .id) (width (c .before .before .before .before .before .args .w)) m 0 0))) (c .before .before .before .before .before .args .depth)) (c .before .before .float-event .ensures ∙ ap (λ (x : ℕ). declared 0 (layout.Float (c .before .before .before .before .before .args .id) (width (c .before .before .before .before .before .args .w)) x)) e)
-    ∙ float-whole (c .before .before .before .before .before .args .depth) (c .before .before .before .before .before .args .id) (c .before .before .before .before .before .args .w) (c .before .before .before .before .before .args .left) (c .before .before .before .before .before .args .k) _ (omega (arith, c .before .before .before .if1 .left, c .before .before .before .before .bytes .ensures))
+    ∙ ap (λ (v : Event). Raised v (phaseIn (nextOr (c .before .before .before .before .before .args .left) (λ m. inFloat (c .before .before .before .before .before .args .id) (width (c .before .before .before .before .before .args .w)) m 0 0))) (c .before .before .before .before .before .args .carried)) (c .before .before .float-event .ensures ∙ ap (λ (x : ℕ). declared 0 (layout.Float (c .before .before .before .before .before .args .id) (width (c .before .before .before .before .before .args .w)) x)) e)
+    ∙ float-whole (c .before .before .before .before .before .args .carried .depth) (c .before .before .before .before .before .args .id) (c .before .before .before .before .before .args .w) (c .before .before .before .before .before .args .left) (c .before .before .before .before .before .args .k) _ (omega (arith, c .before .before .before .if1 .left, c .before .before .before .before .bytes .ensures))
 
 pub float-spec : {M : Type 1} → statement M
 float-spec =

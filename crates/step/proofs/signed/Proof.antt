@@ -4,6 +4,7 @@ use Prim.Native.Nat.{ℕ}
 use lib.IntN.{ℤ}
 use mir.Syntax.{w64}
 use mir.Val.{ofZ, toZ}
+use Rattle.layout.specs.Limits.{base}
 use Rattle.event.specs.declared.Event.the-variants.{Signed}
 use Rattle.stepped.specs.declared.Stepped.the-variants.{Raised}
 use Rattle.phase.specs.Phases.{phaseIn}
@@ -18,18 +19,18 @@ use Rattle.step.proofs.signed.Tie as tie
 returns : tie.Need-returns
 unfolding step
 returns c =
-    over-in (c .before .before .before .args .a) (c .before .before .before .args .b) (c .before .before .before .pre) (c .before .before .push .result) (c .before .before .push .ensures) _ _ _ (c .before .match .keys2) (c .match2 .keys2)
+    over-in base (c .before .before .before .args .a) (c .before .before .before .args .b) (c .before .before .before .pre) (c .before .before .push .result) (c .before .before .push .ensures) _ _ _ (c .before .match .keys2) (c .match2 .keys2)
 
 returns-2 : tie.Need-returns-2
 unfolding step
 returns-2 c =
-    more-in (c .before .before .before .before .before .args .a) (c .before .before .before .before .before .args .b) (c .before .before .before .before .before .pre) (c .before .before .before .before .push .result) (c .before .before .before .before .push .ensures) _ _ _ _ (c .before .p2 .given .1)
+    more-in base (c .before .before .before .before .before .args .a) (c .before .before .before .before .before .args .b) (c .before .before .before .before .before .pre) (c .before .before .before .before .push .result) (c .before .before .before .before .push .ensures) _ _ _ _ (c .before .p2 .given .1)
 
 returns-3 : tie.Need-returns-3
 unfolding step atSigned
 returns-3 c =
     let f : toZ w64 (ofZ w64 (c .before .before .zigzag-decode .result)) ≡ c .before .before .zigzag-decode .result = search needs in
-    raised (Signed (c .before .before .before .before .before .before .before .args .id) _) _ (c .signeds .ensures ∙ ap (λ (n : ℕ). phaseIn (firstOr n (λ m. inSigned (c .before .before .before .before .before .before .before .args .id) m 0 0))) (c .before .less .ensures) ∙ ap phaseIn (next-first (c .before .before .before .before .before .before .before .args .left) (λ m. inSigned (c .before .before .before .before .before .before .before .args .id) m 0 0))) ∙ ap (λ (z : ℤ). Raised (Signed (c .before .before .before .before .before .before .before .args .id) z) (phaseIn (nextOr (c .before .before .before .before .before .before .before .args .left) (λ m. inSigned (c .before .before .before .before .before .before .before .args .id) m 0 0))) (c .before .before .before .before .before .before .before .args .depth)) (f ∙ c .before .before .zigzag-decode .ensures) ∙ value-in (c .before .before .before .before .before .before .before .args .a) (c .before .before .before .before .before .before .before .args .b) (c .before .before .before .before .before .before .before .pre) (c .before .before .before .before .before .before .push .result) (c .before .before .before .before .before .before .push .ensures) _ _ _ _ (c .before .before .before .before .p .given .1)
+    raised (Signed (c .before .before .before .before .before .before .before .args .id) _) _ (c .signeds .ensures ∙ ap (λ (n : ℕ). phaseIn (firstOr n (λ m. inSigned (c .before .before .before .before .before .before .before .args .id) m 0 0))) (c .before .less .ensures) ∙ ap phaseIn (next-first (c .before .before .before .before .before .before .before .args .left) (λ m. inSigned (c .before .before .before .before .before .before .before .args .id) m 0 0))) ∙ ap (λ (z : ℤ). Raised (Signed (c .before .before .before .before .before .before .before .args .id) z) (phaseIn (nextOr (c .before .before .before .before .before .before .before .args .left) (λ m. inSigned (c .before .before .before .before .before .before .before .args .id) m 0 0))) (c .before .before .before .before .before .before .before .args .carried)) (f ∙ c .before .before .zigzag-decode .ensures) ∙ value-in base (c .before .before .before .before .before .before .before .args .a) (c .before .before .before .before .before .before .before .args .b) (c .before .before .before .before .before .before .before .pre) (c .before .before .before .before .before .before .push .result) (c .before .before .before .before .before .before .push .ensures) _ _ _ _ (c .before .before .before .before .p .given .1)
 
 pub signed-spec : {M : Type 1} → statement M
 signed-spec =

@@ -17,4 +17,4 @@ returns-2 c =
 
 pub sequence-begin-spec : {M : Type 1} → statement M
 sequence-begin-spec =
-    tie.close (tie.spec (λ c κs. search needs) (λ c. search needs) returns returns-2)
+    tie.close (tie.spec (λ c. search needs) (λ c κs. search needs) (λ c. search needs) returns returns-2)

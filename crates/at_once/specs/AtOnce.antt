@@ -5,7 +5,7 @@ use mathlib.Core.Path.{_≡_}
 use mathlib.Core.Bool.{true}
 use mathlib.Core.List.{List}
 use lib.ListN.{length, drop}
-use Rattle.layout.specs.Limits.{base}
+use Rattle.layout.specs.Limits.{Limits}
 use Rattle.layout.specs.Varint.{push}
 use Rattle.layout.specs.Event as layout
 use Rattle.machine.specs.Machine.{Phase, Stepped, within, step}
@@ -13,8 +13,9 @@ use Rattle.machine.specs.Call.{Called, scan, scanned, paceOf, byte}
 use Rattle.machine.specs.Call as calls
 use Rattle.event.specs.declared.Event as Given
 use Rattle.event.specs.Event.{declared}
+use Rattle.phase.specs.declared.Carried.{Carried}
 use Rattle.phase.specs.declared.Phase as phases
-use Rattle.phase.specs.Phases.{phaseOf, depthOf, soundPhase}
+use Rattle.phase.specs.Phases.{phaseOf, carriedOf, soundPhase}
 use Rattle.stepped.specs.declared.Stepped as given
 use Rattle.stepped.specs.declared.Stepped.the-variants.{On, Raised, Bad}
 use Rattle.stepped.specs.Steps.{covered}
@@ -24,44 +25,44 @@ use Rattle.at_once.specs.declared.Quick.{Quick}
 use Rattle.at_once.specs.declared.Quick.the-variants as Quicks
 
 -- phases that take a varint at depth d: P within it, k bytes having come to v, and F where its value is known
-pub record Varying (d : ℕ) (P : ℕ → ℕ → Phase) (F : ℕ → Stepped) : Type 0 where
+pub record Varying (L : Limits) (d : ℕ) (P : ℕ → ℕ → Phase) (F : ℕ → Stepped) : Type 0 where
   pub paced : (k v : ℕ) → paceOf (P k v) ≡ byte
-  pub steps : (k v b : ℕ) → step base d (P k v) b ≡ within d (push base k v b) P F
+  pub steps : (k v b : ℕ) → step L d (P k v) b ≡ within d (push L k v b) P F
 
 -- reading on in the chunk c, after its first n bytes, the last of which came to m
-abbrev pub onward : List ℕ → ℕ → Stepped → Called
-onward c n m = scanned n m (λ d p. scan base n d p (drop n c))
+abbrev pub onward : Limits → List ℕ → ℕ → Stepped → Called
+onward L c n m = scanned n m (λ d p. scan L n d p (drop n c))
 
 -- a varint at a place of the chunk is whole with v, and n is the place after it: whatever takes it reads on there with v
-pub record Reads (c : List ℕ) (place v n : ℕ) : Type 0 where
+pub record Reads (L : Limits) (c : List ℕ) (place v n : ℕ) : Type 0 where
   pub within-chunk : n ≤ length c
-  pub reads : (d : ℕ) (P : ℕ → ℕ → Phase) (F : ℕ → Stepped) → Varying d P F → scan base place d (P 0 0) (drop place c) ≡ onward c n (F v)
+  pub reads : (d : ℕ) (P : ℕ → ℕ → Phase) (F : ℕ → Stepped) → Varying L d P F → scan L place d (P 0 0) (drop place c) ≡ onward L c n (F v)
 
-abbrev pub Stands : List ℕ → ℕ → Found → Type 0
-Stands c place (Founds.Whole v n) = Reads c place v n
-Stands c place Founds.Other = Unit
+abbrev pub Stands : Limits → List ℕ → ℕ → Found → Type 0
+Stands L c place (Founds.Whole v n) = Reads L c place v n
+Stands L c place Founds.Other = Unit
 
--- a call stops at an event after n bytes, in this phase and at this depth
-pub record StopsAt (p : phases.Phase) (d : ℕ) (e : Given.Event) (n : ℕ) (c : Called) : Type 0 where
+-- a call stops at an event after n bytes, in this phase and with this carried along
+pub record StopsAt (p : phases.Phase) (k : Carried) (e : Given.Event) (n : ℕ) (c : Called) : Type 0 where
   pub event : layout.Event
   pub answered : c .answer ≡ calls.event event
   pub raised : e ≡ declared (c .read - covered event) event
   pub read : n ≡ c .read
   pub phase : p ≡ phaseOf (c .state)
-  pub depth : d ≡ depthOf (c .state)
+  pub carried : k ≡ carriedOf (c .state)
 
 -- an answer is the call's
 abbrev pub Right : Quick → Called → Type 0
-Right (Quicks.Done p d e n) c = StopsAt p d e n c
+Right (Quicks.Done p k e n) c = StopsAt p k e n c
 Right Quicks.Other c = Unit
 
--- the same from a phase that has to be sound
-abbrev pub RightFrom : phases.Phase → Quick → Called → Type 0
-RightFrom from (Quicks.Done p d e n) c = (soundPhase from ≡ true) × StopsAt p d e n c
-RightFrom from Quicks.Other c = Unit
+-- an answer is the call's, and the phase that it starts from is sound
+abbrev pub RightFrom : Limits → phases.Phase → Quick → Called → Type 0
+RightFrom L from (Quicks.Done p k e n) c = (soundPhase L from ≡ true) × StopsAt p k e n c
+RightFrom L from Quicks.Other c = Unit
 
 -- the answer of a call that stops at an event
 abbrev pub raisedOf : ℕ → given.Stepped → Quick
-raisedOf n (On p d) = Quicks.Other
-raisedOf n (Raised e p d) = Quicks.Done p d e n
+raisedOf n (On p k) = Quicks.Other
+raisedOf n (Raised e p k) = Quicks.Done p k e n
 raisedOf n Bad = Quicks.Other

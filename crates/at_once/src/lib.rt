@@ -8,6 +8,7 @@ ghost use Rattle.machine.specs.Call.{reading, call};
 ghost use Rattle.phase.specs.Phases.{stateAt};
 ghost use Rattle.at_once.specs.AtOnce.{Stands, Right, RightFrom, raisedOf, onward};
 use event::Event;
+use phase::Carried;
 use phase::Phase;
 use phase::idle;
 use phase::less;
@@ -32,13 +33,13 @@ enum Found {
 // The state after a call, its event and the bytes read; or what the call comes to isn't found at once. The bytes read stand last: with the
 // state's depth there, the compiler leaves both it and the event's mark in memory.
 pub enum Quick {
-    Done(Phase, u8, Event, usize),
+    Done(Phase, Carried, Event, usize),
     Other,
 }
 
 // Any varint.
 fn long_varint(chunk: &[u8], at: usize) -> Found
-    ensures { λ r. ⌜ Stands (now (chunk .entry)) at r ⌝ }
+    ensures { λ r. ⌜ Stands base (now (chunk .entry)) at r ⌝ }
 {
     let mut acc = Acc::new();
     let mut i = at;
@@ -62,7 +63,7 @@ fn long_varint(chunk: &[u8], at: usize) -> Found
 
 // Most varints are one byte or two. The longer ones are read at two places, so that the compiler keeps their loop out of line.
 fn varint(chunk: &[u8], at: usize) -> Found
-    ensures { λ r. ⌜ Stands (now (chunk .entry)) at r ⌝ }
+    ensures { λ r. ⌜ Stands base (now (chunk .entry)) at r ⌝ }
 {
     if chunk.len() <= at {
         return Found::Other;
@@ -85,35 +86,35 @@ fn varint(chunk: &[u8], at: usize) -> Found
 }
 
 // A call that reads n bytes and stops at an event.
-fn done(n: usize, e: Event, phase: Phase, depth: u8) -> Quick
-    ensures { λ r. ⌜ r ≡ raisedOf n (Stepped.Raised e phase depth) ⌝ }
+fn done(n: usize, e: Event, phase: Phase, carried: Carried) -> Quick
+    ensures { λ r. ⌜ r ≡ raisedOf n (Stepped.Raised e phase carried) ⌝ }
 {
-    Quick::Done(phase, depth, e, n)
+    Quick::Done(phase, carried, e, n)
 }
 
-// The same where a byte, the nth of the chunk, may have raised one.
+// A call that stops where a byte, the nth of the chunk, may have raised an event.
 fn raised(n: usize, s: Stepped) -> Quick
     ensures { λ r. ⌜ r ≡ raisedOf n s ⌝ }
 {
-    let Stepped::Raised(e, phase, depth) = s else {
+    let Stepped::Raised(e, phase, carried) = s else {
         return Quick::Other;
     };
-    done(n, e, phase, depth)
+    done(n, e, phase, carried)
 }
 
 // An element, or the scalar after a header.
-fn unsigned_at(depth: u8, id: u32, left: u32, chunk: &[u8]) -> Quick
-    ensures { λ r. ⌜ Right r (call base (reading depth (inUnsigned id left 0 0)) (now (chunk .entry))) ⌝ }
+fn unsigned_at(carried: Carried, id: u32, left: u32, chunk: &[u8]) -> Quick
+    ensures { λ r. ⌜ Right r (call base (reading (carried .depth) (inUnsigned id left 0 0)) (now (chunk .entry))) ⌝ }
 {
     let found = varint(chunk, 0);
     let Found::Whole(v, n) = found else {
         return Quick::Other;
     };
-    done(n, Event::Unsigned(id, v), unsigneds(id, less(left)), depth)
+    done(n, Event::Unsigned(id, v), unsigneds(id, less(left)), carried)
 }
 
-fn signed_at(depth: u8, id: u32, left: u32, chunk: &[u8]) -> Quick
-    ensures { λ r. ⌜ Right r (call base (reading depth (inSigned id left 0 0)) (now (chunk .entry))) ⌝ }
+fn signed_at(carried: Carried, id: u32, left: u32, chunk: &[u8]) -> Quick
+    ensures { λ r. ⌜ Right r (call base (reading (carried .depth) (inSigned id left 0 0)) (now (chunk .entry))) ⌝ }
 {
     let found = varint(chunk, 0);
     let Found::Whole(v, n) = found else {
@@ -123,30 +124,30 @@ fn signed_at(depth: u8, id: u32, left: u32, chunk: &[u8]) -> Quick
         n,
         Event::Signed(id, zigzag_decode(v)),
         signeds(id, less(left)),
-        depth,
+        carried,
     )
 }
 
 // What follows a header of this type, at a place of the chunk.
-fn value_at(depth: u8, id: u32, wire: u8, chunk: &[u8], at: usize) -> Quick
+fn value_at(carried: Carried, id: u32, wire: u8, chunk: &[u8], at: usize) -> Quick
     requires { ⌜ id ≤ base .id ⌝ }
-    ensures { λ r. ⌜ Right r (onward (now (chunk .entry)) at (atWire base depth id (wireOf wire))) ⌝ }
+    ensures { λ r. ⌜ Right r (onward base (now (chunk .entry)) at (atWire base (carried .depth) id (wireOf wire))) ⌝ }
 {
     let found = varint(chunk, at);
     let Found::Whole(v, n) = found else {
         return Quick::Other;
     };
     match wire {
-        0 => done(n, Event::Unsigned(id, v), idle(), depth),
-        1 => done(n, Event::Signed(id, zigzag_decode(v)), idle(), depth),
-        2 => raised(n, fixlen(depth, id, v / 8, (v % 8) as u8)),
+        0 => done(n, Event::Unsigned(id, v), idle(), carried),
+        1 => done(n, Event::Signed(id, zigzag_decode(v)), idle(), carried),
+        2 => raised(n, fixlen(carried, id, v / 8, (v % 8) as u8)),
         _ => Quick::Other,
     }
 }
 
 // A whole field, or the part of it up to its first event.
-fn field_at(depth: u8, chunk: &[u8]) -> Quick
-    ensures { λ r. ⌜ Right r (call base (reading depth idle) (now (chunk .entry))) ⌝ }
+fn field_at(carried: Carried, chunk: &[u8]) -> Quick
+    ensures { λ r. ⌜ Right r (call base (reading (carried .depth) idle) (now (chunk .entry))) ⌝ }
 {
     let found = varint(chunk, 0);
     let Found::Whole(h, n) = found else {
@@ -160,21 +161,21 @@ fn field_at(depth: u8, chunk: &[u8]) -> Quick
     let wire = (h % 8) as u8;
     match wire {
         5 => Quick::Other,
-        6 => raised(n, sequence_begin(depth, id)),
-        7 => raised(n, sequence_end(depth)),
-        _ => value_at(depth, id, wire, chunk, n),
+        6 => raised(n, sequence_begin(carried, id)),
+        7 => raised(n, sequence_end(carried)),
+        _ => value_at(carried, id, wire, chunk, n),
     }
 }
 
 // A call that finds a field or an element whole in the chunk, from a sound phase that has taken no byte of it.
-pub fn at_once(depth: u8, phase: Phase, chunk: &[u8]) -> Quick
-    ensures { λ r. ⌜ RightFrom phase r (call base (stateAt depth phase) (now (chunk .entry))) ⌝ }
+pub fn at_once(carried: Carried, phase: Phase, chunk: &[u8]) -> Quick
+    ensures { λ r. ⌜ RightFrom base phase r (call base (stateAt (carried .depth) phase) (now (chunk .entry))) ⌝ }
 {
     match phase {
         Phase::Header(a) => {
             if a.taken == 0 {
                 if a.sound() {
-                    return field_at(depth, chunk);
+                    return field_at(carried, chunk);
                 }
             }
             Quick::Other
@@ -182,7 +183,7 @@ pub fn at_once(depth: u8, phase: Phase, chunk: &[u8]) -> Quick
         Phase::Unsigned(id, left, a) => {
             if a.taken == 0 {
                 if sound_varint(id, left, a) {
-                    return unsigned_at(depth, id, left, chunk);
+                    return unsigned_at(carried, id, left, chunk);
                 }
             }
             Quick::Other
@@ -190,7 +191,7 @@ pub fn at_once(depth: u8, phase: Phase, chunk: &[u8]) -> Quick
         Phase::Signed(id, left, a) => {
             if a.taken == 0 {
                 if sound_varint(id, left, a) {
-                    return signed_at(depth, id, left, chunk);
+                    return signed_at(carried, id, left, chunk);
                 }
             }
             Quick::Other

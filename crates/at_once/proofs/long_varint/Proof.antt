@@ -2,19 +2,20 @@
 use Prim.Native.Nat.{_-_}
 use mathlib.Core.Path.{refl, sym, _∙_}
 use lib.ListN.{length}
+use Rattle.layout.specs.Limits.{base}
 use Rattle.at_once.proofs.AtOnce.{Under, under-start, under-more, under-value}
 use borrow.Author.Needs.{needs}
 use Rattle.at_once.proofs.long_varint.Statement.{statement}
 use Rattle.at_once.proofs.long_varint.Tie as tie
 
 abbrev Inv-loop : tie.InvT-loop
-Inv-loop chunk at acc₀ i₀ acc i = Under chunk at i acc
+Inv-loop chunk at acc₀ i₀ acc i = Under base chunk at i acc
 
 abbrev μ-loop : tie.MeasureT-loop
 μ-loop chunk at acc₀ i₀ acc i = length chunk - i
 
 loop-holds : tie.Need-loop-holds Inv-loop μ-loop
-loop-holds c = under-start _ _ _ (c .new .ensures)
+loop-holds c = under-start base _ _ _ (c .new .ensures)
 
 loop-again : tie.Need-loop-again Inv-loop μ-loop
 loop-again c =

@@ -1,4 +1,5 @@
 -- `at_once::unsigned_at` meets its contract.
+use Rattle.layout.specs.Limits.{base}
 use Rattle.at_once.specs.declared.Found.{Found}
 use Rattle.at_once.specs.AtOnce.{Stands}
 use Rattle.at_once.proofs.AtOnce.{unsigned-element}
@@ -12,7 +13,7 @@ use Rattle.at_once.proofs.unsigned_at.Tie as tie
 
 returns-2 : tie.Need-returns-2
 returns-2 c =
-    unsigned-element (c .before .before .before .before .before .before .before .before .args .chunk .now) (c .before .before .before .before .before .before .before .before .args .depth) (c .before .before .before .before .before .before .before .before .args .id) (c .before .before .before .before .before .before .before .before .args .left) _ _ (c .before .unsigneds .result) (c .done .result) (subst (λ (x : Found). Stands (c .before .before .before .before .before .before .before .before .args .chunk .now) 0 x) (c .before .before .before .before .found .given .1) (c .before .before .before .before .before .before .varint .ensures)) (c .before .unsigneds .ensures ∙ ap (λ (n : ℕ). phaseIn (firstOr n (λ m. inUnsigned (c .before .before .before .before .before .before .before .before .args .id) m 0 0))) (c .before .before .less .ensures)) (c .done .ensures)
+    unsigned-element base (c .before .before .before .before .before .before .before .before .args .chunk .now) (c .before .before .before .before .before .before .before .before .args .carried .depth) (c .before .before .before .before .before .before .before .before .args .id) (c .before .before .before .before .before .before .before .before .args .left) _ _ (c .before .unsigneds .result) (c .done .result) (subst (λ (x : Found). Stands base (c .before .before .before .before .before .before .before .before .args .chunk .now) 0 x) (c .before .before .before .before .found .given .1) (c .before .before .before .before .before .before .varint .ensures)) (c .before .unsigneds .ensures ∙ ap (λ (n : ℕ). phaseIn (firstOr n (λ m. inUnsigned (c .before .before .before .before .before .before .before .before .args .id) m 0 0))) (c .before .before .less .ensures)) (c .done .ensures)
 
 pub unsigned-at-spec : {M : Type 1} → statement M
 unsigned-at-spec =

@@ -2,6 +2,7 @@
 use mathlib.Core.Path.{_≡_, refl, sym, _∙_}
 use native.Mathlib.Omega.{arith}
 use Prim.Native.Nat.{_+_}
+use Rattle.layout.specs.Limits.{base}
 use Rattle.at_once.proofs.AtOnce.{under-start, under-more, under-value}
 use borrow.Author.Needs.{needs}
 use Rattle.at_once.proofs.varint.Statement.{statement}
@@ -9,11 +10,11 @@ use Rattle.at_once.proofs.varint.Tie as tie
 
 returns-2 : tie.Need-returns-2
 returns-2 c =
-    under-value (under-start _ _ _ (c .before .before .before .before .before .new .ensures)) (c .before .before .before .before .before .before .if1 .left) _ _ refl (sym (c .before .before .before .push .ensures) ∙ c .before .p .given .1)
+    under-value (under-start base _ _ _ (c .before .before .before .before .before .new .ensures)) (c .before .before .before .before .before .before .if1 .left) _ _ refl (sym (c .before .before .before .push .ensures) ∙ c .before .p .given .1)
 
 returns-5 : tie.Need-returns-5
 returns-5 c =
-    let u = under-more {c = c .before .before .before .before .before .before .before .before .before .before .before .before .before .before .before .args .chunk .now} {first = c .before .before .before .before .before .before .before .before .before .before .before .before .before .before .before .args .at} (under-start _ _ _ (c .before .before .before .before .before .before .before .before .before .before .before .before .new .ensures)) (c .before .before .before .before .before .before .before .before .before .before .before .before .before .if1 .left) _ (sym (c .before .before .before .before .before .before .before .before .before .before .push .ensures) ∙ c .before .before .before .before .before .before .before .p2 .given .1) in
+    let u = under-more {c = c .before .before .before .before .before .before .before .before .before .before .before .before .before .before .before .args .chunk .now} {first = c .before .before .before .before .before .before .before .before .before .before .before .before .before .before .before .args .at} (under-start base _ _ _ (c .before .before .before .before .before .before .before .before .before .before .before .before .new .ensures)) (c .before .before .before .before .before .before .before .before .before .before .before .before .before .if1 .left) _ (sym (c .before .before .before .before .before .before .before .before .before .before .push .ensures) ∙ c .before .before .before .before .before .before .before .p2 .given .1) in
     let e : c .before .before .before .before .before .before .before .before .before .before .before .before .before .before .before .args .at + 2 ≡ c .before .before .before .before .before .before .before .before .before .before .before .before .before .before .before .args .at + 1 + 1 = omega arith in
     under-value u (c .before .before .before .before .before .if2 .left) _ _ e (sym (c .before .before .before .push2 .ensures) ∙ c .before .q .given .1)
 

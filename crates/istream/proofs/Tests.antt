@@ -1,13 +1,13 @@
 -- The tests that the code makes of a state, as the definitions make them: where the message stands, and soundness.
 use mathlib.Core.Path.{_≡_, refl, sym, ap, _∙_}
 use mathlib.Core.List.{[], _∷_}
-use Prim.Native.Nat.{ℕ, zero, suc, _<_}
+use Prim.Native.Nat.{ℕ, zero, suc, _≤_}
 use native.Mathlib.Omega.{arith}
 use lib.Dec.{eqb}
 use borrow.Author.Tests.{le-leb, eq-eqb, ne-eqb}
 use types.Run.{OneOf, miss}
 use denote.Enum.Declared.{tagOf}
-use Rattle.layout.specs.Limits.{pick}
+use Rattle.layout.specs.Limits.{Limits, pick}
 use Rattle.machine.specs.Machine.{inHeader, ending, judge}
 use Rattle.layout.specs.Message.{Verdict, complete, incomplete, brokenAt}
 use Rattle.machine.specs.Call.{State, reading, owing, broke, verdictAt, verdictSo, standingOf, standing}
@@ -19,14 +19,14 @@ use Rattle.istream.specs.declared.Standing.{Standing}
 use Rattle.istream.specs.declared.Standing.the-variants.{Complete, Incomplete, Invalid}
 use Rattle.istream.specs.declared.Status.the-variants.{Incomplete as NotYet}
 use Rattle.istream.specs.Stream.{standingIn, statusIn, statusOf, verdictIn, soundStream}
-use Rattle.phase.specs.Phases.{soundPhase}
+use Rattle.phase.specs.Phases.{soundPhase, carriedAt}
 use Rattle.phase.proofs.Phase.{the-type}
 use Rattle.istream.proofs.Standing.{the-type as standing-type}
 
 -- ---- where the message stands
 
 abbrev at : ℕ → Phase → IStream
-at d p = record { phase = p; depth = d }
+at d p = record { phase = p; carried = carriedAt d }
 
 pub status-else : (d : ℕ) (p : Phase) → OneOf (1 ∷ 2 ∷ 3 ∷ 4 ∷ 5 ∷ 6 ∷ 7 ∷ 8 ∷ 9 ∷ 10 ∷ []) (tagOf the-type p) → Incomplete ≡ statusOf (at d p)
 unfolding statusOf standing ending judge
@@ -45,7 +45,7 @@ status-else d Broken o = absurd (miss (1 ∷ 2 ∷ 3 ∷ 4 ∷ 5 ∷ 6 ∷ 7 ∷
 
 pub status-broken : (s : IStream) → s .phase ≡ Broken → Invalid ≡ statusOf s
 unfolding statusOf standing
-status-broken s e = sym (ap (λ (p : Phase). statusOf (at (s .depth) p)) e)
+status-broken s e = sym (ap (λ (p : Phase). statusOf (at (s .carried .depth) p)) e)
 
 -- at byte k of a header
 header-status : ℕ → ℕ → ℕ → Standing
@@ -65,17 +65,17 @@ some-taken d zero v h = absurd (h refl)
 some-taken d (suc k) v h = refl
 
 module _ (s : IStream) (a : Acc) (e : s .phase ≡ Header a) where
-  is-header : header-status (s .depth) (a .taken) (a .value) ≡ statusOf s
-  is-header = sym (at-header (s .depth) a) ∙ sym (ap (λ (p : Phase). statusOf (at (s .depth) p)) e)
+  is-header : header-status (s .carried .depth) (a .taken) (a .value) ≡ statusOf s
+  is-header = sym (at-header (s .carried .depth) a) ∙ sym (ap (λ (p : Phase). statusOf (at (s .carried .depth) p)) e)
 
-  pub status-complete : a .taken ≡ 0 → s .depth ≡ 0 → Complete ≡ statusOf s
-  status-complete t h = sym (none-taken (s .depth) (a .taken) (a .value) t ∙ simp (eq-eqb (s .depth) 0 h)) ∙ is-header
+  pub status-complete : a .taken ≡ 0 → s .carried .depth ≡ 0 → Complete ≡ statusOf s
+  status-complete t h = sym (none-taken (s .carried .depth) (a .taken) (a .value) t ∙ simp (eq-eqb (s .carried .depth) 0 h)) ∙ is-header
 
-  pub status-deep : a .taken ≡ 0 → (s .depth ≡ 0 → ⊥) → Incomplete ≡ statusOf s
-  status-deep t h = sym (none-taken (s .depth) (a .taken) (a .value) t ∙ simp (ne-eqb (s .depth) 0 h)) ∙ is-header
+  pub status-deep : a .taken ≡ 0 → (s .carried .depth ≡ 0 → ⊥) → Incomplete ≡ statusOf s
+  status-deep t h = sym (none-taken (s .carried .depth) (a .taken) (a .value) t ∙ simp (ne-eqb (s .carried .depth) 0 h)) ∙ is-header
 
   pub status-taken : (a .taken ≡ 0 → ⊥) → Incomplete ≡ statusOf s
-  status-taken h = some-taken (s .depth) (a .taken) (a .value) h ∙ is-header
+  status-taken h = some-taken (s .carried .depth) (a .taken) (a .value) h ∙ is-header
 
 -- the verdict of a call is of where the message stands
 pub verdict-else : (s : Standing) → OneOf (1 ∷ 2 ∷ []) (tagOf standing-type s) → NotYet ≡ verdictIn s
@@ -96,6 +96,6 @@ verdict-is broke = refl
 
 -- ---- soundness
 
-pub sound-in : (s : IStream) (p : Phase) → s .depth < 256 → s .phase ≡ p → soundPhase p ≡ soundStream s
+pub sound-in : (L : Limits) (s : IStream) (p : Phase) → s .carried .depth ≤ L .depth → s .phase ≡ p → soundPhase L p ≡ soundStream L s
 unfolding soundStream
-sound-in s p h e = simp (le-leb (s .depth) 255 (omega arith)) (sym (ap soundPhase e))
+sound-in L s p h e = simp (le-leb (s .carried .depth) (L .depth) h) (sym (ap (soundPhase L) e))

@@ -3,13 +3,15 @@ use Prim.Native.Nat.{ℕ, _-_}
 use mathlib.Core.Bool.{Bool, _&&_}
 use mathlib.Core.List.{List}
 use lib.Dec.{leb}
-use Rattle.layout.specs.Limits.{base, pick}
+use Rattle.layout.specs.Limits.{Limits, pick}
 use Rattle.layout.specs.Message.{Verdict, complete, incomplete, brokenAt}
 use Rattle.machine.specs.Call.{State, reading, owing, broke, Called, call, standing}
 use Rattle.machine.specs.Call as calls
 use Rattle.types.specs.Types.{refusal}
 use Rattle.event.specs.Event.{declared}
-use Rattle.phase.specs.Phases.{stateAt, phaseOf, depthOf, soundPhase}
+use Rattle.phase.specs.declared.Carried.{Carried}
+use Rattle.phase.specs.declared.Phase.{Phase}
+use Rattle.phase.specs.Phases.{stateAt, phaseOf, carriedOf, soundPhase}
 use Rattle.stepped.specs.Steps.{covered}
 use Rattle.stepped.specs.declared.Stepped.{Stepped}
 use Rattle.stepped.specs.declared.Stepped.the-variants.{On, Raised, Bad}
@@ -27,14 +29,14 @@ use Rattle.istream.specs.declared.Taken.{Taken}
 
 -- as the machine's
 abbrev pub stateOf : IStream → State
-stateOf s = stateAt (s .depth) (s .phase)
+stateOf s = stateAt (s .carried .depth) (s .phase)
 
 -- and back
 abbrev pub streamIn : State → IStream
-streamIn st = record { phase = phaseOf st; depth = depthOf st }
+streamIn st = record { phase = phaseOf st; carried = carriedOf st }
 
-unfoldable pub soundStream : IStream → Bool
-soundStream s = leb (s .depth) (base .depth) && soundPhase (s .phase)
+unfoldable pub soundStream : Limits → IStream → Bool
+soundStream L s = leb (s .carried .depth) (L .depth) && soundPhase L (s .phase)
 
 -- ---- a call
 
@@ -68,30 +70,34 @@ answerIn n calls.invalid = Answers.Refused (refusal 2)
 unfoldable pub fedIn : Called → Fed
 fedIn c = record { read = c .read; answer = answerIn (c .read) (c .answer); stream = streamIn (c .state) }
 
+-- a call's end: the bytes read, the answer, and the reader in a phase with what is carried along
+abbrev pub fedAt : ℕ → Answer → Phase → Carried → Fed
+fedAt n a p k = record { read = n; answer = a; stream = record { phase = p; carried = k } }
+
 -- where a byte leaves a call that has read n: at an event, broken, or at the chunk's end
 abbrev pub stopped : ℕ → Stepped → Fed
-stopped n (On p d) = record { read = n; answer = Answers.Status (verdictIn (statusOf (record { phase = p; depth = d }))); stream = record { phase = p; depth = d } }
-stopped n (Raised e p d) = record { read = n; answer = Answers.Event e; stream = record { phase = p; depth = d } }
+stopped n (On p k) = fedAt n (Answers.Status (verdictIn (statusOf (record { phase = p; carried = k })))) p k
+stopped n (Raised e p k) = fedAt n (Answers.Event e) p k
 stopped n Bad = record { read = n; answer = Answers.Refused (refusal 2); stream = streamIn broke }
 
 -- "Number 1: the reader state isn't sound; nothing is read and the state returns unaltered."
-abbrev pub checked : IStream → List ℕ → Fed
-checked s c =
-    pick (soundStream s) (fedIn (call base (stateOf s) c)) (record { read = 0; answer = Answers.Refused (refusal 1); stream = s })
+abbrev pub checked : Limits → IStream → List ℕ → Fed
+checked L s c =
+    pick (soundStream L s) (fedIn (call L (stateOf s) c)) (record { read = 0; answer = Answers.Refused (refusal 1); stream = s })
 
 -- "Each later call, an empty chunk too, gives 2 with nothing read."
 abbrev pub still : IStream → Fed
 still s = record { read = 0; answer = Answers.Refused (refusal 2); stream = s }
 
-abbrev pub fedFrom : State → IStream → List ℕ → Fed
-fedFrom (reading d p) s c = checked s c
-fedFrom (owing d id r) s c = checked s c
-fedFrom broke s c = still s
+abbrev pub fedFrom : Limits → State → IStream → List ℕ → Fed
+fedFrom L (reading d p) s c = checked L s c
+fedFrom L (owing d id r) s c = checked L s c
+fedFrom L broke s c = still s
 
 -- a broken reader is always sound, whatever its depth
-unfoldable pub fedOf : IStream → List ℕ → Fed
-fedOf s c = fedFrom (stateOf s) s c
+unfoldable pub fedOf : Limits → IStream → List ℕ → Fed
+fedOf L s c = fedFrom L (stateOf s) s c
 
--- the same, with the answer apart from the state
-unfoldable pub takenOf : IStream → List ℕ → Taken
-takenOf s c = record { heard = record { read = fedOf s c .read; answer = fedOf s c .answer }; stream = fedOf s c .stream }
+-- a call's answer apart from the state that it leaves
+unfoldable pub takenOf : Limits → IStream → List ℕ → Taken
+takenOf L s c = record { heard = record { read = fedOf L s c .read; answer = fedOf L s c .answer }; stream = fedOf L s c .stream }

@@ -8,10 +8,11 @@ ghost use Rattle.machine.specs.Machine.{inPayload};
 ghost use Rattle.machine.specs.Call.{reading, fresh, call};
 ghost use Rattle.types.specs.Types.{rawSort};
 ghost use Rattle.phase.specs.Sound.{AtBytes};
-ghost use Rattle.istream.specs.Stream.{stateOf, streamIn, soundStream, statusOf, verdictIn, stopped, fedIn, fedOf, takenOf};
+ghost use Rattle.istream.specs.Stream.{stateOf, streamIn, soundStream, statusOf, verdictIn, fedAt, stopped, fedIn, fedOf, takenOf};
 use at_once::Quick;
 use at_once::at_once;
 use event::Event;
+use phase::Carried;
 use phase::Phase;
 use phase::anew;
 use phase::idle;
@@ -23,9 +24,10 @@ use stepped::piece;
 use types::Error;
 use types::RawType;
 
+// What is under way, and what goes along with it.
 pub struct IStream {
     pub phase: Phase,
-    pub depth: u8,
+    pub carried: Carried,
 }
 
 // A verdict, once a chunk is spent: the bytes so far end at a field boundary with no sequence open, or within something.
@@ -75,91 +77,76 @@ fn verdict(s: Standing) -> Status
     }
 }
 
+// A call's end. Every call that alters the reader makes it here.
+fn answered(read: usize, answer: Answer, phase: Phase, carried: Carried) -> Fed
+    ensures { λ r. ⌜ r ≡ fedAt read answer phase carried ⌝ }
+{
+    Fed {
+        read,
+        answer,
+        stream: IStream { phase, carried },
+    }
+}
+
 // Where a byte leaves a call that has read n.
 fn stop(n: usize, s: Stepped) -> Fed
     ensures { λ r. ⌜ r ≡ stopped n s ⌝ }
 {
     match s {
-        Stepped::On(phase, depth) => {
-            let stream = IStream { phase, depth };
-            Fed {
-                read: n,
-                answer: Answer::Status(verdict(stream.status())),
-                stream,
-            }
+        Stepped::On(phase, carried) => {
+            let stream = IStream { phase, carried };
+            let status = verdict(stream.status());
+            answered(n, Answer::Status(status), phase, carried)
         }
-        Stepped::Raised(event, phase, depth) => Fed {
-            read: n,
-            answer: Answer::Event(event),
-            stream: IStream { phase, depth },
-        },
-        Stepped::Bad => Fed {
-            read: n,
-            answer: Answer::Refused(Error::InvalidMsg),
-            stream: IStream {
-                phase: Phase::Broken,
-                depth: 0,
-            },
-        },
+        Stepped::Raised(event, phase, carried) => answered(n, Answer::Event(event), phase, carried),
+        Stepped::Bad => answered(
+            n,
+            Answer::Refused(Error::InvalidMsg),
+            Phase::Broken,
+            Carried { depth: 0 },
+        ),
     }
 }
 
 // Reads on byte by byte.
 fn scan(stream: IStream, chunk: &[u8]) -> Fed
-    requires { ⌜ AtBytes (stateOf stream) ⌝ }
+    requires { ⌜ AtBytes base (stateOf stream) ⌝ }
     ensures { λ r. ⌜ r ≡ fedIn (call base (stateOf stream) (now (chunk .entry))) ⌝ }
 {
     let mut phase = stream.phase;
-    let mut depth = stream.depth;
+    let mut carried = stream.carried;
     let mut n: usize = 0;
     while n < chunk.len() {
-        let s = step(depth, phase, chunk[n]);
+        let s = step(carried, phase, chunk[n]);
         let read = n + 1;
-        let Stepped::On(p, d) = s else {
+        let Stepped::On(p, k) = s else {
             return stop(read, s);
         };
         phase = p;
-        depth = d;
+        carried = k;
         n = read;
     }
-    stop(n, Stepped::On(phase, depth))
+    stop(n, Stepped::On(phase, carried))
 }
 
 // A payload's bytes in one piece, as many as the chunk has.
-fn payload(depth: u8, id: u32, r: RawType, total: u32, offset: u32, chunk: &[u8]) -> Fed
+fn payload(carried: Carried, id: u32, r: RawType, total: u32, offset: u32, chunk: &[u8]) -> Fed
     requires { ⌜ offset < total ⌝ }
-    ensures { λ f. ⌜ f ≡ fedIn (call base (reading depth (inPayload id (rawSort r) total offset)) (now (chunk .entry))) ⌝ }
+    ensures { λ f. ⌜ f ≡ fedIn (call base (reading (carried .depth) (inPayload id (rawSort r) total offset)) (now (chunk .entry))) ⌝ }
 {
     let len = chunk.len();
     let owed = (total - offset) as usize;
     if len == 0 {
-        return Fed {
-            read: 0,
-            answer: Answer::Status(Status::Incomplete),
-            stream: IStream {
-                phase: Phase::Payload(id, r, total, offset),
-                depth,
-            },
-        };
+        let here = Phase::Payload(id, r, total, offset);
+        return answered(0, Answer::Status(Status::Incomplete), here, carried);
     }
     if len < owed {
-        return Fed {
-            read: len,
-            answer: Answer::Event(piece(id, r, total, offset, len)),
-            stream: IStream {
-                phase: Phase::Payload(id, r, total, offset + (len as u32)),
-                depth,
-            },
-        };
+        let part = Answer::Event(piece(id, r, total, offset, len));
+        let rest = Phase::Payload(id, r, total, offset + (len as u32));
+        return answered(len, part, rest, carried);
     }
-    Fed {
-        read: owed,
-        answer: Answer::Event(piece(id, r, total, offset, owed)),
-        stream: IStream {
-            phase: idle(),
-            depth,
-        },
-    }
+    let last = Answer::Event(piece(id, r, total, offset, owed));
+    answered(owed, last, idle(), carried)
 }
 
 impl IStream {
@@ -168,7 +155,7 @@ impl IStream {
     {
         IStream {
             phase: idle(),
-            depth: 0,
+            carried: Carried { depth: 0 },
         }
     }
 
@@ -177,7 +164,7 @@ impl IStream {
         ensures { λ r. ⌜ r ≡ statusOf self ⌝ }
     {
         let phase = self.phase;
-        let depth = self.depth;
+        let depth = self.carried.depth;
         match phase {
             Phase::Header(a) => {
                 if a.taken == 0 {
@@ -194,7 +181,7 @@ impl IStream {
 
     // Whether a reader can be in this state; a depth beyond 255 has no place in its byte.
     pub fn sound(self) -> bool
-        ensures { λ r. ⌜ r ≡ soundStream self ⌝ }
+        ensures { λ r. ⌜ r ≡ soundStream base self ⌝ }
     {
         let phase = self.phase;
         sound(phase)
@@ -202,10 +189,10 @@ impl IStream {
 
     // A call from any state, byte by byte.
     fn plain(self, chunk: &[u8]) -> Fed
-        ensures { λ r. ⌜ r ≡ fedOf self (now (chunk .entry)) ⌝ }
+        ensures { λ r. ⌜ r ≡ fedOf base self (now (chunk .entry)) ⌝ }
     {
         let phase = self.phase;
-        let depth = self.depth;
+        let carried = self.carried;
         if !self.sound() {
             return Fed {
                 read: 0,
@@ -214,15 +201,8 @@ impl IStream {
             };
         }
         match phase {
-            Phase::Payload(id, r, total, offset) => payload(depth, id, r, total, offset, chunk),
-            Phase::Empty(id, r) => Fed {
-                read: 0,
-                answer: Answer::Event(piece(id, r, 0, 0, 0)),
-                stream: IStream {
-                    phase: idle(),
-                    depth,
-                },
-            },
+            Phase::Payload(id, r, total, offset) => payload(carried, id, r, total, offset, chunk),
+            Phase::Empty(id, r) => answered(0, Answer::Event(piece(id, r, 0, 0, 0)), idle(), carried),
             Phase::Broken => Fed {
                 read: 0,
                 answer: Answer::Refused(Error::InvalidMsg),
@@ -234,25 +214,21 @@ impl IStream {
 
     // Reads on to the next event, or to the chunk's end and the verdict.
     pub fn feed(self, chunk: &[u8]) -> Fed
-        ensures { λ r. ⌜ r ≡ fedOf self (now (chunk .entry)) ⌝ }
+        ensures { λ r. ⌜ r ≡ fedOf base self (now (chunk .entry)) ⌝ }
     {
         let phase = self.phase;
-        let depth = self.depth;
+        let carried = self.carried;
         if let Phase::Payload(id, r, total, offset) = phase {
             if sound_payload(id, r, total, offset) {
-                return payload(depth, id, r, total, offset, chunk);
+                return payload(carried, id, r, total, offset, chunk);
             }
         }
         let other = self.phase;
-        let q = at_once(depth, other, chunk);
-        let Quick::Done(p, d, e, n) = q else {
+        let q = at_once(carried, other, chunk);
+        let Quick::Done(p, k, e, n) = q else {
             return again(self, chunk);
         };
-        Fed {
-            read: n,
-            answer: Answer::Event(e),
-            stream: IStream { phase: p, depth: d },
-        }
+        answered(n, Answer::Event(e), p, k)
     }
 }
 
@@ -262,28 +238,21 @@ fn fed_anew(f: Fed) -> Fed
     let answer = f.answer;
     let stream = f.stream;
     let phase = stream.phase;
-    Fed {
-        read: f.read,
-        answer,
-        stream: IStream {
-            phase: anew(phase),
-            depth: stream.depth,
-        },
-    }
+    answered(f.read, answer, anew(phase), stream.carried)
 }
 
 // The plain call, out of line: it stands at two places, and the state goes in and comes back as a copy made anew from its numbers. So the
 // state of a loop over `feed` need not stand in memory, with its padding, for this call's sake.
 fn again(stream: IStream, chunk: &[u8]) -> Fed
-    ensures { λ r. ⌜ r ≡ fedOf stream (now (chunk .entry)) ⌝ }
+    ensures { λ r. ⌜ r ≡ fedOf base stream (now (chunk .entry)) ⌝ }
 {
     let phase = stream.phase;
-    let depth = stream.depth;
+    let carried = stream.carried;
     let copy = IStream {
         phase: anew(phase),
-        depth,
+        carried,
     };
-    if depth == 0 {
+    if carried.depth == 0 {
         return fed_anew(copy.plain(chunk));
     }
     fed_anew(copy.plain(chunk))
@@ -291,7 +260,7 @@ fn again(stream: IStream, chunk: &[u8]) -> Fed
 
 // A call's answer, and beside it the reader after the call.
 fn split(r: IStream, chunk: &[u8]) -> Taken
-    ensures { λ l. ⌜ l ≡ takenOf r (now (chunk .entry)) ⌝ }
+    ensures { λ l. ⌜ l ≡ takenOf base r (now (chunk .entry)) ⌝ }
 {
     let f = r.feed(chunk);
     let read = f.read;
@@ -305,7 +274,7 @@ fn split(r: IStream, chunk: &[u8]) -> Taken
 
 // The thin feed: the reader is taken out of the reference, fed by value and stored back.
 pub fn feed_ref(r: &mut IStream, chunk: &[u8]) -> Heard
-    ensures { λ a. ⌜ (a ≡ takenOf (now (r .entry)) (now (chunk .entry)) .heard) × (now (r .exit) ≡ takenOf (now (r .entry)) (now (chunk .entry)) .stream) ⌝ }
+    ensures { λ a. ⌜ (a ≡ takenOf base (now (r .entry)) (now (chunk .entry)) .heard) × (now (r .exit) ≡ takenOf base (now (r .entry)) (now (chunk .entry)) .stream) ⌝ }
 {
     let f = split(*r, chunk);
     *r = f.stream;
@@ -314,7 +283,7 @@ pub fn feed_ref(r: &mut IStream, chunk: &[u8]) -> Heard
 
 // The reader lent by mutable reference, for callers that have it by value: what a main loop calls.
 pub fn lent(r: IStream, chunk: &[u8]) -> Taken
-    ensures { λ l. ⌜ l ≡ takenOf r (now (chunk .entry)) ⌝ }
+    ensures { λ l. ⌜ l ≡ takenOf base r (now (chunk .entry)) ⌝ }
 {
     let mut m = r;
     let a = feed_ref(&mut m, chunk);

@@ -6,6 +6,7 @@ use Rattle.at_once.specs.AtOnce.{RightFrom}
 use Rattle.istream.specs.Stream.{stateOf}
 use Rattle.istream.proofs.Laws.{payload-owed, from-payload, from-once}
 use mathlib.Core.Path.{sym, _∙_, subst}
+use native.Mathlib.Omega.{arith}
 use mir.Val.{Fits}
 use mir.Syntax.{w8}
 use borrow.Author.Needs.{needs}
@@ -14,21 +15,21 @@ use Rattle.istream.proofs.IStream.feed.Tie as tie
 
 payload-requires : tie.Need-payload-requires
 payload-requires c κs =
-    payload-owed (c .before .before .before .phase .given .0 .0) (c .before .before .before .phase .given .0 .1 .0) _ _ (sym (c .before .sound-payload .ensures) ∙ c .if1 .taken)
+    payload-owed base (c .before .before .before .phase .given .0 .0) (c .before .before .before .phase .given .0 .1 .0) _ _ (sym (c .before .sound-payload .ensures) ∙ c .if1 .taken)
 
 returns : tie.Need-returns
 returns c =
-    let f : Fits w8 (c .before .before .before .before .before .before .before .args .self .depth) = search needs in
-    from-payload (c .before .before .before .before .before .before .before .args .self) (c .before .before .before .before .before .before .before .args .chunk .now) _ _ _ _ (c .payload .result) (f .fits) (c .before .before .before .before .phase .given .1) (sym (c .before .before .sound-payload .ensures) ∙ c .before .if1 .taken) (c .payload .ensures)
+    let f : Fits w8 (c .before .before .before .before .before .before .before .before .args .self .carried .depth) = search needs in
+    from-payload base (c .before .before .before .before .before .before .before .before .args .self) (c .before .before .before .before .before .before .before .before .args .chunk .now) _ _ _ _ (c .payload .result) (omega (arith, f .fits)) (c .before .before .before .before .phase .given .1) (sym (c .before .before .sound-payload .ensures) ∙ c .before .if1 .taken) (c .payload .ensures)
 
 returns-3 : tie.Need-returns-3
 returns-3 c =
-    let f : Fits w8 (c .before .before .before .before .before .before .args .self .depth) = search needs in
-    from-once (c .before .before .before .before .before .before .args .self) (c .before .before .before .before .before .before .args .chunk .now) _ _ _ _ (f .fits) (subst (λ (x : Quick). RightFrom (c .before .before .before .before .before .before .args .self .phase) x (call base (stateOf (c .before .before .before .before .before .before .args .self)) (c .before .before .before .before .before .before .args .chunk .now))) (c .before .q .given .1) (c .before .before .before .at-once .ensures))
+    let f : Fits w8 (c .before .before .before .before .before .before .before .before .args .self .carried .depth) = search needs in
+    c .answered .ensures ∙ from-once base (c .before .before .before .before .before .before .before .before .args .self) (c .before .before .before .before .before .before .before .before .args .chunk .now) _ _ _ _ (omega (arith, f .fits)) (subst (λ (x : Quick). RightFrom base (c .before .before .before .before .before .before .before .before .args .self .phase) x (call base (stateOf (c .before .before .before .before .before .before .before .before .args .self)) (c .before .before .before .before .before .before .before .before .args .chunk .now))) (c .before .before .q .given .1) (c .before .before .before .before .at-once .ensures))
 
 pub feed-spec : {M : Type 1} → statement M
 feed-spec =
     tie.close
     (tie.spec
     (λ c. search needs) (λ c κs. search needs) payload-requires returns (λ c κs. search needs) (λ c. search needs)
-    (λ c. search needs) (λ c κs. search needs) (λ c. search needs) returns-3)
+    (λ c. search needs) (λ c κs. search needs) (λ c. search needs) (λ c κs. search needs) returns-3)

@@ -17,7 +17,7 @@ returns-4 : tie.Need-returns-4
 returns-4 c = status-broken (c .before .before .args .self) (c .enum-told .given .1)
 
 returns-5 : tie.Need-returns-5
-returns-5 c = status-else (c .before .args .self .depth) (c .before .args .self .phase) (c .match .keys3)
+returns-5 c = status-else (c .before .args .self .carried .depth) (c .before .args .self .phase) (c .match .keys3)
 
 pub status-spec : {M : Type 1} → statement M
 status-spec =

@@ -3,6 +3,7 @@
 use Prim.Native.Nat.{ℕ, zero, suc, _+_, _*_}
 use mathlib.Core.List.{List, [], _∷_, _++_}
 use lib.ListN.{length, take, drop}
+use Rattle.layout.specs.Limits.{Limits}
 use Rattle.layout.specs.Event as layout
 use Rattle.layout.specs.Message.{complete, incomplete, Bytes}
 use Rattle.machine.specs.Call.{fresh}
@@ -25,19 +26,19 @@ pub record Fed : Type 0 where
   pub stream : IStream
 
 -- at most n calls
-unfoldable pub feeds : ℕ → IStream → List ℕ → Fed
-feeds zero s c = record { events = []; read = 0; answer = unfinished; stream = s }
-feeds (suc n) s c =
-    let r = fedOf s c in
+unfoldable pub feeds : Limits → ℕ → IStream → List ℕ → Fed
+feeds L zero s c = record { events = []; read = 0; answer = unfinished; stream = s }
+feeds L (suc n) s c =
+    let r = fedOf L s c in
     elim (r .answer) [
-      | Event e ↦ (let q = feeds n (r .stream) (drop (r .read) c) in record { events = eventOf c e ∷ q .events; read = r .read + q .read; answer = q .answer; stream = q .stream })
+      | Event e ↦ (let q = feeds L n (r .stream) (drop (r .read) c) in record { events = eventOf c e ∷ q .events; read = r .read + q .read; answer = q .answer; stream = q .stream })
       | Status v ↦ record { events = []; read = r .read; answer = ended (Status v); stream = r .stream }
       | Refused e ↦ record { events = []; read = r .read; answer = ended (Refused e); stream = r .stream }
     ]
 
 -- two calls a byte, and two more, are enough (proofs/Ends)
-abbrev pub feed : IStream → List ℕ → Fed
-feed s c = feeds (2 * length c + 2) s c
+abbrev pub feed : Limits → IStream → List ℕ → Fed
+feed L s c = feeds L (2 * length c + 2) s c
 
 -- ---- a list of chunks
 
@@ -56,11 +57,11 @@ pub record Run : Type 0 where
   pub read : ℕ
   pub stream : IStream
 
-unfoldable pub feedAll : IStream → ℕ → List (List ℕ) → Run
-feedAll s n [] = record { events = []; verdicts = []; read = n; stream = s }
-feedAll s n (c ∷ cs) =
-    let r = feed s c in
-    let q = feedAll (r .stream) (n + r .read) cs in
+unfoldable pub feedAll : Limits → IStream → ℕ → List (List ℕ) → Run
+feedAll L s n [] = record { events = []; verdicts = []; read = n; stream = s }
+feedAll L s n (c ∷ cs) =
+    let r = feed L s c in
+    let q = feedAll L (r .stream) (n + r .read) cs in
     record { events = r .events ++ q .events; verdicts = told (n + r .read) (r .answer) ∷ q .verdicts; read = q .read; stream = q .stream }
 
 -- ---- any calls
@@ -72,7 +73,7 @@ givenBy c (Status v) = []
 givenBy c (Refused e) = []
 
 -- The reader after calls on any chunks whatever, a chunk's rest handed in or not: the bytes that were read, and the events given.
-pub data Reached : List ℕ → List layout.Event → IStream → Type 0 where
-  start : Reached [] [] (streamIn fresh)
-  called : {bs : List ℕ} {es : List layout.Event} {s : IStream} → Reached bs es s → (c : List ℕ) → Bytes c
-      → Reached (bs ++ take (fedOf s c .read) c) (es ++ givenBy c (fedOf s c .answer)) (fedOf s c .stream)
+pub data Reached (L : Limits) : List ℕ → List layout.Event → IStream → Type 0 where
+  start : Reached L [] [] (streamIn fresh)
+  called : {bs : List ℕ} {es : List layout.Event} {s : IStream} → Reached L bs es s → (c : List ℕ) → Bytes c
+      → Reached L (bs ++ take (fedOf L s c .read) c) (es ++ givenBy c (fedOf L s c .answer)) (fedOf L s c .stream)

@@ -3,6 +3,7 @@
 use Prim.Native.Nat.{ℕ}
 use mathlib.Core.Path.{_≡_, refl}
 use mathlib.Core.List.{List, [], _∷_}
+use Rattle.layout.specs.Limits.{base}
 use Rattle.layout.specs.Varint.{push}
 use Rattle.machine.specs.Machine.{atHeader, atWord, atUnsignedCount, atSignedCount, atFloatCount, atArrayWord, atUnsigned, atSigned, within, atFloat, atByte, step, ending, judge}
 use Rattle.machine.specs.Call.{fresh, broke, standing, scanned, scan, call}
@@ -10,6 +11,7 @@ use Rattle.types.specs.Types.{refusal}
 use Rattle.varint.specs.Varint.{soundAcc}
 use Rattle.event.specs.declared.Event.the-variants.{Unsigned}
 use Rattle.phase.specs.declared.Phase.the-variants.{Header}
+use Rattle.phase.specs.Phases.{carriedAt}
 use Rattle.istream.specs.declared.IStream.{IStream}
 use Rattle.istream.specs.declared.Standing.{Standing}
 use Rattle.istream.specs.declared.Standing.the-variants as Standings
@@ -29,7 +31,7 @@ pub record Row : Type 0 where
 
 abbrev said : Row → Row
 said r =
-    let f = fedOf (r .before) (r .chunk) in
+    let f = fedOf base (r .before) (r .chunk) in
     record { before = r .before; chunk = r .chunk; read = f .read; answer = f .answer; after = f .stream; stands = statusOf (f .stream) }
 
 abbrev saidAll : List Row → List Row
@@ -38,7 +40,7 @@ saidAll (r ∷ rs) = said r ∷ saidAll rs
 
 -- a header of ten bytes taken
 abbrev wild : IStream
-wild = record { phase = Header (record { value = 0; taken = 10 }); depth = 0 }
+wild = record { phase = Header (record { value = 0; taken = 10 }); carried = carriedAt 0 }
 
 -- unsigned, id 1, 5
 abbrev five : List ℕ

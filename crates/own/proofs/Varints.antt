@@ -164,33 +164,33 @@ module _ (a : Acc) (b : ℕ) (k : a .taken ≤ 9) (s : a .value < 128 ^ (a .take
   sum : bitOr (a .value) (digit (a .taken) b) ≡ a .value + digit (a .taken) b
   sum = joined (a .value) b (a .taken) s
 
-  was-last : (v : ℕ) → pushed a b ≡ Value v → Last a b v
+  was-last : (v : ℕ) → pushed base a b ≡ Value v → Last a b v
   was-last v e = go (ltb (a .taken) 9) refl (ltb b 128) refl (ltb b 2) refl
     where
       go : (x : Bool) → ltb (a .taken) 9 ≡ x → (y : Bool) → ltb b 128 ≡ y → (z : Bool) → ltb b 2 ≡ z → Last a b v
       go true p true q z r =
-          let f = pushed-ends a b (ltb-true _ _ p) (ltb-true _ _ q) ∙ e in
+          let f = pushed-ends base a b (ltb-true _ _ p) (ltb-true _ _ q) ∙ e in
           let g : bitOr (a .value) (digit (a .taken) b) ≡ v = cc in
           record { below = ltb-true _ _ q; is = sym g ∙ sum }
-      go true p false q z r = absurd (let f = pushed-on a b (ltb-true _ _ p) (ltb-false _ _ q) ∙ e in let z : _≡_ {A = ℕ} 0 1 = cc in omega arith)
+      go true p false q z r = absurd (let f = pushed-on base a b (ltb-true _ _ p) (ltb-false _ _ q) ∙ e in let z : _≡_ {A = ℕ} 0 1 = cc in omega arith)
       go false p y q true r =
-          let f = pushed-last a b (ltb-false _ _ p) (ltb-true _ _ r) ∙ e in
+          let f = pushed-last base a b (ltb-false _ _ p) (ltb-true _ _ r) ∙ e in
           let g : bitOr (a .value) (digit 9 b) ≡ v = cc in
           let i : a .taken ≡ 9 = omega (arith, ltb-false (a .taken) 9 p) in
           record { below = omega (arith, ltb-true b 2 r); is = sym g ∙ ap (λ (j : ℕ). bitOr (a .value) (digit j b)) (sym i) ∙ sum }
-      go false p y q false r = absurd (let f = pushed-over a b (ltb-false _ _ p) (ltb-false _ _ r) ∙ e in let z : _≡_ {A = ℕ} 0 1 = cc in omega arith)
+      go false p y q false r = absurd (let f = pushed-over base a b (ltb-false _ _ p) (ltb-false _ _ r) ∙ e in let z : _≡_ {A = ℕ} 0 1 = cc in omega arith)
 
-  was-more : (n : Acc) → pushed a b ≡ More n → More-of a b n
+  was-more : (n : Acc) → pushed base a b ≡ More n → More-of a b n
   was-more n e = go (ltb (a .taken) 9) refl (ltb b 128) refl (ltb b 2) refl
     where
       go : (x : Bool) → ltb (a .taken) 9 ≡ x → (y : Bool) → ltb b 128 ≡ y → (z : Bool) → ltb b 2 ≡ z → More-of a b n
-      go true p true q z r = absurd (let f = pushed-ends a b (ltb-true _ _ p) (ltb-true _ _ q) ∙ e in let z : _≡_ {A = ℕ} 0 1 = cc in omega arith)
+      go true p true q z r = absurd (let f = pushed-ends base a b (ltb-true _ _ p) (ltb-true _ _ q) ∙ e in let z : _≡_ {A = ℕ} 0 1 = cc in omega arith)
       go true p false q z r =
-          let f = pushed-on a b (ltb-true _ _ p) (ltb-false _ _ q) ∙ e in
+          let f = pushed-on base a b (ltb-true _ _ p) (ltb-false _ _ q) ∙ e in
           let m : record { value = bitOr (a .value) (digit (a .taken) b); taken = a .taken + 1 } ≡ n = cc in
           record { few = ltb-true _ _ p; above = ltb-false _ _ q; taken = sym (ap (λ (x : Acc). x .taken) m); is = sym (ap (λ (x : Acc). x .value) m) ∙ sum }
-      go false p y q true r = absurd (let f = pushed-last a b (ltb-false _ _ p) (ltb-true _ _ r) ∙ e in let z : _≡_ {A = ℕ} 0 1 = cc in omega arith)
-      go false p y q false r = absurd (let f = pushed-over a b (ltb-false _ _ p) (ltb-false _ _ r) ∙ e in let z : _≡_ {A = ℕ} 0 1 = cc in omega arith)
+      go false p y q true r = absurd (let f = pushed-last base a b (ltb-false _ _ p) (ltb-true _ _ r) ∙ e in let z : _≡_ {A = ℕ} 0 1 = cc in omega arith)
+      go false p y q false r = absurd (let f = pushed-over base a b (ltb-false _ _ p) (ltb-false _ _ r) ∙ e in let z : _≡_ {A = ℕ} 0 1 = cc in omega arith)
 
 abbrev pub Coming : List ℕ → ℕ → ℕ → Acc → Type 0
 Coming t at i a = Under t at i (a .taken) (a .value)
@@ -199,18 +199,18 @@ pub coming-start : (t : List ℕ) (at : ℕ) (a : Acc) → a ≡ start → Comin
 coming-start t at a e = subst (Coming t at at) (sym e) (under-start t at)
 
 module _ {t : List ℕ} {at i : ℕ} {a : Acc} (u : Coming t at i a) (h : i < length t) where
-  pub coming-more : (n : Acc) → getD t i 0 < 256 → pushed a (getD t i 0) ≡ More n → Coming t at (i + 1) n
+  pub coming-more : (n : Acc) → getD t i 0 < 256 → pushed base a (getD t i 0) ≡ More n → Coming t at (i + 1) n
   coming-more n g e =
       let m = was-more a (getD t i 0) (u .few) (u .small) n e in
       subst (λ (k : ℕ). Under t at (i + 1) k (n .value)) (sym (m .taken))
       (subst (λ (v : ℕ). Under t at (i + 1) (a .taken + 1) v) (sym (m .is)) (under-more u h (m .few) (m .above) g))
 
-  pub coming-value : (v : ℕ) → pushed a (getD t i 0) ≡ Value v → 0 < getD t i 0 → Ends t at (λ bs. bs ≡ shortest v) (i + 1)
+  pub coming-value : (v : ℕ) → pushed base a (getD t i 0) ≡ Value v → 0 < getD t i 0 → Ends t at (λ bs. bs ≡ shortest v) (i + 1)
   coming-value v e g =
       let m = was-last a (getD t i 0) (u .few) (u .small) v e in
       reaches (omega arith) (stretch-as (under-value u h (m .below) g) (λ bs q. q ∙ ap shortest (sym (m .is))))
 
-  pub coming-one : (v : ℕ) → pushed a (getD t i 0) ≡ Value v → i ≡ at → Ends t at (λ bs. bs ≡ shortest v) (i + 1)
+  pub coming-one : (v : ℕ) → pushed base a (getD t i 0) ≡ Value v → i ≡ at → Ends t at (λ bs. bs ≡ shortest v) (i + 1)
   coming-one v e g =
       let m = was-last a (getD t i 0) (u .few) (u .small) v e in
       let z : a .taken ≡ 0 = omega (arith, u .place) in

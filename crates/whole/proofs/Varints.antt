@@ -67,32 +67,32 @@ one t i h l =
 pub record Under (t : List ℕ) (at i : ℕ) (a : Acc) : Type 0 where
   pub from : at ≤ i
   pub to : i ≤ length t
-  pub sound : Sound a
+  pub sound : Sound base a
   pub same : varint base (drop at t) ≡ varintFrom base (a .taken) (a .value) (drop i t)
 
 pub under-start : (t : List ℕ) (at : ℕ) (a : Acc) → at ≤ length t → a ≡ start → Under t at at a
-under-start t at a h e = subst (Under t at at) (sym e) (record { from = omega arith; to = h; sound = sound-start; same = refl })
+under-start t at a h e = subst (Under t at at) (sym e) (record { from = omega arith; to = h; sound = sound-start base; same = refl })
 
 module _ {t : List ℕ} {at i : ℕ} {a : Acc} (u : Under t at i a) where
-  pub under-more : (n : Acc) → i < length t → pushed a (getD t i 0) ≡ More n → Under t at (i + 1) n
+  pub under-more : (n : Acc) → i < length t → pushed base a (getD t i 0) ≡ More n → Under t at (i + 1) n
   under-more n h e =
       record {
         from = omega (arith, u .from);
         to = omega arith;
-        sound = sound-more a (getD t i 0) n (u .sound) e;
-        same = u .same ∙ on t i (a .taken) (a .value) h (n .taken) (n .value) (layout-step a (getD t i 0) (u .sound) ∙ ap unanswer e);
+        sound = sound-more base a (getD t i 0) n (u .sound) e;
+        same = u .same ∙ on t i (a .taken) (a .value) h (n .taken) (n .value) (layout-step base a (getD t i 0) (u .sound) ∙ ap unanswer e);
       }
 
-  pub under-value : (v : ℕ) → i < length t → pushed a (getD t i 0) ≡ Value v → Reaches t at (varint base (drop at t)) (Founds.Value v (i + 1))
+  pub under-value : (v : ℕ) → i < length t → pushed base a (getD t i 0) ≡ Value v → Reaches t at (varint base (drop at t)) (Founds.Value v (i + 1))
   under-value v h e =
       record {
-        same = u .same ∙ done t i (a .taken) (a .value) h v (layout-step a (getD t i 0) (u .sound) ∙ ap unanswer e);
+        same = u .same ∙ done t i (a .taken) (a .value) h v (layout-step base a (getD t i 0) (u .sound) ∙ ap unanswer e);
         past = (omega (arith, u .from), omega arith);
       }
 
-  pub under-over : i < length t → pushed a (getD t i 0) ≡ Overlong → Reaches t at (varint base (drop at t)) (Founds.Broken (i + 1))
+  pub under-over : i < length t → pushed base a (getD t i 0) ≡ Overlong → Reaches t at (varint base (drop at t)) (Founds.Broken (i + 1))
   under-over h e =
-      record { same = u .same ∙ over t i (a .taken) (a .value) h (layout-step a (getD t i 0) (u .sound) ∙ ap unanswer e); past = omega arith }
+      record { same = u .same ∙ over t i (a .taken) (a .value) h (layout-step base a (getD t i 0) (u .sound) ∙ ap unanswer e); past = omega arith }
 
   pub under-end : length t ≤ i → Reaches t at (varint base (drop at t)) Founds.Short
   under-end h = record { same = u .same ∙ out t i (a .taken) (a .value) h; past = tt }

@@ -110,7 +110,12 @@ fn unsigned_at(carried: Carried, id: u32, left: u32, chunk: &[u8]) -> Quick
     let Found::Whole(v, n) = found else {
         return Quick::Other;
     };
-    done(n, Event::Unsigned(id, v), unsigneds(id, less(left)), carried)
+    done(
+        n,
+        Event::Unsigned(id, v),
+        unsigneds(id, less(left)),
+        carried,
+    )
 }
 
 fn signed_at(carried: Carried, id: u32, left: u32, chunk: &[u8]) -> Quick

@@ -1,10 +1,10 @@
--- `istream::fed_anew` meets its contract.
+-- `istream::plain::fed_anew` meets its contract.
 use Rattle.phase.specs.declared.Phase.{Phase}
 use Rattle.istream.specs.Stream.{fedAt}
 use mathlib.Core.Path.{ap, _∙_}
 use borrow.Author.Needs.{needs}
-use Rattle.istream.proofs.fed_anew.Statement.{statement}
-use Rattle.istream.proofs.fed_anew.Tie as tie
+use Rattle.istream.proofs.plain.fed_anew.Statement.{statement}
+use Rattle.istream.proofs.plain.fed_anew.Tie as tie
 
 returns : tie.Need-returns
 returns c =

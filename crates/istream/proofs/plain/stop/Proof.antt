@@ -1,11 +1,11 @@
--- `istream::stop` meets its contract.
+-- `istream::plain::stop` meets its contract.
 use mathlib.Core.Path.{sym, ap, _∙_}
 use Rattle.istream.specs.declared.Status.{Status}
 use Rattle.istream.specs.declared.Answer.the-variants as Answers
 use Rattle.istream.specs.Stream.{verdictIn, fedAt, stopped}
 use borrow.Author.Needs.{needs}
-use Rattle.istream.proofs.stop.Statement.{statement}
-use Rattle.istream.proofs.stop.Tie as tie
+use Rattle.istream.proofs.plain.stop.Statement.{statement}
+use Rattle.istream.proofs.plain.stop.Tie as tie
 
 returns : tie.Need-returns
 returns c =

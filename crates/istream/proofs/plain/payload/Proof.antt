@@ -1,10 +1,10 @@
--- `istream::payload` meets its contract: no byte, a part, or the rest.
+-- `istream::plain::payload` meets its contract: no byte, a part, or the rest.
 use mathlib.Core.Path.{_∙_}
 use Rattle.layout.specs.Limits.{base}
 use Rattle.istream.proofs.Calls.{no-bytes, part-read, rest-read}
 use borrow.Author.Needs.{needs}
-use Rattle.istream.proofs.payload.Statement.{statement}
-use Rattle.istream.proofs.payload.Tie as tie
+use Rattle.istream.proofs.plain.payload.Statement.{statement}
+use Rattle.istream.proofs.plain.payload.Tie as tie
 
 returns : tie.Need-returns
 returns c =

@@ -1,8 +1,8 @@
--- `istream::verdict` meets its contract.
+-- `istream::plain::verdict` meets its contract.
 use Rattle.istream.proofs.Tests.{verdict-else}
 use borrow.Author.Needs.{needs}
-use Rattle.istream.proofs.verdict.Statement.{statement}
-use Rattle.istream.proofs.verdict.Tie as tie
+use Rattle.istream.proofs.plain.verdict.Statement.{statement}
+use Rattle.istream.proofs.plain.verdict.Tie as tie
 
 returns-2 : tie.Need-returns-2
 returns-2 c = verdict-else (c .before .args .s) (c .match .keys2)

@@ -1,11 +1,11 @@
--- `istream::again` meets its contract.
+-- `istream::plain::again` meets its contract.
 use Rattle.layout.specs.Limits.{base}
 use Rattle.istream.specs.Stream.{fedOf}
 use Rattle.phase.specs.declared.Phase.{Phase}
 use mathlib.Core.Path.{ap, _∙_}
 use borrow.Author.Needs.{needs}
-use Rattle.istream.proofs.again.Statement.{statement}
-use Rattle.istream.proofs.again.Tie as tie
+use Rattle.istream.proofs.plain.again.Statement.{statement}
+use Rattle.istream.proofs.plain.again.Tie as tie
 
 returns : tie.Need-returns
 returns c =

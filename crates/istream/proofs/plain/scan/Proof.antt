@@ -1,4 +1,4 @@
--- `istream::scan` meets its contract: each turn, the call is what reading on from the state reached comes to.
+-- `istream::plain::scan` meets its contract: each turn, the call is what reading on from the state reached comes to.
 use Prim.Native.Nat.{_≤_, _-_}
 use mathlib.Core.Path.{_≡_, _∙_}
 use native.Mathlib.Omega.{arith}
@@ -12,8 +12,8 @@ use Rattle.phase.specs.Phases.{stateAt}
 use Rattle.istream.specs.Stream.{stateOf}
 use Rattle.phase.specs.Sound.{AtBytes}
 use Rattle.istream.proofs.Calls.{scanOn, call-scan, turn-ends, turn-goes, turn-last}
-use Rattle.istream.proofs.scan.Statement.{statement}
-use Rattle.istream.proofs.scan.Tie as tie
+use Rattle.istream.proofs.plain.scan.Statement.{statement}
+use Rattle.istream.proofs.plain.scan.Tie as tie
 
 abbrev Inv-loop : tie.InvT-loop
 Inv-loop chunk phase₀ carried₀ n₀ phase carried n = (n ≤ length chunk) × (AtBytes base (stateAt (carried .depth) phase) × (call base (stateAt (carried₀ .depth) phase₀) chunk ≡ scanOn base n (stateAt (carried .depth) phase) (drop n chunk)))

@@ -4,7 +4,6 @@ use mathlib.Core.Bool.{Bool, true, false, _&&_}
 use mathlib.Core.List.{List}
 use Prim.Native.Nat.{ℕ, _+_, _-_, _<_, _≤_}
 use native.Mathlib.Omega.{arith}
-use lib.Dec.{eqb}
 use lib.ListN.{length, drop, length-drop}
 use borrow.Author.Tests.{leb-true, le-leb, eqb-true}
 use Rattle.layout.specs.Limits.{base}
@@ -25,22 +24,25 @@ use Rattle.ostream.specs.declared.Written.{Written}
 use Rattle.ostream.specs.Stream as writer
 use Rattle.ostream.specs.Buffer.{opening, draining, changing}
 use Rattle.copying.specs.Owed as copying
-use Rattle.copying.specs.Owed.{nothing, owes, rest, further, depthBy, depthOnce, agrees, soundOwed}
-use Rattle.copying.specs.Copy.{full, Copied, settled, filled, copy}
+use Rattle.copying.specs.Owed.{nothing, owes, rest, further, depthBy, depthOnce, agrees}
+use Rattle.copying.specs.Copy.{full, settled, filled, copy}
+use Rattle.copying.specs.Refusals.{isBroke}
 use Rattle.copying.proofs.Turns.{copy-full, copy-settles}
+use Rattle.copying.proofs.Refusals.{with-parts, unsound-reader, unsound-writer, broken-reader, none-refused}
+use Rattle.turns.specs.declared.Answer.the-variants.{Full}
+use Rattle.turns.specs.declared.Stop.{Stop}
+use Rattle.turns.specs.Turns.{endedIn, Stops, Ran}
 use Rattle.owed.specs.declared.Owed.{Owed}
 use Rattle.owed.specs.declared.Owed.the-variants as owed
 use Rattle.owed.specs.declared.Output.{Output}
 use Rattle.owed.specs.Owed.{owedOf, owedIn, placeIn, outputOf, outputBytes, levelOf, legalOf, placeIsIn}
 use Rattle.owed.proofs.Laws.{owed-back, spelled, sound-parts}
 use Rattle.copier.specs.declared.Copier.{Copier}
-use Rattle.copier.specs.declared.Answer.the-variants.{Full}
 use Rattle.copier.specs.declared.Opening.{Opening}
-use Rattle.copier.specs.declared.Stop.{Stop}
 use Rattle.copier.specs.declared.Copied as results
 use Rattle.copier.specs.Copier.{copyOf, soundReader, soundWriter}
-use Rattle.copier.specs.Calls.{Said, leftBy, leftIn, untouched, carried, copied, Opens, opensOf, opensIn, startedBy, started, sendsOf, Sent, drained, changed}
-use Rattle.copier.specs.Turns.{isBroke, refused, leftAs, Stops, Ran, Ready, finished}
+use Rattle.copier.specs.Calls.{Said, leftBy, leftIn, untouched, copied, Opens, opensOf, opensIn, startedBy, started, sendsOf, Sent, drained, changed}
+use Rattle.copier.specs.Feeding.{refused, finished, leftWith, Ready}
 use Rattle.copier.proofs.Tests.{sound-whole}
 
 -- ---- a sound copier
@@ -57,11 +59,11 @@ live-if broke e = let z : _≡_ {A = ℕ} 0 1 = cc in absurd (omega arith)
 
 pub ready-within : (k : Copier) (size : ℕ) → soundWriter k size ≡ true → k .writer .offset ≤ size
 unfolding soundWriter writer.soundStream
-ready-within k size e = leb-true _ _ (both _ _ (both (writer.soundStream (k .writer) size) _ e .0) .0)
+ready-within k size e = leb-true _ _ (both _ _ (with-parts base (writer.soundStream (k .writer) size) (k .writer .npending) (copyOf k) e .0) .0)
 
 ready-agrees : (k : Copier) (size : ℕ) → Live (stateOf (k .reader)) → soundWriter k size ≡ true → agrees base (k .reader .depth) (k .writer .depth) (owedOf (k .owed) (k .place)) ≡ true
 unfolding soundWriter
-ready-agrees k size l e = sym (sound-whole k (live-not-broke (stateOf (k .reader)) l)) ∙ both (eqb (k .writer .npending) 0) (soundOwed base (stateOf (k .reader)) (k .writer .depth) (owedOf (k .owed) (k .place))) (both (writer.soundStream (k .writer) size) (eqb (k .writer .npending) 0 && soundOwed base (stateOf (k .reader)) (k .writer .depth) (owedOf (k .owed) (k .place))) e .1) .1
+ready-agrees k size l e = sym (sound-whole k (live-not-broke (stateOf (k .reader)) l)) ∙ with-parts base (writer.soundStream (k .writer) size) (k .writer .npending) (copyOf k) e .2
 
 -- "depths equal once any owed event is written"
 level-once : (r w : ℕ) (o : Owed) (place : ℕ) → levelOf r w o ≡ true → depthOnce w (owedOf o place) ≡ r
@@ -121,23 +123,23 @@ module _ (k : Copier) (c b : List ℕ) (end len : ℕ) (b′ : List ℕ) (x : Ou
 
   pub carry-full : Live (stateOf (k .reader)) → length b - k .writer .offset + k .place < len
       → Stops (copy base (copyOf k) c b) (record { used = 0; answer = Full; reader = k .reader; depth = k .writer .depth; pos = end; owed = k .owed; place = k .place + (end - k .writer .offset) }) b′
-  carry-full lv h w =
+  carry-full lv h =
       let f : length b - k .writer .offset < length (rest (owedOf (k .owed) (k .place))) = omega (arith, long) in
       let q = copy-full base (copyOf k) c b f ∙ ap (λ (n : ℕ). record { used = 0; answer = full; copy = filled (copyOf k) n; buf = put b (k .writer .offset) (rest (owedOf (k .owed) (k .place))) }) ends ∙ ap (λ (y : List ℕ). record { used = 0; answer = full; copy = filled (copyOf k) end; buf = y }) puts in
       let r = stream-back (k .reader .depth) (k .reader .phase) lv in
       let o = further-back (owedOf (k .owed) (k .place)) (end - k .writer .offset) ∙ owed-back (k .owed) (k .place) in
       let m = further-place (k .owed) (k .place) (end - k .writer .offset) (omega arith) in
-      ap (leftAs w) q ∙ (λ i. record { used = 0; said = Said.full; copier = record { reader = r i; writer = record { offset = end; depth = k .writer .depth; pending = w .pending; npending = w .npending }; owed = o i; place = m i }; buf = b′ })
+      ap endedIn q ∙ (λ i. record { used = 0; said = Said.full; reader = r i; depth = k .writer .depth; pos = end; owed = o i; place = m i; buf = b′ })
 
   pub carry-runs : Ready k (length b) → len ≤ length b - k .writer .offset + k .place → (t : Stop) (b″ : List ℕ) → Ran (k .reader) end c b′ t b″ → Stops (copy base (copyOf k) c b) t b″
-  carry-runs (s, (lv, g)) h t b″ ran w =
+  carry-runs (s, (lv, g)) h t b″ ran =
       let f : length (rest (owedOf (k .owed) (k .place))) ≤ length b - k .writer .offset = omega (arith, long) in
       let d = ready-depth k (length b) lv g in
       let q =
       copy-settles base (copyOf k) c b (ready-within k (length b) g) f ∙ ap (λ (n : ℕ). copy base (settled (copyOf k) n) c (put b (k .writer .offset) (rest (owedOf (k .owed) (k .place))))) ends
       ∙ ap (λ (y : List ℕ). copy base (settled (copyOf k) end) c y) puts
       ∙ ap (λ (n : ℕ). copy base (record { reader = stateOf (k .reader); depth = n; pos = end; owed = nothing }) c b′) d in
-      ap (leftAs w) q ∙ ran w
+      ap endedIn q ∙ ran
 
 pub ends-within : (b : List ℕ) (pos end : ℕ) (b′ l : List ℕ) → pos ≤ length b → (end ≡ reached b pos l) × (b′ ≡ put b pos l) → end ≤ length b′
 ends-within b pos end b′ l h (p, q) = subst (λ (y : List ℕ). end ≤ length y) (sym q) (subst (λ (n : ℕ). n ≤ length (put b pos l)) (sym p) (subst (λ (n : ℕ). reached b pos l ≤ n) (sym (length-put b pos l h)) (reached-le b pos l h)))
@@ -166,34 +168,28 @@ reader-sound s h = go (s .phase) refl
     go phases.Broken e = ap by e ∙ sym (simp (e, le-leb (s .depth) 255 (omega arith)))
 
 module _ (k : Copier) (c b : List ℕ) (h : k .reader .depth < 256) where
+  sound-too : (t : Bool) → soundStream (k .reader) ≡ t → soundReader (k .reader) ≡ t
+  sound-too t e = reader-sound (k .reader) h ∙ e
+
   pub feed-unsound : soundStream (k .reader) ≡ false → leftBy (refused UnsoundReader k) b ≡ copied k c b
   unfolding copied
-  feed-unsound t = sym (simp (reader-sound (k .reader) h ∙ t))
+  feed-unsound t = sym (unsound-reader _ _ _ (λ n. untouched n k b) _ (sound-too false t))
 
   pub feed-unfit : soundStream (k .reader) ≡ true → soundWriter k (length b) ≡ false → leftBy (refused UnsoundWriter k) b ≡ copied k c b
   unfolding copied
-  feed-unfit t u = sym (simp (reader-sound (k .reader) h ∙ t, u))
-
-  goes-on : soundStream (k .reader) ≡ true → soundWriter k (length b) ≡ true → copied k c b ≡ carried (stateOf (k .reader)) k c b
-  unfolding copied
-  goes-on t u = simp (reader-sound (k .reader) h ∙ t, u)
+  feed-unfit t u = sym (unsound-writer _ _ _ (λ n. untouched n k b) _ (sound-too true t) u)
 
   pub feed-broken : soundStream (k .reader) ≡ true → soundWriter k (length b) ≡ true → isBroke (stateOf (k .reader)) ≡ true → leftBy (refused InvalidMsg k) b ≡ copied k c b
-  feed-broken t u e = sym (goes-on t u ∙ go (stateOf (k .reader)) e)
-    where
-      go : (st : State) → isBroke st ≡ true → carried st k c b ≡ untouched 2 k b
-      go (reading d p) e = let z : _≡_ {A = ℕ} 0 1 = cc in absurd (omega arith)
-      go (owing d id r) e = let z : _≡_ {A = ℕ} 0 1 = cc in absurd (omega arith)
-      go broke e = refl
+  unfolding copied
+  feed-broken t u e = sym (broken-reader _ _ _ (λ n. untouched n k b) _ (sound-too true t) u e)
+
+  goes-on : soundStream (k .reader) ≡ true → soundWriter k (length b) ≡ true → isBroke (stateOf (k .reader)) ≡ false → copied k c b ≡ leftIn k (copy base (copyOf k) c b)
+  unfolding copied
+  goes-on t u e = none-refused _ _ _ (λ n. untouched n k b) _ (sound-too true t) u e
 
   pub feed-runs : soundStream (k .reader) ≡ true → soundWriter k (length b) ≡ true → isBroke (stateOf (k .reader)) ≡ false → (t : Stop) (b′ : List ℕ) → Stops (copy base (copyOf k) c b) t b′ → (r : results.Copied) → r ≡ finished (k .writer) t
       → leftBy r b′ ≡ copied k c b
-  feed-runs t u e s b′ q r i = ap (λ (x : results.Copied). leftBy x b′) i ∙ sym (goes-on t u ∙ go (stateOf (k .reader)) e ∙ q (k .writer))
-    where
-      go : (st : State) → isBroke st ≡ false → carried st k c b ≡ leftIn k (copy base (copyOf k) c b)
-      go (reading d p) e = refl
-      go (owing d id r) e = refl
-      go broke e = let z : _≡_ {A = ℕ} 0 1 = cc in absurd (omega arith)
+  feed-runs t u e s b′ q r i = ap (λ (x : results.Copied). leftBy x b′) i ∙ sym (goes-on t u e ∙ ap (leftWith (k .writer)) q)
 
 -- ---- the other calls
 

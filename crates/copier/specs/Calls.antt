@@ -3,11 +3,9 @@ use Prim.Native.Nat.{ℕ}
 use mathlib.Core.Bool.{true}
 use mathlib.Core.List.{List}
 use lib.ListN.{length}
-use Rattle.layout.specs.Limits.{base, pick}
-use Rattle.layout.specs.Message.{Verdict, complete, incomplete}
+use Rattle.layout.specs.Limits.{base}
 use Rattle.types.specs.Types.{numberOf}
-use Rattle.machine.specs.Call.{State, reading, owing, broke, fresh}
-use Rattle.istream.specs.declared.Status.the-variants.{Complete, Incomplete}
+use Rattle.machine.specs.Call.{fresh}
 use Rattle.istream.specs.Stream.{stateOf, streamIn}
 use Rattle.ostream.specs.declared.OStream.{OStream}
 use Rattle.ostream.specs.declared.Answer as written
@@ -17,9 +15,9 @@ use Rattle.ostream.specs.declared.Count.the-variants as counts
 use Rattle.ostream.specs.Buffer.{opening, draining, changing}
 use Rattle.copying.specs.Copy as copying
 use Rattle.copying.specs.Copy.{copy}
+use Rattle.copying.specs.Refusals.{isBroke, refusing}
+pub use Rattle.turns.specs.Said.{Said, full, verdict, saidOf, saidIn}
 use Rattle.copier.specs.declared.Copier.{Copier}
-use Rattle.copier.specs.declared.Answer.{Answer}
-use Rattle.copier.specs.declared.Answer.the-variants.{Full, Status, Refused}
 use Rattle.copier.specs.declared.Copied.{Copied}
 use Rattle.owed.specs.declared.Owed.the-variants.{Nothing}
 use Rattle.copier.specs.declared.Opening.{Opening}
@@ -29,18 +27,6 @@ use Rattle.copier.specs.declared.Drained.{Drained}
 use Rattle.copier.specs.Copier.{copyOf, copierIn, soundReader, soundWriter}
 
 -- ---- feeding
-
--- "Full", the verdict after the chunk, or a refusal's number
-pub data Said : Type 0 where
-  full : Said
-  verdict : Verdict → Said
-  number : ℕ → Said
-
-abbrev pub saidOf : Answer → Said
-saidOf Full = full
-saidOf (Status Complete) = verdict complete
-saidOf (Status Incomplete) = verdict incomplete
-saidOf (Refused e) = number (numberOf e)
 
 -- What a call uses of the chunk, says and leaves.
 pub record Left : Type 0 where
@@ -55,27 +41,14 @@ leftBy r b = record { used = r .used; said = saidOf (r .answer); copier = r .cop
 
 -- "on 1 and 6 nothing is read", and nothing alters
 abbrev pub untouched : ℕ → Copier → List ℕ → Left
-untouched n k b = record { used = 0; said = number n; copier = k; buf = b }
-
--- no refusal has the number 0: a call never runs out of turns
-abbrev pub saidIn : copying.Answer → Said
-saidIn copying.full = full
-saidIn (copying.verdict v) = verdict v
-saidIn copying.invalid = number 2
-saidIn copying.unfinished = number 0
+untouched n k b = record { used = 0; said = Said.number n; copier = k; buf = b }
 
 abbrev pub leftIn : Copier → copying.Copied → Left
 leftIn k r = record { used = r .used; said = saidIn (r .answer); copier = copierIn (k .writer) (r .copy); buf = r .buf }
 
--- "Each later call, an empty chunk too, gives 2 with nothing read."
-abbrev pub carried : State → Copier → List ℕ → List ℕ → Left
-carried (reading d p) k c b = leftIn k (copy base (copyOf k) c b)
-carried (owing d id r) k c b = leftIn k (copy base (copyOf k) c b)
-carried broke k c b = untouched 2 k b
-
--- "The copier gives 1, then 6 (also where its own conditions above fail), then 2, and no others; on 1 and 6 nothing is read."
+-- The refusals in their order, and else the call. "Each later call, an empty chunk too, gives 2 with nothing read."
 unfoldable pub copied : Copier → List ℕ → List ℕ → Left
-copied k c b = pick (soundReader (k .reader)) (pick (soundWriter k (length b)) (carried (stateOf (k .reader)) k c b) (untouched 6 k b)) (untouched 1 k b)
+copied k c b = refusing (soundReader (k .reader)) (soundWriter k (length b)) (isBroke (stateOf (k .reader))) (λ n. untouched n k b) (leftIn k (copy base (copyOf k) c b))
 
 -- ---- opening, draining, changing the buffer: a drained writer's, and its refusals alone
 

@@ -12,11 +12,8 @@ use Rattle.layout.specs.Event.{Event, Unsigned, Signed, Float, Piece, Fixlen, A
 use Rattle.laws.specs.Events.{eventBytes}
 use Rattle.machine.specs.Call.{State, reading, owing, broke}
 use Rattle.copying.specs.Owed.{Owed, nothing, owes, rest, legal, level, agrees, soundOwed}
+use Rattle.copying.proofs.Sound.{both}
 use Rattle.copier.specs.Copier.{owedOf, owe, owedIn, placeIn}
-
-both : (x y : Bool) → (x && y) ≡ true → (x ≡ true) × (y ≡ true)
-both true y e = (refl, e)
-both false y e = let z : _≡_ {A = ℕ} 0 1 = cc in absurd (omega arith)
 
 three : {x y z : Bool} → x ≡ true → y ≡ true → z ≡ true → (x && (y && z)) ≡ true
 three e f g = simp (e, f, g)

@@ -33,20 +33,18 @@ use Rattle.copying.specs.Owed.{agrees, soundOwed}
 use Rattle.copying.specs.Copy as copying
 use Rattle.copying.specs.Copy.{Copied, copy}
 use Rattle.copying.proofs.Sound as counted
-use Rattle.copying.proofs.Sound.{Sounds, copy-sound}
+use Rattle.copying.proofs.Sound.{both, Sounds, copy-sound}
+use Rattle.copying.specs.Refusals.{isBroke}
+use Rattle.copying.proofs.Refusals.{with-parts, with-owed, unsound-reader, unsound-writer, broken-reader, none-refused}
 use Rattle.copying.proofs.Allowed.{InForce}
 use Rattle.copying.proofs.Reader.{copy-reader}
 use Rattle.reading.proofs.Feeds.{call-sound}
 use Rattle.copier.specs.declared.Copier.{Copier}
 use Rattle.copier.specs.Copier.{owedOf, owedIn, placeIn, copyOf, moved, copierIn, soundReader, soundWriter, soundCopier}
-use Rattle.copier.specs.Calls.{Said, full, verdict, Left, untouched, saidIn, leftIn, carried, copied, Opens, taken, Started, opensIn, freshOver, started, Sends, bytes, sendsOf, Sent, over, drained, changed}
+use Rattle.copier.specs.Calls.{Said, full, verdict, Left, untouched, saidIn, leftIn, copied, Opens, taken, Started, opensIn, freshOver, started, Sends, bytes, sendsOf, Sent, over, drained, changed}
 use Rattle.copier.specs.Calls as calls
 use Rattle.copies.specs.Desk.{saidNumber, sendsNumber, Stray, feeds, drains, changes, opens, handedBack, refusedWith}
 use Rattle.copies.proofs.Owed.{owed-back}
-
-both : (x y : Bool) → (x && y) ≡ true → (x ≡ true) × (y ≡ true)
-both true y e = (refl, e)
-both false y e = let z : _≡_ {A = ℕ} 0 1 = cc in absurd (omega arith)
 
 -- ---- what the tests say
 
@@ -79,9 +77,8 @@ pub is-sound : (k : Copier) (size : ℕ) → soundCopier k size ≡ true → Sou
 unfolding soundWriter
 is-sound k size h =
     let a = both (soundReader (k .reader)) (soundWriter k size) h in
-    let b = both (writer.soundStream (k .writer) size) _ (a .1) in
-    let c = both (eqb (k .writer .npending) 0) _ (b .1) in
-    record { tested = a .0; tests = a .1; reader = reader-is (k .reader) (a .0); writer = b .0; unheld = eqb-true _ _ (c .0); owed = c .1 }
+    let p = with-parts base (writer.soundStream (k .writer) size) (k .writer .npending) (copyOf k) (a .1) in
+    record { tested = a .0; tests = a .1; reader = reader-is (k .reader) (a .0); writer = p .0; unheld = p .1; owed = p .2 }
 
 pub sound-is : (k : Copier) (size : ℕ) → Sound k size → soundCopier k size ≡ true
 sound-is k size h = simp (h .tested, h .tests)
@@ -90,7 +87,7 @@ sound-is k size h = simp (h .tested, h .tests)
 pub make : (k : Copier) (size : ℕ) → soundReader (k .reader) ≡ true → writer.soundStream (k .writer) size ≡ true → k .writer .npending ≡ 0
     → soundOwed base (stateOf (k .reader)) (k .writer .depth) (owedOf (k .owed) (k .place)) ≡ true → Sound k size
 unfolding soundWriter
-make k size r w n o = record { tested = r; tests = simp (w, eq-eqb _ _ n, o); reader = reader-is (k .reader) r; writer = w; unheld = n; owed = o }
+make k size r w n o = record { tested = r; tests = with-owed base (writer.soundStream (k .writer) size) (k .writer .npending) (copyOf k) w n ∙ o; reader = reader-is (k .reader) r; writer = w; unheld = n; owed = o }
 
 -- ---- feeding
 
@@ -133,13 +130,13 @@ carried-sound k c b h s =
 -- a call on a sound copier: on the reader that stands broken, and on any other
 pub on-broken : (k : Copier) (c b : List ℕ) → Sound k (length b) → stateOf (k .reader) ≡ broke → copied k c b ≡ untouched 2 k b
 unfolding copied
-on-broken k c b s e = simp (s .tested, s .tests) (ap (λ (st : State). carried st k c b) e)
+on-broken k c b s e = broken-reader _ _ _ (λ n. untouched n k b) _ (s .tested) (s .tests) (ap isBroke e)
 
 pub on-live : (k : Copier) (c b : List ℕ) → Sound k (length b) → Live (stateOf (k .reader)) → copied k c b ≡ leftIn k (copy base (copyOf k) c b)
 unfolding copied
-on-live k c b s l = simp (s .tested, s .tests) (go (stateOf (k .reader)) l)
+on-live k c b s l = none-refused _ _ _ (λ n. untouched n k b) _ (s .tested) (s .tests) (go (stateOf (k .reader)) l)
   where
-    go : (st : State) → Live st → carried st k c b ≡ leftIn k (copy base (copyOf k) c b)
+    go : (st : State) → Live st → isBroke st ≡ false
     go (reading d p) l = refl
     go (owing d id r) l = refl
     go broke l = absurd l
@@ -232,20 +229,21 @@ started-sound size offset = go (leb size offset) refl
 -- ---- refusals
 
 -- what a feed comes to, by its tests, for any state whatever
-copied-by : (k : Copier) (c b : List ℕ) (t u : Bool) → soundReader (k .reader) ≡ t → soundWriter k (length b) ≡ u
-    → copied k c b ≡ pick t (pick u (carried (stateOf (k .reader)) k c b) (untouched 6 k b)) (untouched 1 k b)
+on-unsound : (k : Copier) (c b : List ℕ) → soundReader (k .reader) ≡ false → copied k c b ≡ untouched 1 k b
 unfolding copied
-copied-by k c b t u e f =
-    ap (λ (x : Bool). pick x (pick (soundWriter k (length b)) (carried (stateOf (k .reader)) k c b) (untouched 6 k b)) (untouched 1 k b)) e
-    ∙ ap (λ (x : Bool). pick t (pick x (carried (stateOf (k .reader)) k c b) (untouched 6 k b)) (untouched 1 k b)) f
+on-unsound k c b e = unsound-reader _ _ _ (λ n. untouched n k b) _ e
+
+on-unfit : (k : Copier) (c b : List ℕ) → soundReader (k .reader) ≡ true → soundWriter k (length b) ≡ false → copied k c b ≡ untouched 6 k b
+unfolding copied
+on-unfit k c b e f = unsound-writer _ _ _ (λ n. untouched n k b) _ e f
 
 by-tests : (k : Copier) (c b : List ℕ) (P : Left → Type 0) → P (untouched 1 k b) → P (untouched 6 k b) → P (untouched 2 k b)
     → (Sound k (length b) → P (leftIn k (copy base (copyOf k) c b))) → P (copied k c b)
 by-tests k c b P one six two live = go (soundReader (k .reader)) refl (soundWriter k (length b)) refl
   where
     go : (t : Bool) → soundReader (k .reader) ≡ t → (u : Bool) → soundWriter k (length b) ≡ u → P (copied k c b)
-    go false e u f = subst P (sym (copied-by k c b false u e f)) one
-    go true e false f = subst P (sym (copied-by k c b true false e f)) six
+    go false e u f = subst P (sym (on-unsound k c b e)) one
+    go true e false f = subst P (sym (on-unfit k c b e f)) six
     go true e true f =
         let s : Sound k (length b) = is-sound k (length b) (simp (e, f)) in
         by-state (stateOf (k .reader)) refl s

@@ -22,6 +22,7 @@ use Rattle.ostream.specs.Stream as writer
 use Rattle.ostream.specs.Buffer.{opening, draining, changing}
 use Rattle.copying.specs.Owed.{rest, further, depthBy, depthOnce, dueIn, legal, level, agrees, soundOwed}
 use Rattle.copying.specs.Copy.{handed, stuck, heard, copies, copy}
+use Rattle.copying.specs.Refusals.{soundWith, refusing}
 use Rattle.owed.specs.declared.Owed.the-variants.{Nothing}
 use Rattle.copier.specs.declared.Copier.{Copier}
 use Rattle.copier.specs.Copier.{soundWriter}
@@ -65,7 +66,7 @@ pub worked : row schedule (start (0xEE ∷ []) chunks)
       drains = 3;
       numbers = 6 ∷ 6 ∷ 6 ∷ 5 ∷ 5 ∷ 5 ∷ [];
     }
-unfolding acts act numbers feeding copied soundWriter started drained changed opening draining changing writer.opened writer.soundStream writer.every reader.soundStream soundAcc soundOwed agrees level legal copy copies heard handed stuck rest further depthBy depthOnce dueIn eventBytes over put reached call scan scanned step within atHeader atWord atUnsignedCount atSignedCount atFloatCount atArrayWord atUnsigned atSigned atFloat atByte ending judge push shortest shortestIn lowBytes
+unfolding acts act numbers feeding copied refusing soundWriter soundWith started drained changed opening draining changing writer.opened writer.soundStream writer.every reader.soundStream soundAcc soundOwed agrees level legal copy copies heard handed stuck rest further depthBy depthOnce dueIn eventBytes over put reached call scan scanned step within atHeader atWord atUnsignedCount atSignedCount atFloatCount atArrayWord atUnsigned atSigned atFloat atByte ending judge push shortest shortestIn lowBytes
 worked = refl
 
 -- a copier with nothing owed, its writer at this position
@@ -93,7 +94,7 @@ holding =
 -- within it; and 6 for an id held
 pub worked-refusals : refused (at wild 2) ∷ refused (at wild 0) ∷ refused (at (streamIn broke) 2) ∷ refused (at (streamIn broke) 0) ∷ refused holding ∷ []
     ≡ 1 ∷ 1 ∷ 6 ∷ 2 ∷ 6 ∷ []
-unfolding copied soundWriter writer.opened writer.soundStream writer.every reader.soundStream soundAcc soundOwed
+unfolding copied refusing soundWriter soundWith writer.opened writer.soundStream writer.every reader.soundStream soundAcc soundOwed
 worked-refusals = refl
 
 -- it is the id alone: the writer by itself is sound

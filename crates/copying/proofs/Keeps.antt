@@ -10,7 +10,7 @@ use mathlib.Core.List.{List, [], _∷_, _++_, append-assoc, append-nil}
 use lib.Dec.{leb}
 use borrow.Author.Tests.{leb-true, leb-false}
 use lib.ListN.{length, take, drop, length-append, length-take, length-drop, take-append-drop, drop-of-length-le}
-use lib.Seq.{length-take-le, take-add, take-all, take-at, drop-at, drop-drop}
+use lib.Seq.{length-take-le, take-add, take-all, take-take, take-at, drop-at, drop-drop}
 use Rattle.layout.specs.Limits.{Limits}
 use Rattle.layout.specs.Event.{Event}
 use Rattle.laws.specs.Events.{eventBytes, dueAfterAll, encodeEvents}
@@ -25,7 +25,7 @@ use Rattle.emit.proofs.Writes.{put-is, reached-is, take-over, length-put, reach
 use Rattle.copying.specs.Owed.{Owed, nothing, owes, rest, further, dueIn}
 use Rattle.copying.specs.Copy.{Copy, Answer, full, verdict, invalid, unfinished, Copied, after, settled, filled, gone, handed, stuck, heard, fits, allOf, copies, turnsFor, copy}
 use Rattle.copying.specs.Run.{Keeps, InPayload, Bulk, Final, NoPiece, Kept}
-use Rattle.copying.proofs.Turns.{goes, goes-on, turn-full, turn-goes, fits-false, fits-true, enough, handed-first, take-take, turn-heard}
+use Rattle.copying.proofs.Turns.{goes, goes-on, turn-full, turn-goes, fits-false, fits-true, enough, handed-first, turn-heard}
 use Rattle.copying.proofs.Due.{walk-due}
 use Rattle.copying.proofs.Pieces.{Takes, takes-plain, given-fits}
 

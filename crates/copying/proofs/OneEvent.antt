@@ -40,7 +40,7 @@ put-all b pos a h = reached-is b pos a ∙ least (length a) (length b - pos) (om
     least : (m r : ℕ) → m ≤ r → pos + min m r ≡ pos + m
     least m r h = omega arith
 
-after-after : (m n : ℕ) (r : Copied) → after m (after n r) ≡ after (m + n) r
+pub after-after : (m n : ℕ) (r : Copied) → after m (after n r) ≡ after (m + n) r
 after-after m n r = let e : m + (n + r .used) ≡ m + n + r .used = omega arith in ap (λ (u : ℕ). record { used = u; answer = r .answer; copy = r .copy; buf = r .buf }) e
 
 pub none-as-is : (L : Limits) (s : State) (d : ℕ) → AsIs L s d [] s d

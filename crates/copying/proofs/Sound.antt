@@ -53,7 +53,7 @@ record Mid (L : Limits) (k : Copy) : Type 0 where
   depth : k .depth ≤ L .depth
   even : Even L (k .reader) (k .depth) (k .owed)
 
-both : (x y : Bool) → (x && y) ≡ true → (x ≡ true) × (y ≡ true)
+pub both : (x y : Bool) → (x && y) ≡ true → (x ≡ true) × (y ≡ true)
 both true true h = (refl, refl)
 both true false h = (refl, h)
 both false y h = let w : _≡_ {A = ℕ} 0 1 = cc in absurd (omega arith)

@@ -7,6 +7,7 @@ use mathlib.Core.Path.{_≡_, refl, sym, ap, _∙_, subst}
 use mathlib.Core.Bool.{Bool, true, false}
 use mathlib.Core.List.{List, [], _∷_}
 use lib.ListN.{length, take, drop, length-take, length-drop}
+use lib.Seq.{take-take}
 use borrow.Author.Tests.{leb-true, leb-false}
 use Rattle.layout.specs.Limits.{Limits}
 use Rattle.layout.specs.Field.{Raw}
@@ -153,12 +154,6 @@ handed-few (reading d p) room c = subst (λ (l : List ℕ). length l ≤ length 
     go (bulk id r total o) = omega (arith, length-take room c)
 handed-few (owing d id r) room c = omega arith
 handed-few broke room c = omega arith
-
-pub take-take : (p q : ℕ) (l : List ℕ) → p ≤ q → take p (take q l) ≡ take p l
-take-take zero q l h = refl
-take-take (suc p) zero l h = absurd (not-suc-le-zero h)
-take-take (suc p) (suc q) [] h = refl
-take-take (suc p) (suc q) (x ∷ l) h = ap (λ (m : List ℕ). x ∷ m) (take-take p q l (omega arith))
 
 pub handed-first : (s : State) (room : ℕ) (c : List ℕ) (j : ℕ) → j ≤ length (handed s room c) → take j (handed s room c) ≡ take j c
 unfolding handed

@@ -21,21 +21,17 @@ use Rattle.istream.proofs.Laws.{fresh-sound}
 use Rattle.copying.specs.Copy.{copy}
 use Rattle.copying.proofs.Whole.{copy-whole}
 use Rattle.copier.specs.declared.Copier.{Copier}
-use Rattle.copier.specs.declared.Answer.{Answer}
-use Rattle.copier.specs.declared.Answer.the-variants.{Full, Status, Refused}
+use Rattle.turns.specs.declared.Answer.{Answer}
+use Rattle.turns.specs.declared.Answer.the-variants.{Full, Status, Refused}
 use Rattle.copier.specs.declared.Copied as results
 use Rattle.copying.specs.Owed.{agrees, soundOwed}
+use Rattle.copying.specs.Refusals.{soundWith, refusing}
 use Rattle.copier.specs.Copier.{copyOf, soundWriter}
 use Rattle.copier.specs.Calls.{full, verdict, Left, saidOf, saidIn, leftIn, freshOver, started}
 use Rattle.copier.specs.Calls as calls
-use Rattle.copier.proofs.Answer.{the-type}
+use Rattle.turns.proofs.Answer.{the-type}
 use Rattle.exports.specs.Exports.{leftBy, filled}
 use Rattle.host.proofs.Filled.{fitting, too-short}
-
--- the bytes of a slice, each below 256
-pub all-bytes : (T : List ℕ) → ((i : ℕ) → getD T i 0 < 256) → Bytes T
-all-bytes [] h = tt
-all-bytes (x ∷ xs) h = (h 0, all-bytes xs (λ i. h (suc i)))
 
 -- a copier opened at 0 is fresh and stands at 0, whatever the buffer: one of no byte too
 start-copier : (size : ℕ) → started size 0 .copier ≡ freshOver (opened 0)
@@ -52,7 +48,7 @@ record Fed (m b : List ℕ) (r : Left) : Type 0 where
 
 -- a fresh copier is refused nothing
 goes-on : (T b : List ℕ) → calls.copied (freshOver (opened 0)) T b ≡ leftIn (freshOver (opened 0)) (copy base (copyOf (freshOver (opened 0))) T b)
-unfolding calls.copied soundWriter soundOwed agrees opened
+unfolding calls.copied refusing soundWriter soundWith soundOwed agrees opened
 goes-on T b = simp (fresh-sound, opened-sound 0 (length b) (omega arith))
 
 fed-whole : (T b : List ℕ) → Bytes T → verdictOf base T ≡ complete → Fed (plainCopy base T) b (calls.copied (freshOver (opened 0)) T b)

@@ -6,7 +6,8 @@ use mir.Facts.{toZ-pos}
 use mir.Syntax.{w64}
 use Rattle.copier.specs.Calls.{Started}
 use Rattle.exports.specs.Exports.{leftBy}
-use Rattle.host.proofs.Fresh.{all-bytes, answers-full, answers-length, offset-small}
+use Rattle.own.proofs.Spans.{all-bytes}
+use Rattle.host.proofs.Fresh.{answers-full, answers-length, offset-small}
 use borrow.Author.Needs.{needs}
 use Rattle.host.proofs.copy.Statement.{statement}
 use Rattle.host.proofs.copy.Tie as tie

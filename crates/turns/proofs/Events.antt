@@ -15,7 +15,6 @@ use Rattle.layout.specs.Varint.{Push, more, value, overrun, push}
 use Rattle.layout.specs.Field.{Wire, Raw, Subtyped, bytesOf, subtypeOf, wireOf, known, unknown, float, raw}
 use Rattle.layout.specs.Field.{T-unsigned, T-signed, T-fixlen, T-unsigneds, T-signeds, T-floats, T-begin, T-end}
 use Rattle.layout.specs.Event.{Event, Unsigned, Signed, Float, Piece, Fixlen, Array, Begin, End}
-use Rattle.layout.specs.Message as messages
 use Rattle.machine.specs.Machine.{Phase, inHeader, inUnsigned, inSigned, inWord, inUnsignedCount, inSignedCount, inFloatCount, inArrayWord, inFloat, inPayload}
 use Rattle.machine.specs.Machine.{Stepped, on, bad, atWire, atHeader, atPayload, atSubtype, atWord, atUnsignedCount, atSignedCount, atFloatCount, atElement, atArrayWord, atUnsigned, atSigned, atFloat, within, step}
 use Rattle.machine.specs.Call.{State, reading, owing, broke, Answer, event, verdict, invalid, Called, paceOf, byte, raisedState, scanned, scan, call}
@@ -182,7 +181,3 @@ fair (reading d (inFloat id w left k v)) (n, (i, (c, (k′, x)))) = k′
 fair (reading d (inPayload id r total o)) (n, (i, (t, x))) = x
 fair (owing d id r) s = refl
 fair broke s = tt
-
-pub to-bytes : (c : List ℕ) → Bytes c → messages.Bytes c
-to-bytes [] h = tt
-to-bytes (b ∷ bs) h = (h 0, to-bytes bs (λ i. h (suc i)))

@@ -1,15 +1,15 @@
--- `copier::written`: the event fits or fills the buffer.
+-- `turns::written`: the event fits or fills the buffer.
 use mathlib.Core.Path.{refl}
 use native.Mathlib.Omega.{arith}
 use lib.ListN.{length, drop}
 use Rattle.owed.specs.Owed.{outputBytes}
 use Rattle.emit.proofs.Writes.{reached-is}
-use Rattle.copier.proofs.Tests.{event-full, event-fits}
+use Rattle.turns.proofs.Tests.{event-full, event-fits}
 use borrow.Author.Needs.{needs}
-use Rattle.copier.proofs.written.Statement.{statement}
-use Rattle.copier.proofs.written.Tie as tie
-use Rattle.copier.proofs.written.Reads as reads
-use Rattle.copier.proofs.written.Lts as lts
+use Rattle.turns.proofs.written.Statement.{statement}
+use Rattle.turns.proofs.written.Tie as tie
+use Rattle.turns.proofs.written.Reads as reads
+use Rattle.turns.proofs.written.Lts as lts
 use Rattle.owed.proofs.Output.len.Reads as len-reads
 use Rattle.owed.proofs.Output.put.Reads as put-reads
 use Rattle.owed.proofs.Output.put_fitting.Reads as put-fitting-reads

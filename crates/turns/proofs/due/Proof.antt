@@ -1,14 +1,14 @@
--- `copier::due`: by phase.
+-- `turns::due`: by phase.
 use mathlib.Core.Path.{sym, ap}
 use Rattle.phase.specs.declared.Phase.{Phase}
 use Rattle.phase.specs.Phases.{stateAt}
 use Rattle.copying.specs.Owed.{dueIn}
-use Rattle.copier.proofs.Tests.{none-due}
+use Rattle.turns.proofs.Tests.{none-due}
 use borrow.Author.Needs.{needs}
-use Rattle.copier.proofs.due.Statement.{statement}
-use Rattle.copier.proofs.due.Tie as tie
-use Rattle.copier.proofs.due.Reads as reads
-use Rattle.copier.proofs.due.Lts as lts
+use Rattle.turns.proofs.due.Statement.{statement}
+use Rattle.turns.proofs.due.Tie as tie
+use Rattle.turns.proofs.due.Reads as reads
+use Rattle.turns.proofs.due.Lts as lts
 
 returns : tie.Need-returns
 unfolding dueIn

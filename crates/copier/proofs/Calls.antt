@@ -61,7 +61,7 @@ pub ready-within : (k : Copier) (size : ℕ) → soundWriter k size ≡ true →
 unfolding soundWriter writer.soundStream
 ready-within k size e = leb-true _ _ (both _ _ (with-parts base (writer.soundStream (k .writer) size) (k .writer .npending) (copyOf k) e .0) .0)
 
-ready-agrees : (k : Copier) (size : ℕ) → Live (stateOf (k .reader)) → soundWriter k size ≡ true → agrees base (k .reader .depth) (k .writer .depth) (owedOf (k .owed) (k .place)) ≡ true
+ready-agrees : (k : Copier) (size : ℕ) → Live (stateOf (k .reader)) → soundWriter k size ≡ true → agrees base (k .reader .carried .depth) (k .writer .depth) (owedOf (k .owed) (k .place)) ≡ true
 unfolding soundWriter
 ready-agrees k size l e = sym (sound-whole k (live-not-broke (stateOf (k .reader)) l)) ∙ with-parts base (writer.soundStream (k .writer) size) (k .writer .npending) (copyOf k) e .2
 
@@ -81,9 +81,9 @@ level-once r w (owed.Array id k n) place e = sym (eqb-true r w e)
 level-once r w (owed.Begin id) place e = let h : r ≡ w + 1 = eqb-true r (w + 1) e in omega arith
 level-once r w owed.End place e = let h : r + 1 ≡ w = eqb-true (r + 1) w e in omega arith
 
-ready-depth : (k : Copier) (size : ℕ) → Live (stateOf (k .reader)) → soundWriter k size ≡ true → depthOnce (k .writer .depth) (owedOf (k .owed) (k .place)) ≡ k .reader .depth
+ready-depth : (k : Copier) (size : ℕ) → Live (stateOf (k .reader)) → soundWriter k size ≡ true → depthOnce (k .writer .depth) (owedOf (k .owed) (k .place)) ≡ k .reader .carried .depth
 ready-depth k size l e =
-    level-once (k .reader .depth) (k .writer .depth) (k .owed) (k .place) (both (levelOf (k .reader .depth) (k .writer .depth) (k .owed)) (legalOf (k .owed) && placeIsIn (k .owed) (k .place)) (sym (sound-parts (k .reader .depth) (k .writer .depth) (k .owed) (k .place)) ∙ ready-agrees k size l e) .0)
+    level-once (k .reader .carried .depth) (k .writer .depth) (k .owed) (k .place) (both (levelOf (k .reader .carried .depth) (k .writer .depth) (k .owed)) (legalOf (k .owed) && placeIsIn (k .owed) (k .place)) (sym (sound-parts (k .reader .carried .depth) (k .writer .depth) (k .owed) (k .place)) ∙ ready-agrees k size l e) .0)
 
 -- ---- what is owed goes out
 
@@ -126,7 +126,7 @@ module _ (k : Copier) (c b : List ℕ) (end len : ℕ) (b′ : List ℕ) (x : Ou
   carry-full lv h =
       let f : length b - k .writer .offset < length (rest (owedOf (k .owed) (k .place))) = omega (arith, long) in
       let q = copy-full base (copyOf k) c b f ∙ ap (λ (n : ℕ). record { used = 0; answer = full; copy = filled (copyOf k) n; buf = put b (k .writer .offset) (rest (owedOf (k .owed) (k .place))) }) ends ∙ ap (λ (y : List ℕ). record { used = 0; answer = full; copy = filled (copyOf k) end; buf = y }) puts in
-      let r = stream-back (k .reader .depth) (k .reader .phase) lv in
+      let r = stream-back (k .reader .carried .depth) (k .reader .phase) lv in
       let o = further-back (owedOf (k .owed) (k .place)) (end - k .writer .offset) ∙ owed-back (k .owed) (k .place) in
       let m = further-place (k .owed) (k .place) (end - k .writer .offset) (omega arith) in
       ap endedIn q ∙ (λ i. record { used = 0; said = Said.full; reader = r i; depth = k .writer .depth; pos = end; owed = o i; place = m i; buf = b′ })
@@ -146,14 +146,14 @@ ends-within b pos end b′ l h (p, q) = subst (λ (y : List ℕ). end ≤ length
 
 -- ---- the refusals
 
-reader-sound : (s : IStream) → s .depth < 256 → soundReader s ≡ soundStream s
+reader-sound : (s : IStream) → s .carried .depth ≤ base .depth → soundReader s ≡ soundStream base s
 unfolding soundStream
 reader-sound s h = go (s .phase) refl
   where
     by : code.Phase → Bool
-    by p = elim (stateAt (s .depth) p) [ reading d q ↦ soundStream s | owing d id r ↦ soundStream s | broke ↦ true ]
+    by p = elim (stateAt (s .carried .depth) p) [ reading d q ↦ soundStream base s | owing d id r ↦ soundStream base s | broke ↦ true ]
 
-    go : (p : code.Phase) → s .phase ≡ p → by (s .phase) ≡ soundStream s
+    go : (p : code.Phase) → s .phase ≡ p → by (s .phase) ≡ soundStream base s
     go (phases.Header a) e = ap by e
     go (phases.Unsigned id left a) e = ap by e
     go (phases.Signed id left a) e = ap by e
@@ -165,29 +165,29 @@ reader-sound s h = go (s .phase) refl
     go (phases.Float id w left k v) e = ap by e
     go (phases.Payload id r total o) e = ap by e
     go (phases.Empty id r) e = ap by e
-    go phases.Broken e = ap by e ∙ sym (simp (e, le-leb (s .depth) 255 (omega arith)))
+    go phases.Broken e = ap by e ∙ sym (simp (e, le-leb (s .carried .depth) (base .depth) h))
 
-module _ (k : Copier) (c b : List ℕ) (h : k .reader .depth < 256) where
-  sound-too : (t : Bool) → soundStream (k .reader) ≡ t → soundReader (k .reader) ≡ t
+module _ (k : Copier) (c b : List ℕ) (h : k .reader .carried .depth ≤ base .depth) where
+  sound-too : (t : Bool) → soundStream base (k .reader) ≡ t → soundReader (k .reader) ≡ t
   sound-too t e = reader-sound (k .reader) h ∙ e
 
-  pub feed-unsound : soundStream (k .reader) ≡ false → leftBy (refused UnsoundReader k) b ≡ copied k c b
+  pub feed-unsound : soundStream base (k .reader) ≡ false → leftBy (refused UnsoundReader k) b ≡ copied k c b
   unfolding copied
   feed-unsound t = sym (unsound-reader _ _ _ (λ n. untouched n k b) _ (sound-too false t))
 
-  pub feed-unfit : soundStream (k .reader) ≡ true → soundWriter k (length b) ≡ false → leftBy (refused UnsoundWriter k) b ≡ copied k c b
+  pub feed-unfit : soundStream base (k .reader) ≡ true → soundWriter k (length b) ≡ false → leftBy (refused UnsoundWriter k) b ≡ copied k c b
   unfolding copied
   feed-unfit t u = sym (unsound-writer _ _ _ (λ n. untouched n k b) _ (sound-too true t) u)
 
-  pub feed-broken : soundStream (k .reader) ≡ true → soundWriter k (length b) ≡ true → isBroke (stateOf (k .reader)) ≡ true → leftBy (refused InvalidMsg k) b ≡ copied k c b
+  pub feed-broken : soundStream base (k .reader) ≡ true → soundWriter k (length b) ≡ true → isBroke (stateOf (k .reader)) ≡ true → leftBy (refused InvalidMsg k) b ≡ copied k c b
   unfolding copied
   feed-broken t u e = sym (broken-reader _ _ _ (λ n. untouched n k b) _ (sound-too true t) u e)
 
-  goes-on : soundStream (k .reader) ≡ true → soundWriter k (length b) ≡ true → isBroke (stateOf (k .reader)) ≡ false → copied k c b ≡ leftIn k (copy base (copyOf k) c b)
+  goes-on : soundStream base (k .reader) ≡ true → soundWriter k (length b) ≡ true → isBroke (stateOf (k .reader)) ≡ false → copied k c b ≡ leftIn k (copy base (copyOf k) c b)
   unfolding copied
   goes-on t u e = none-refused _ _ _ (λ n. untouched n k b) _ (sound-too true t) u e
 
-  pub feed-runs : soundStream (k .reader) ≡ true → soundWriter k (length b) ≡ true → isBroke (stateOf (k .reader)) ≡ false → (t : Stop) (b′ : List ℕ) → Stops (copy base (copyOf k) c b) t b′ → (r : results.Copied) → r ≡ finished (k .writer) t
+  pub feed-runs : soundStream base (k .reader) ≡ true → soundWriter k (length b) ≡ true → isBroke (stateOf (k .reader)) ≡ false → (t : Stop) (b′ : List ℕ) → Stops (copy base (copyOf k) c b) t b′ → (r : results.Copied) → r ≡ finished (k .writer) t
       → leftBy r b′ ≡ copied k c b
   feed-runs t u e s b′ q r i = ap (λ (x : results.Copied). leftBy x b′) i ∙ sym (goes-on t u e ∙ ap (leftWith (k .writer)) q)
 

@@ -85,11 +85,11 @@ sound-broke : (k : Copier) → isBroke (stateOf (k .reader)) ≡ true → soundO
 unfolding soundOwed
 sound-broke k e = ap (λ (st : State). soundOwed base st (k .writer .depth) (owedOf (k .owed) (k .place))) (broke-is (stateOf (k .reader)) e) ∙ nothing-any (k .owed) (k .place)
 
-pub sound-whole : (k : Copier) → isBroke (stateOf (k .reader)) ≡ false → soundOwed base (stateOf (k .reader)) (k .writer .depth) (owedOf (k .owed) (k .place)) ≡ agrees base (k .reader .depth) (k .writer .depth) (owedOf (k .owed) (k .place))
+pub sound-whole : (k : Copier) → isBroke (stateOf (k .reader)) ≡ false → soundOwed base (stateOf (k .reader)) (k .writer .depth) (owedOf (k .owed) (k .place)) ≡ agrees base (k .reader .carried .depth) (k .writer .depth) (owedOf (k .owed) (k .place))
 unfolding soundOwed
 sound-whole k e = go (k .reader .phase) e
   where
-    go : (p : code.Phase) → isBroke (stateAt (k .reader .depth) p) ≡ false → soundOwed base (stateAt (k .reader .depth) p) (k .writer .depth) (owedOf (k .owed) (k .place)) ≡ agrees base (k .reader .depth) (k .writer .depth) (owedOf (k .owed) (k .place))
+    go : (p : code.Phase) → isBroke (stateAt (k .reader .carried .depth) p) ≡ false → soundOwed base (stateAt (k .reader .carried .depth) p) (k .writer .depth) (owedOf (k .owed) (k .place)) ≡ agrees base (k .reader .carried .depth) (k .writer .depth) (owedOf (k .owed) (k .place))
     go (phases.Header a) e = refl
     go (phases.Unsigned id left a) e = refl
     go (phases.Signed id left a) e = refl
@@ -129,5 +129,5 @@ module _ (k : Copier) (size : ℕ) where
   pub rested-broke : k .writer .npending ≡ 0 → Places ≡ true → isBroke (stateOf (k .reader)) ≡ true → owesNothing (owedOf (k .owed) 0) ≡ soundWriter k size
   rested-broke n e b = sym (by-owed n e ∙ sound-broke k b)
 
-  pub rested-whole : k .writer .npending ≡ 0 → Places ≡ true → isBroke (stateOf (k .reader)) ≡ false → agrees base (k .reader .depth) (k .writer .depth) (owedOf (k .owed) (k .place)) ≡ soundWriter k size
+  pub rested-whole : k .writer .npending ≡ 0 → Places ≡ true → isBroke (stateOf (k .reader)) ≡ false → agrees base (k .reader .carried .depth) (k .writer .depth) (owedOf (k .owed) (k .place)) ≡ soundWriter k size
   rested-whole n e b = sym (by-owed n e ∙ sound-whole k b)

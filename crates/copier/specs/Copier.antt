@@ -29,7 +29,7 @@ copierIn w k = record { reader = streamIn (k .reader); writer = moved w (k .pos)
 
 -- Number 1. "A broken reader has no number in force."
 abbrev pub soundReader : IStream → Bool
-soundReader s = elim (stateOf s) [ reading d p ↦ reader.soundStream s | owing d id r ↦ reader.soundStream s | broke ↦ true ]
+soundReader s = elim (stateOf s) [ reading d p ↦ reader.soundStream base s | owing d id r ↦ reader.soundStream base s | broke ↦ true ]
 
 -- Number 6, for a buffer of this length.
 unfoldable pub soundWriter : Copier → ℕ → Bool

@@ -2,6 +2,7 @@
 use Prim.Native.Nat.{ℕ}
 use mathlib.Core.Path.{_≡_}
 use mathlib.Core.Bool.{true}
+use Rattle.layout.specs.Limits.{base}
 use Rattle.types.specs.declared.Error.{Error}
 use Rattle.phase.proofs.Phases.{Live}
 use Rattle.istream.specs.Stream.{stateOf, soundStream}
@@ -27,4 +28,4 @@ leftWith w r = record { used = r .used; said = r .said; copier = record { reader
 
 -- a copier that is sound for a buffer of this size, and whose reader goes on
 abbrev pub Ready : Copier → ℕ → Type 0
-Ready k size = (soundStream (k .reader) ≡ true) × (Live (stateOf (k .reader)) × (soundWriter k size ≡ true))
+Ready k size = (soundStream base (k .reader) ≡ true) × (Live (stateOf (k .reader)) × (soundWriter k size ≡ true))

@@ -268,6 +268,6 @@ impl Copier {
         if is_broken(reader) {
             return is_nothing(owed);
         }
-        owed.sound(self.place, reader.depth, writer.depth)
+        owed.sound(self.place, reader.carried.depth, writer.depth)
     }
 }

@@ -60,9 +60,9 @@ read-as T w cs e =
     let b = chunk-bytes T cs (w .0) e in
     let v : verdictOf base (join cs) ≡ complete = ap (verdictOf base) e ∙ verdict T w in
     record {
-      events = feeds-joined cs b ∙ ap events e;
-      said = feeds-last cs b ∙ ap heardOf v;
-      stands = feeds-read cs b .2 ∙ ap standingOf v;
+      events = feeds-joined base cs b ∙ ap events e;
+      said = feeds-last base cs b ∙ ap heardOf v;
+      stands = feeds-read base cs b .2 ∙ ap standingOf v;
     }
 
 -- Runs there are: for every list of chunks and every buffer of one byte or more.

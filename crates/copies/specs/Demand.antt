@@ -50,9 +50,9 @@ output r = act drain (after r) .sent
 
 -- Chunks that the reader's own calls read as complete, with these events, pieces joined; no chunk at all too.
 pub record ReadAs (cs : List (List ℕ)) (es : List Event) : Type 0 where
-  pub events : joined (feedAll (streamIn fresh) 0 cs .events) ≡ es
-  pub said : lastHeard (status complete) (feedAll (streamIn fresh) 0 cs .verdicts) ≡ status complete
-  pub stands : standing (stateOf (feedAll (streamIn fresh) 0 cs .stream)) ≡ calls.Standing.complete
+  pub events : joined (feedAll base (streamIn fresh) 0 cs .events) ≡ es
+  pub said : lastHeard (status complete) (feedAll base (streamIn fresh) 0 cs .verdicts) ≡ status complete
+  pub stands : standing (stateOf (feedAll base (streamIn fresh) 0 cs .stream)) ≡ calls.Standing.complete
 
 pub record Demand : Type 0 where
   -- the opening is not refused

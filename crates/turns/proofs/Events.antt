@@ -100,11 +100,11 @@ level-step L d (inPayload id r total o) b i = let z : _≡_ {A = ℕ} 0 1 = cc i
 
 -- at an event: the writer's depth after it is the reader's, it is written as what is owed of it, and the reader goes on
 abbrev pub AtEvent : ℕ → Answer → State → Type 0
-AtEvent d (event e) s = (depthBy d e ≡ streamIn s .depth) × (Spelt e × Live s)
+AtEvent d (event e) s = (depthBy d e ≡ streamIn s .carried .depth) × (Spelt e × Live s)
 AtEvent d (verdict v) s = Unit {0}
 AtEvent d invalid s = Unit {0}
 
-raised-is : (d : ℕ) (p : Phase) (es : List Event) → (streamIn (raisedState d p es) .depth ≡ d) × Live (raisedState d p es)
+raised-is : (d : ℕ) (p : Phase) (es : List Event) → (streamIn (raisedState d p es) .carried .depth ≡ d) × Live (raisedState d p es)
 raised-is d p [] = (refl, tt)
 raised-is d p (Unsigned id n ∷ es) = (refl, tt)
 raised-is d p (Signed id z ∷ es) = (refl, tt)
@@ -115,8 +115,8 @@ raised-is d p (Array id k n ∷ es) = (refl, tt)
 raised-is d p (Begin id ∷ es) = (refl, tt)
 raised-is d p (End ∷ es) = (refl, tt)
 
-scanned-level : (d n : ℕ) (m : Stepped) (f : ℕ → Phase → Called) → Level d m → Kept m
-    → ((d′ : ℕ) (p : Phase) → d′ ≡ d → AtBytes (reading d′ p) → AtEvent d (f d′ p .answer) (f d′ p .state)) → AtEvent d (scanned n m f .answer) (scanned n m f .state)
+scanned-level : (d n : ℕ) (m : Stepped) (f : ℕ → Phase → Called) → Level d m → Kept base m
+    → ((d′ : ℕ) (p : Phase) → d′ ≡ d → AtBytes base (reading d′ p) → AtEvent d (f d′ p .answer) (f d′ p .state)) → AtEvent d (scanned n m f .answer) (scanned n m f .state)
 unfolding scanned
 scanned-level d n (on [] d′ p) f l k g = g d′ p l k
 scanned-level d n (on (e ∷ es) d′ p) f l k g = (l .0 ∙ sym (raised-is d′ p es .0), (l .1, raised-is d′ p es .1))
@@ -126,20 +126,20 @@ scanned-level d n bad f l k g = tt
 abbrev pub Bytes : List ℕ → Type 0
 Bytes bs = (i : ℕ) → getD bs i 0 < 256
 
-scan-level : (n d : ℕ) (p : Phase) (bs : List ℕ) → Bytes bs → AtBytes (reading d p) → AtEvent d (scan base n d p bs .answer) (scan base n d p bs .state)
-scan-level n d p [] h a = subst (λ (c : Called). AtEvent d (c .answer) (c .state)) (sym (scan-end n d p)) tt
+scan-level : (n d : ℕ) (p : Phase) (bs : List ℕ) → Bytes bs → AtBytes base (reading d p) → AtEvent d (scan base n d p bs .answer) (scan base n d p bs .state)
+scan-level n d p [] h a = subst (λ (c : Called). AtEvent d (c .answer) (c .state)) (sym (scan-end base n d p)) tt
 scan-level n d p (b ∷ bs) h a =
-    subst (λ (c : Called). AtEvent d (c .answer) (c .state)) (sym (scan-byte n d p b bs (a .1 .1)))
-    (scanned-level d (suc n) (step base d p b) (λ d′ p′. scan base (suc n) d′ p′ bs) (level-step base d p b (a .1 .1)) (step-keeps d p b a (h 0))
+    subst (λ (c : Called). AtEvent d (c .answer) (c .state)) (sym (scan-byte base n d p b bs (a .1 .1)))
+    (scanned-level d (suc n) (step base d p b) (λ d′ p′. scan base (suc n) d′ p′ bs) (level-step base d p b (a .1 .1)) (step-keeps base d p b a (h 0))
     (λ d′ p′ e k. subst (λ (x : ℕ). AtEvent x (scan base (suc n) d′ p′ bs .answer) (scan base (suc n) d′ p′ bs .state)) e (scan-level (suc n) d′ p′ bs (λ i. h (suc i)) k)))
 
 -- reading byte by byte, or an empty payload's piece still due
 abbrev pub Steady : State → Type 0
-Steady (reading d p) = AtBytes (reading d p)
+Steady (reading d p) = AtBytes base (reading d p)
 Steady (owing d id r) = Unit {0}
 Steady broke = ⊥
 
-pub call-level : (st : State) (c : List ℕ) → Bytes c → Steady st → AtEvent (streamIn st .depth) (call base st c .answer) (call base st c .state)
+pub call-level : (st : State) (c : List ℕ) → Bytes c → Steady st → AtEvent (streamIn st .carried .depth) (call base st c .answer) (call base st c .state)
 unfolding call depthBy
 call-level (reading d p) c h a = scan-level 0 d p c h a
 call-level (owing d id r) c h a = (refl, (refl, tt))
@@ -149,10 +149,10 @@ call-level broke c h a = absurd a
 
 -- a reader that is not within a payload
 
-pub steady : (s : IStream) → soundStream s ≡ true → Live (stateOf s) → OneOf (0 ∷ 1 ∷ 2 ∷ 3 ∷ 4 ∷ 5 ∷ 6 ∷ 7 ∷ 8 ∷ 10 ∷ 11 ∷ []) (tagOf the-type (s .phase)) → Steady (stateOf s)
-steady s t l h = go (s .depth) (s .phase) (is-sound s t) l h
+pub steady : (s : IStream) → soundStream base s ≡ true → Live (stateOf s) → OneOf (0 ∷ 1 ∷ 2 ∷ 3 ∷ 4 ∷ 5 ∷ 6 ∷ 7 ∷ 8 ∷ 10 ∷ 11 ∷ []) (tagOf the-type (s .phase)) → Steady (stateOf s)
+steady s t l h = go (s .carried .depth) (s .phase) (is-sound base s t) l h
   where
-    go : (d : ℕ) (p : code.Phase) → SoundState (stateAt d p) → Live (stateAt d p) → OneOf (0 ∷ 1 ∷ 2 ∷ 3 ∷ 4 ∷ 5 ∷ 6 ∷ 7 ∷ 8 ∷ 10 ∷ 11 ∷ []) (tagOf the-type p) → Steady (stateAt d p)
+    go : (d : ℕ) (p : code.Phase) → SoundState base (stateAt d p) → Live (stateAt d p) → OneOf (0 ∷ 1 ∷ 2 ∷ 3 ∷ 4 ∷ 5 ∷ 6 ∷ 7 ∷ 8 ∷ 10 ∷ 11 ∷ []) (tagOf the-type p) → Steady (stateAt d p)
     go d (phases.Header a) (n, s) l h = (n, (s, refl))
     go d (phases.Unsigned id left a) (n, s) l h = (n, (s, refl))
     go d (phases.Signed id left a) (n, s) l h = (n, (s, refl))
@@ -167,7 +167,7 @@ steady s t l h = go (s .depth) (s .phase) (is-sound s t) l h
     go d phases.Broken s l h = absurd l
 
 -- a sound state is within its payload or float
-pub fair : (st : State) → SoundState st → FairPlace (placeOf st)
+pub fair : (st : State) → SoundState base st → FairPlace (placeOf st)
 fair (reading d (inHeader zero v)) (n, s) = let h = s .small in omega arith
 fair (reading d (inHeader (suc k) v)) s = tt
 fair (reading d (inUnsigned id left k v)) s = tt

@@ -24,11 +24,11 @@ pub record Going (s₀ : IStream) (pos₀ : ℕ) (c b₀ b : List ℕ) (s : IStr
   pub used : n ≤ length c
   pub within : pos ≤ length b
   pub size : length b ≡ length b₀
-  pub sound : soundStream s ≡ true
+  pub sound : soundStream base s ≡ true
   pub live : Live (stateOf s)
   pub same : copy base (standing s₀ pos₀) c b₀ ≡ after n (copy base (standing s pos) (drop n c) b)
 
-pub going-start : (s : IStream) (pos : ℕ) (c b : List ℕ) → soundStream s ≡ true → Live (stateOf s) → pos ≤ length b → Going s pos c b b s pos 0
+pub going-start : (s : IStream) (pos : ℕ) (c b : List ℕ) → soundStream base s ≡ true → Live (stateOf s) → pos ≤ length b → Going s pos c b b s pos 0
 going-start s pos c b t l h =
     let r = copy base (standing s pos) c b in
     let z : r .used ≡ 0 + r .used = omega arith in

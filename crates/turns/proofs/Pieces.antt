@@ -24,7 +24,7 @@ use Rattle.istream.specs.declared.IStream.{IStream}
 use Rattle.phase.specs.declared.Phase as code
 use Rattle.phase.specs.declared.Phase.the-variants as phases
 use Rattle.istream.specs.declared.Status.the-variants.{Incomplete}
-use Rattle.phase.specs.Phases.{phaseIn}
+use Rattle.phase.specs.Phases.{phaseIn, carriedAt}
 use Rattle.istream.specs.Stream.{stateOf, streamIn}
 use Rattle.phase.specs.Sound.{SoundState}
 use Rattle.phase.proofs.Phases.{raw-back}
@@ -45,8 +45,8 @@ use Rattle.turns.specs.Turns.{standing, endedIn, Went, Turned, pastPiece
 use Rattle.turns.proofs.Events.{fair}
 use Rattle.turns.proofs.Turns.{goes-out, ended-later}
 
-is-payload : (s : IStream) (id : ℕ) (r : RawType) (total o : ℕ) → s .phase ≡ phases.Payload id r total o → s ≡ record { phase = phases.Payload id r total o; depth = s .depth }
-is-payload s id r total o e = ap (λ (p : code.Phase). record { phase = p; depth = s .depth }) e
+is-payload : (s : IStream) (id : ℕ) (r : RawType) (total o : ℕ) → s .phase ≡ phases.Payload id r total o → s ≡ record { phase = phases.Payload id r total o; carried = s .carried }
+is-payload s id r total o e = ap (λ (p : code.Phase). record { phase = p; carried = s .carried }) e
 
 take-none : (n : ℕ) → take {A = ℕ} n [] ≡ []
 take-none zero = refl
@@ -54,7 +54,7 @@ take-none (suc n) = refl
 
 module _ (d id : ℕ) (r : RawType) (total o pos : ℕ) (b : List ℕ) (h : pos ≤ length b) where
   abbrev at : IStream
-  at = record { phase = phases.Payload id r total o; depth = d }
+  at = record { phase = phases.Payload id r total o; carried = carriedAt d }
 
   abbrev stands : State
   stands = reading d (inPayload id (rawSort r) total o)
@@ -76,7 +76,7 @@ module _ (d id : ℕ) (r : RawType) (total o pos : ℕ) (b : List ℕ) (h : pos 
       (ap endedIn (copy-stuck base (standing at pos) (x ∷ xs) b refl e) ∙ ap (λ (y : IStream). record { used = 0; said = Said.full; reader = y; depth = d; pos = pos; owed = Nothing; place = 0; buf = b }) (stream-back d (phases.Payload id r total o) tt), omega arith, refl)
 
   -- as many bytes as there is room for
-  module _ (x : ℕ) (xs : List ℕ) (m : ℕ) (e : length b - pos ≡ suc m) (s : SoundState stands) where
+  module _ (x : ℕ) (xs : List ℕ) (m : ℕ) (e : length b - pos ≡ suc m) (s : SoundState base stands) where
     part : ℕ
     part = min (total - o) (length (take (suc m) (x ∷ xs)))
 
@@ -91,12 +91,12 @@ module _ (d id : ℕ) (r : RawType) (total o pos : ℕ) (b : List ℕ) (h : pos 
     unfolding stuck
     free = ap (λ (n : ℕ). stuck stands n (x ∷ xs)) e
 
-    sound-next : SoundState next
+    sound-next : SoundState base next
     sound-next = go (ltb (o + part) total) refl
       where
-        go : (t : Bool) → ltb (o + part) total ≡ t → SoundState (reading d (pick t (inPayload id (rawSort r) total (o + part)) idle))
+        go : (t : Bool) → ltb (o + part) total ≡ t → SoundState base (reading d (pick t (inPayload id (rawSort r) total (o + part)) idle))
         go true q = (s .0, (s .1 .0, (s .1 .1 .0, ltb-true _ _ q)))
-        go false q = (s .0, sound-start)
+        go false q = (s .0, sound-start base)
 
     least : length (take (suc m) (x ∷ xs)) ≤ suc m → part ≤ suc m
     unfolding part
@@ -137,50 +137,50 @@ pub past-end : (id : ℕ) (r : RawType) (total o n : ℕ) (p : code.Phase) → p
 past-end id r total o n p e h = e ∙ sym (ap (λ (t : Bool). phaseIn (pick t (inPayload id (rawSort r) total (o + n)) idle)) (le-ltb (o + n) total h))
 
 -- an empty chunk, and a full buffer
-piece-none : (s : IStream) (id : ℕ) (r : RawType) (total o pos : ℕ) (b : List ℕ) → pos ≤ length b → InPayload s id r total o → Turned s pos [] b (turns.Stop (pause (s .depth) 0 (Status Incomplete) s pos)) b
+piece-none : (s : IStream) (id : ℕ) (r : RawType) (total o pos : ℕ) (b : List ℕ) → pos ≤ length b → InPayload s id r total o → Turned s pos [] b (turns.Stop (pause (s .carried .depth) 0 (Status Incomplete) s pos)) b
 piece-none s id r total o pos b h (t, u) =
     let i = is-payload s id r total o u in
-    let st = subst (λ (x : IStream). SoundState (stateOf x)) i (is-sound s t) in
-    subst (λ (x : IStream). Turned x pos [] b (turns.Stop (pause (s .depth) 0 (Status Incomplete) x pos)) b) (sym i) (no-bytes (s .depth) id r total o pos b h (st .1 .1 .1))
+    let st = subst (λ (x : IStream). SoundState base (stateOf x)) i (is-sound base s t) in
+    subst (λ (x : IStream). Turned x pos [] b (turns.Stop (pause (s .carried .depth) 0 (Status Incomplete) x pos)) b) (sym i) (no-bytes (s .carried .depth) id r total o pos b h (st .1 .1 .1))
 
-piece-full : (s : IStream) (id : ℕ) (r : RawType) (total o pos x : ℕ) (xs b : List ℕ) → pos ≤ length b → InPayload s id r total o → length b - pos ≡ 0 → Turned s pos (x ∷ xs) b (turns.Stop (pause (s .depth) 0 Full s pos)) b
+piece-full : (s : IStream) (id : ℕ) (r : RawType) (total o pos x : ℕ) (xs b : List ℕ) → pos ≤ length b → InPayload s id r total o → length b - pos ≡ 0 → Turned s pos (x ∷ xs) b (turns.Stop (pause (s .carried .depth) 0 Full s pos)) b
 piece-full s id r total o pos x xs b h (t, u) z =
-    subst (λ (y : IStream). Turned y pos (x ∷ xs) b (turns.Stop (pause (s .depth) 0 Full y pos)) b) (sym (is-payload s id r total o u)) (no-room (s .depth) id r total o pos b h x xs z)
+    subst (λ (y : IStream). Turned y pos (x ∷ xs) b (turns.Stop (pause (s .carried .depth) 0 Full y pos)) b) (sym (is-payload s id r total o u)) (no-room (s .carried .depth) id r total o pos b h x xs z)
 
 -- a payload's bytes are below its total, which has room in 32 bits
 pub piece-small : (s : IStream) (id : ℕ) (r : RawType) (total o : ℕ) → InPayload s id r total o → (o < total) × (total ≤ 2147483647)
 piece-small s id r total o (t, u) =
-    let st = subst (λ (x : IStream). SoundState (stateOf x)) (is-payload s id r total o u) (is-sound s t) in
+    let st = subst (λ (x : IStream). SoundState base (stateOf x)) (is-payload s id r total o u) (is-sound base s t) in
     (st .1 .1 .1, st .1 .1 .0)
 
 -- some bytes go out
 piece-goes : (s : IStream) (id : ℕ) (r : RawType) (total o pos : ℕ) (c b : List ℕ) → pos ≤ length b → InPayload s id r total o → (k n : ℕ) → k ≡ min (length c) (length b - pos) → n ≡ min k (total - o) → 0 < n
-    → (p : code.Phase) → p ≡ pastPiece id r total o n → Went s pos c b (record { phase = p; depth = s .depth }) n (reached b pos (take n c)) (put b pos (take n c))
+    → (p : code.Phase) → p ≡ pastPiece id r total o n → Went s pos c b (record { phase = p; carried = s .carried }) n (reached b pos (take n c)) (put b pos (take n c))
 piece-goes s id r total o pos [] b h p k m w f i q g = absurd (omega arith)
 piece-goes s id r total o pos (x ∷ xs) b h (t, u) k m w f i q g = go (length b - pos) refl
   where
-    same : s ≡ record { phase = phases.Payload id r total o; depth = s .depth }
+    same : s ≡ record { phase = phases.Payload id r total o; carried = s .carried }
     same = is-payload s id r total o u
 
     Goes : IStream → code.Phase → ℕ → Type 0
-    Goes y v j = Went y pos (x ∷ xs) b (record { phase = v; depth = s .depth }) j (reached b pos (take j (x ∷ xs))) (put b pos (take j (x ∷ xs)))
+    Goes y v j = Went y pos (x ∷ xs) b (record { phase = v; carried = s .carried }) j (reached b pos (take j (x ∷ xs))) (put b pos (take j (x ∷ xs)))
 
     go : (j : ℕ) → length b - pos ≡ j → Goes s q m
     go zero e = absurd (omega arith)
     go (suc j) e =
-        let y : IStream = record { phase = phases.Payload id r total o; depth = s .depth } in
-        let st = subst (λ (x : IStream). SoundState (stateOf x)) same (is-sound s t) in
-        let v = some-go (s .depth) id r total o pos b h x xs j e st in
-        let a = part-is (s .depth) id r total o pos b h x xs j e st k m w f in
+        let y : IStream = record { phase = phases.Payload id r total o; carried = s .carried } in
+        let st = subst (λ (x : IStream). SoundState base (stateOf x)) same (is-sound base s t) in
+        let v = some-go (s .carried .depth) id r total o pos b h x xs j e st in
+        let a = part-is (s .carried .depth) id r total o pos b h x xs j e st k m w f in
         subst (λ (v : code.Phase). Goes s v m) (sym g)
         (subst (λ (y : IStream). Goes y (pastPiece id r total o m) m) (sym same) (subst (λ (l : ℕ). Goes y (pastPiece id r total o l) l) a v))
 
 -- no byte of the chunk is left, or no room: the call stops
 rests : (s : IStream) (id : ℕ) (r : RawType) (total o pos : ℕ) (c b : List ℕ) → pos ≤ length b → InPayload s id r total o → (0 < length c → length b - pos ≡ 0)
-    → Turned s pos c b (turns.Stop (pause (s .depth) 0 (cutOff 0 (length c)) s pos)) b
+    → Turned s pos c b (turns.Stop (pause (s .carried .depth) 0 (cutOff 0 (length c)) s pos)) b
 rests s id r total o pos [] b h p f = piece-none s id r total o pos b h p
 rests s id r total o pos (x ∷ xs) b h p f =
-    subst (λ (t : Bool). Turned s pos (x ∷ xs) b (turns.Stop (pause (s .depth) 0 (pick t Full (Status Incomplete)) s pos)) b) (sym (lt-ltb 0 (suc (length xs)) (omega arith)))
+    subst (λ (t : Bool). Turned s pos (x ∷ xs) b (turns.Stop (pause (s .carried .depth) 0 (pick t Full (Status Incomplete)) s pos)) b) (sym (lt-ltb 0 (suc (length xs)) (omega arith)))
     (piece-full s id r total o pos x xs b h p (f (omega arith)))
 
 -- a turn, and a stop at the next: one stop
@@ -247,22 +247,22 @@ same-cut n lc d e = go (ltb n lc) refl
 module _ (s : IStream) (id : ℕ) (r : RawType) (total o pos : ℕ) (c b : List ℕ) (h : pos ≤ length b) (p : InPayload s id r total o) (k n : ℕ)
     (e : k ≡ min (length c) (length b - pos)) (f : n ≡ min k (total - o)) (end : ℕ) (b′ : List ℕ) (g : (end ≡ reached b pos (drop 0 (take n c))) × (b′ ≡ put b pos (drop 0 (take n c))))
   where
-    went : (q : code.Phase) → q ≡ pastPiece id r total o n → 0 < n → Went s pos c b (record { phase = q; depth = s .depth }) n end b′
+    went : (q : code.Phase) → q ≡ pastPiece id r total o n → 0 < n → Went s pos c b (record { phase = q; carried = s .carried }) n end b′
     went q i z =
-        subst (λ (m : ℕ). Went s pos c b (record { phase = q; depth = s .depth }) n m b′) (sym (g .0))
-        (subst (λ (x : List ℕ). Went s pos c b (record { phase = q; depth = s .depth }) n (reached b pos (take n c)) x) (sym (g .1)) (piece-goes s id r total o pos c b h p k n e f z q i))
+        subst (λ (m : ℕ). Went s pos c b (record { phase = q; carried = s .carried }) n m b′) (sym (g .0))
+        (subst (λ (x : List ℕ). Went s pos c b (record { phase = q; carried = s .carried }) n (reached b pos (take n c)) x) (sym (g .1)) (piece-goes s id r total o pos c b h p k n e f z q i))
 
     -- it is at its end,
-    pub piece-ends : total ≤ o + n → (q : code.Phase) → q ≡ phaseIn idle → Went s pos c b (record { phase = q; depth = s .depth }) n end b′
+    pub piece-ends : total ≤ o + n → (q : code.Phase) → q ≡ phaseIn idle → Went s pos c b (record { phase = q; carried = s .carried }) n end b′
     piece-ends l q i = let m = piece-small s id r total o p .0 in went q (past-end id r total o n q i l) (omega arith)
 
     -- or it goes on
     module _ (l : o + n < total) where
       abbrev onward : IStream
-      onward = record { phase = phases.Payload id r total (o + n); depth = s .depth }
+      onward = record { phase = phases.Payload id r total (o + n); carried = s .carried }
 
       abbrev Stopped : ℕ → Type 0
-      Stopped m = Turned s pos c b (turns.Stop (pause (s .depth) m (cutOff n (length c)) onward end)) b′
+      Stopped m = Turned s pos c b (turns.Stop (pause (s .carried .depth) m (cutOff n (length c)) onward end)) b′
 
       -- with no byte out
       stays : n ≡ 0 → Stopped n
@@ -272,10 +272,10 @@ module _ (s : IStream) (id : ℕ) (r : RawType) (total o pos : ℕ) (c b : List 
           let u : end ≡ pos = g .0 ∙ reached-is b pos (take n c) ∙ none-at pos (length (take n c)) (length b - pos) y in
           let v : b′ ≡ b = g .1 ∙ put-none b pos (take n c) y in
           let w = rests s id r total o pos c b h p (λ i. sym (no-more (length b - pos) (length c) k n (total - o) e f (beyond o n total l) (omega arith)) ∙ z) in
-          subst (λ (d : List ℕ). Turned s pos c b (turns.Stop (pause (s .depth) n (cutOff n (length c)) onward end)) d) (sym v)
-          (subst (λ (m : ℕ). Turned s pos c b (turns.Stop (pause (s .depth) n (cutOff n (length c)) onward m)) b) (sym u)
-          (subst (λ (m : ℕ). Turned s pos c b (turns.Stop (pause (s .depth) m (cutOff m (length c)) onward pos)) b) (sym z)
-          (subst (λ (q : code.Phase). Turned s pos c b (turns.Stop (pause (s .depth) 0 (cutOff 0 (length c)) (record { phase = q; depth = s .depth }) pos)) b) (p .1 ∙ ap (λ (m : ℕ). phases.Payload id r total m) x) w)))
+          subst (λ (d : List ℕ). Turned s pos c b (turns.Stop (pause (s .carried .depth) n (cutOff n (length c)) onward end)) d) (sym v)
+          (subst (λ (m : ℕ). Turned s pos c b (turns.Stop (pause (s .carried .depth) n (cutOff n (length c)) onward m)) b) (sym u)
+          (subst (λ (m : ℕ). Turned s pos c b (turns.Stop (pause (s .carried .depth) m (cutOff m (length c)) onward pos)) b) (sym z)
+          (subst (λ (q : code.Phase). Turned s pos c b (turns.Stop (pause (s .carried .depth) 0 (cutOff 0 (length c)) (record { phase = q; carried = s .carried }) pos)) b) (p .1 ∙ ap (λ (m : ℕ). phases.Payload id r total m) x) w)))
 
       -- and with some
       moves : 0 < n → Stopped n
@@ -285,10 +285,10 @@ module _ (s : IStream) (id : ℕ) (r : RawType) (total o pos : ℕ) (c b : List 
           ap (λ (m : ℕ). m - end) (w .size)
           ∙ spent-room (length b) pos end n (length (take n c)) (length c) h (no-more (length b - pos) (length c) k n (total - o) e f (beyond o n total l) u) (lt-le n (length c) u) (length-take n c) (g .0 ∙ reached-is b pos (take n c)) in
           let t = rests onward id r total (o + n) end (drop n c) b′ (at-most (length b) (length b′) end (w .size) (w .within)) (w .sound, refl) (λ u. full (more-left (length (drop n c)) (length c) n (length-drop n c) u)) in
-          let q = went-stops s pos c b onward n end b′ (pause (s .depth) 0 (cutOff 0 (length (drop n c))) onward end) b′ w t in
+          let q = went-stops s pos c b onward n end b′ (pause (s .carried .depth) 0 (cutOff 0 (length (drop n c))) onward end) b′ w t in
           let j : n + 0 ≡ n = omega arith in
           subst Stopped j
-          (subst (λ (x : Bool). Turned s pos c b (turns.Stop (pause (s .depth) (n + 0) (pick x Full (Status Incomplete)) onward end)) b′) (same-cut n (length c) (length (drop n c)) (length-drop n c)) q)
+          (subst (λ (x : Bool). Turned s pos c b (turns.Stop (pause (s .carried .depth) (n + 0) (pick x Full (Status Incomplete)) onward end)) b′) (same-cut n (length c) (length (drop n c)) (length-drop n c)) q)
 
       pub piece-stops : Stopped n
       piece-stops = go n refl

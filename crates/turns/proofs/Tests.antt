@@ -7,7 +7,7 @@ use lib.ListN.{length, drop}
 use borrow.Author.Tests.{lt-leb, le-leb}
 use types.Run.{OneOf, miss}
 use denote.Enum.Declared.{tagOf}
-use Rattle.layout.specs.Limits.{pick}
+use Rattle.layout.specs.Limits.{base, pick}
 use Rattle.types.specs.declared.Error.{Error}
 use Rattle.event.specs.declared.Event.{Event}
 use Rattle.event.specs.Event.{eventOf}
@@ -37,7 +37,7 @@ pub none-due : (s : IStream) → OneOf (0 ∷ 3 ∷ 4 ∷ 5 ∷ 6 ∷ 7 ∷ 9 �
 unfolding dueIn
 none-due s h = go (s .phase) h
   where
-    go : (p : code.Phase) → OneOf (0 ∷ 3 ∷ 4 ∷ 5 ∷ 6 ∷ 7 ∷ 9 ∷ 10 ∷ 11 ∷ []) (tagOf readers.the-type p) → 0 ≡ dueIn (stateAt (s .depth) p)
+    go : (p : code.Phase) → OneOf (0 ∷ 3 ∷ 4 ∷ 5 ∷ 6 ∷ 7 ∷ 9 ∷ 10 ∷ 11 ∷ []) (tagOf readers.the-type p) → 0 ≡ dueIn (stateAt (s .carried .depth) p)
     go (phases.Header a) h = refl
     go (phases.Unsigned id left a) h = absurd (miss (0 ∷ 3 ∷ 4 ∷ 5 ∷ 6 ∷ 7 ∷ 9 ∷ 10 ∷ 11 ∷ []) 1 tt h)
     go (phases.Signed id left a) h = absurd (miss (0 ∷ 3 ∷ 4 ∷ 5 ∷ 6 ∷ 7 ∷ 9 ∷ 10 ∷ 11 ∷ []) 2 tt h)
@@ -94,13 +94,13 @@ module _ (d left : ℕ) (f : Fed) (pos : ℕ) (b : List ℕ) where
   heard-refused x t a e = (e ∙ sym (ap (λ (x : answers.Answer). turnBy d left x (f .read) (f .stream) pos b) a), sym (ap (λ (x : answers.Answer). bufBy left x pos b) a))
 
 -- the call's parts put together
-pub turned-by : (s : IStream) (pos : ℕ) (c b : List ℕ) (left : ℕ) (f : Fed) (t : Turn) (b′ : List ℕ) → left ≡ dueIn (stateOf s) → f ≡ fedOf s c
-    → (t ≡ heardTurn (s .depth) left f pos b) × (b′ ≡ heardBuf left f pos b)
-    → Turned s pos c b (heardTurn (s .depth) (dueIn (stateOf s)) (fedOf s c) pos b) (heardBuf (dueIn (stateOf s)) (fedOf s c) pos b) → Turned s pos c b t b′
+pub turned-by : (s : IStream) (pos : ℕ) (c b : List ℕ) (left : ℕ) (f : Fed) (t : Turn) (b′ : List ℕ) → left ≡ dueIn (stateOf s) → f ≡ fedOf base s c
+    → (t ≡ heardTurn (s .carried .depth) left f pos b) × (b′ ≡ heardBuf left f pos b)
+    → Turned s pos c b (heardTurn (s .carried .depth) (dueIn (stateOf s)) (fedOf base s c) pos b) (heardBuf (dueIn (stateOf s)) (fedOf base s c) pos b) → Turned s pos c b t b′
 turned-by s pos c b left f t b′ e i (p, q) h =
-    let x = p ∙ ap (λ (n : ℕ). heardTurn (s .depth) n f pos b) e ∙ ap (λ (y : Fed). heardTurn (s .depth) (dueIn (stateOf s)) y pos b) i in
+    let x = p ∙ ap (λ (n : ℕ). heardTurn (s .carried .depth) n f pos b) e ∙ ap (λ (y : Fed). heardTurn (s .carried .depth) (dueIn (stateOf s)) y pos b) i in
     let z = q ∙ ap (λ (n : ℕ). heardBuf n f pos b) e ∙ ap (λ (y : Fed). heardBuf (dueIn (stateOf s)) y pos b) i in
-    subst (λ (y : Turn). Turned s pos c b y b′) (sym x) (subst (λ (y : List ℕ). Turned s pos c b (heardTurn (s .depth) (dueIn (stateOf s)) (fedOf s c) pos b) y) (sym z) h)
+    subst (λ (y : Turn). Turned s pos c b y b′) (sym x) (subst (λ (y : List ℕ). Turned s pos c b (heardTurn (s .carried .depth) (dueIn (stateOf s)) (fedOf base s c) pos b) y) (sym z) h)
 
 pub turned-stop : (s : IStream) (pos : ℕ) (c b : List ℕ) (t : Turn) (d n : ℕ) (a a′ : Answer) (s′ : IStream) (end : ℕ) (b′ : List ℕ) → t ≡ turns.Stop (pause d n a s′ end) → a ≡ a′
     → Turned s pos c b (turns.Stop (pause d n a′ s′ end)) b′ → Turned s pos c b t b′

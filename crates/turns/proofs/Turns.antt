@@ -104,7 +104,7 @@ unfolding rest
 rest-is left e = refl
 
 -- the event is out: the definition goes on as one that finds nothing owed
-settled-is : (k : Copy) (st : State) (left : ℕ) (e : Event) (pos : ℕ) → depthBy (k .depth) e ≡ streamIn st .depth → settled (gone k st (owes left e 0)) pos ≡ standing (streamIn st) pos
+settled-is : (k : Copy) (st : State) (left : ℕ) (e : Event) (pos : ℕ) → depthBy (k .depth) e ≡ streamIn st .carried .depth → settled (gone k st (owes left e 0)) pos ≡ standing (streamIn st) pos
 unfolding depthOnce
 settled-is k st left e pos h = λ i. record { reader = sym (state-of-stream st) i; depth = h i; pos = pos; owed = nothing }
 
@@ -122,7 +122,7 @@ module _ (s : IStream) (pos : ℕ) (c b : List ℕ) (h : pos ≤ length b) where
   Gives n e st = copy base (standing s pos) c b ≡ after n (copy base (gone (standing s pos) st (owes (dueIn (stateOf s)) e 0)) (drop n c) b)
 
   pub goes-out : (n : ℕ) (e : Event) (st : State) (out : List ℕ) → eventBytes (dueIn (stateOf s)) e ≡ out → length out ≤ length b - pos → Gives n e st → n ≤ length c
-      → Closes (event e) (stateOf s) st n (length c) → depthBy (s .depth) e ≡ streamIn st .depth → Live st → SoundState st
+      → Closes (event e) (stateOf s) st n (length c) → depthBy (s .carried .depth) e ≡ streamIn st .carried .depth → Live st → SoundState base st
       → Went s pos c b (streamIn st) n (reached b pos out) (put b pos out)
   goes-out n e st out z f q few cl dp lv ss =
       let k = gone (standing s pos) st (owes (dueIn (stateOf s)) e 0) in
@@ -136,15 +136,15 @@ module _ (s : IStream) (pos : ℕ) (c b : List ℕ) (h : pos ≤ length b) where
             ∙ ap (λ (j : Copy). copy base j (drop n c) (put b pos out)) (settled-is (standing s pos) st (dueIn (stateOf s)) e (reached b pos out) dp));
         few = few;
         nearer = subst (λ (x : State). 2 * (length c - n) + weight x < 2 * length c + weight (stateOf s)) (sym back) cl;
-        sound = sound-is st ss;
+        sound = sound-is base st ss;
         live = subst Live (sym back) lv;
         size = length-put b pos out h;
         within = reached-le b pos out h;
       }
 
   by-room : (t : Bool) (n : ℕ) (e : Event) (st : State) → let o = owe (dueIn (stateOf s)) e in leb (length (outputBytes (outputOf o))) (length b - pos) ≡ t → Gives n e st → n ≤ length c
-      → Closes (event e) (stateOf s) st n (length c) → AtEvent (s .depth) (event e) st → SoundState st
-      → Turned s pos c b (pick t (turns.On (streamIn st) n (reached b pos (outputBytes (outputOf o)))) (turns.Stop (fullStop (s .depth) o n (streamIn st) pos b))) (eventBuf o pos b)
+      → Closes (event e) (stateOf s) st n (length c) → AtEvent (s .carried .depth) (event e) st → SoundState base st
+      → Turned s pos c b (pick t (turns.On (streamIn st) n (reached b pos (outputBytes (outputOf o)))) (turns.Stop (fullStop (s .carried .depth) o n (streamIn st) pos b))) (eventBuf o pos b)
   by-room true n e st t q few cl ae ss =
       goes-out n e st (outputBytes (outputOf (owe (dueIn (stateOf s)) e))) (spelled-event (dueIn (stateOf s)) e (ae .1 .0)) (leb-true _ _ t) q few cl (ae .0) (ae .1 .1) ss
   by-room false n e st t q few cl ae ss =
@@ -159,54 +159,54 @@ module _ (s : IStream) (pos : ℕ) (c b : List ℕ) (h : pos ≤ length b) where
       (ap endedIn full ∙ filled-is (standing s pos) st (dueIn (stateOf s)) e n (reached b pos out) (put b pos out), few, length-put b pos out h)
 
   at-event : (n : ℕ) (e : Event) (st : State) (o : Owed) → o ≡ owe (dueIn (stateOf s)) e → Gives n e st → n ≤ length c → Closes (event e) (stateOf s) st n (length c)
-      → AtEvent (s .depth) (event e) st → SoundState st → Turned s pos c b (eventTurn (s .depth) o n (streamIn st) pos b) (eventBuf o pos b)
+      → AtEvent (s .carried .depth) (event e) st → SoundState base st → Turned s pos c b (eventTurn (s .carried .depth) o n (streamIn st) pos b) (eventBuf o pos b)
   at-event n e st o i q few cl ae ss =
-      subst (λ (x : Owed). Turned s pos c b (eventTurn (s .depth) x n (streamIn st) pos b) (eventBuf x pos b)) (sym i)
+      subst (λ (x : Owed). Turned s pos c b (eventTurn (s .carried .depth) x n (streamIn st) pos b) (eventBuf x pos b)) (sym i)
       (by-room (leb (length (outputBytes (outputOf (owe (dueIn (stateOf s)) e)))) (length b - pos)) n e st refl q few cl ae ss)
 
   by-answer : (n : ℕ) (a : calls.Answer) (st : State)
       → copy base (standing s pos) c b ≡ heard (standing s pos) c b (record { read = n; answer = a; state = st }) (λ e. copy base (gone (standing s pos) st (owes (dueIn (stateOf s)) e 0)) (drop n c) b)
-      → n ≤ length c → Closes a (stateOf s) st n (length c) → Ranged c n a → AtEvent (s .depth) a st → SoundState st
-      → let f = fedIn (record { read = n; answer = a; state = st }) in Turned s pos c b (heardTurn (s .depth) (dueIn (stateOf s)) f pos b) (heardBuf (dueIn (stateOf s)) f pos b)
+      → n ≤ length c → Closes a (stateOf s) st n (length c) → Ranged c n a → AtEvent (s .carried .depth) a st → SoundState base st
+      → let f = fedIn (record { read = n; answer = a; state = st }) in Turned s pos c b (heardTurn (s .carried .depth) (dueIn (stateOf s)) f pos b) (heardBuf (dueIn (stateOf s)) f pos b)
   unfolding heard fedIn
   by-answer n (event e) st q few cl rg ae ss =
       at-event n e st _ (owe-any (dueIn (stateOf s)) c (declared (n - covered e) e) ∙ ap (owe (dueIn (stateOf s))) (declared-back c (n - covered e) e rg)) q few cl ae ss
   by-answer n (verdict v) st q few cl rg ae ss = (
-    ap endedIn q ∙ ap (λ (x : Said). record { used = n; said = x; reader = streamIn st; depth = s .depth; pos = pos; owed = Nothing; place = 0; buf = b }) (said-judged st v (cl .1)),
+    ap endedIn q ∙ ap (λ (x : Said). record { used = n; said = x; reader = streamIn st; depth = s .carried .depth; pos = pos; owed = Nothing; place = 0; buf = b }) (said-judged st v (cl .1)),
     few,
     refl,
   )
   by-answer n invalid st q few cl rg ae ss = (ap endedIn q, few, refl)
 
-  depth-there : Live (stateOf s) → streamIn (stateOf s) .depth ≡ s .depth
-  depth-there l = ap (λ (x : IStream). x .depth) (stream-back (s .depth) (s .phase) l)
+  depth-there : Live (stateOf s) → streamIn (stateOf s) .carried .depth ≡ s .carried .depth
+  depth-there l = ap (λ (x : IStream). x .carried .depth) (stream-back (s .carried .depth) (s .phase) l)
 
   -- a call of the reader that is handed the chunk
   called : (r : Called) → copy base (standing s pos) c b ≡ heard (standing s pos) c b r (λ e. copy base (gone (standing s pos) (r .state) (owes (dueIn (stateOf s)) e 0)) (drop (r .read) c) b)
-      → Heard base (stateOf s) c r → Ranged c (r .read) (r .answer) → AtEvent (s .depth) (r .answer) (r .state) → SoundState (r .state)
-      → Turned s pos c b (heardTurn (s .depth) (dueIn (stateOf s)) (fedIn r) pos b) (heardBuf (dueIn (stateOf s)) (fedIn r) pos b)
+      → Heard base (stateOf s) c r → Ranged c (r .read) (r .answer) → AtEvent (s .carried .depth) (r .answer) (r .state) → SoundState base (r .state)
+      → Turned s pos c b (heardTurn (s .carried .depth) (dueIn (stateOf s)) (fedIn r) pos b) (heardBuf (dueIn (stateOf s)) (fedIn r) pos b)
   called r q hd rg ae ss = by-answer (r .read) (r .answer) (r .state) q (hd .few) (hd .closes) rg ae ss
 
-  call-sound : Bytes c → soundStream s ≡ true → Live (stateOf s) → SoundState (call base (stateOf s) c .state)
+  call-sound : Bytes c → soundStream base s ≡ true → Live (stateOf s) → SoundState base (call base (stateOf s) c .state)
   unfolding fedIn
   call-sound bs t l =
-      let e : soundStream (streamIn (call base (stateOf s) c .state)) ≡ true =
-      ap (λ (f : Fed). soundStream (f .stream)) (fed-sound s (stateOf s) c refl l t) ∙ feed-keeps s c bs t in
-      subst SoundState (state-of-stream (call base (stateOf s) c .state)) (is-sound (streamIn (call base (stateOf s) c .state)) e)
+      let e : soundStream base (streamIn (call base (stateOf s) c .state)) ≡ true =
+      ap (λ (f : Fed). soundStream base (f .stream)) (fed-sound base s (stateOf s) c refl l t) ∙ feed-keeps base s c bs t in
+      subst (SoundState base) (state-of-stream (call base (stateOf s) c .state)) (is-sound base (streamIn (call base (stateOf s) c .state)) e)
 
   -- where no payload is under way
-  pub steady-turn : soundStream s ≡ true → Live (stateOf s) → Steady (stateOf s) → Bytes c
-      → Turned s pos c b (heardTurn (s .depth) (dueIn (stateOf s)) (fedOf s c) pos b) (heardBuf (dueIn (stateOf s)) (fedOf s c) pos b)
+  pub steady-turn : soundStream base s ≡ true → Live (stateOf s) → Steady (stateOf s) → Bytes c
+      → Turned s pos c b (heardTurn (s .carried .depth) (dueIn (stateOf s)) (fedOf base s c) pos b) (heardBuf (dueIn (stateOf s)) (fedOf base s c) pos b)
   steady-turn t l a bs =
       let st = stateOf s in
       let room = length b - pos in
       let i : handed st room c ≡ c = still-handed st room c a in
-      let f : FairPlace (placeOf st) = fair st (is-sound s t) in
+      let f : FairPlace (placeOf st) = fair st (is-sound base s t) in
       let k = standing s pos in
       let q = subst (λ (x : List ℕ). copy base k c b ≡ heard k c b (call base st x) (λ e. copy base (gone k (call base st x .state) (owes (dueIn st) e 0)) (drop (call base st x .read) c) b)) i (copy-turn base k c b f refl (not-stuck st room c a)) in
       let hd = subst (λ (x : List ℕ). Heard base st c (call base st x)) i (turn-heard base st room c f (not-stuck st room c a)) in
-      subst (λ (x : Fed). Turned s pos c b (heardTurn (s .depth) (dueIn st) x pos b) (heardBuf (dueIn st) x pos b)) (fed-sound s st c refl l t)
-      (called (call base st c) q hd (call-range st c (is-sound s t) (all-bytes c bs)) (subst (λ (x : ℕ). AtEvent x (call base st c .answer) (call base st c .state)) (depth-there l) (call-level st c bs a)) (call-sound bs t l))
+      subst (λ (x : Fed). Turned s pos c b (heardTurn (s .carried .depth) (dueIn st) x pos b) (heardBuf (dueIn st) x pos b)) (fed-sound base s st c refl l t)
+      (called (call base st c) q hd (call-range base st c (is-sound base s t) (all-bytes c bs)) (subst (λ (x : ℕ). AtEvent x (call base st c .answer) (call base st c .state)) (depth-there l) (call-level st c bs a)) (call-sound bs t l))
 
 -- what stands in its shortest form goes as it came
 pub ahead-went : (s : IStream) (pos m : ℕ) (c b : List ℕ) (n : ℕ) (s′ : IStream) → pos ≤ length b → m ≡ min (length c) (length b - pos) → Ahead s (take m c) n s′ → 0 < n
@@ -219,7 +219,7 @@ ahead-went s pos m c b n s′ h e a z =
     let u : length (take n c) ≡ n = length-take n c ∙ least n (length c) l in
     let j : pos + length (take n c) ≤ length b = omega arith in
     let q : copy base (standing s pos) (take n c ++ drop n c) b ≡ after (length (take n c)) (copy base (standing s′ (pos + length (take n c))) (drop n c) (put b pos (take n c))) =
-    subst (λ (x : List ℕ). AsIs base (stateOf s) (s .depth) x (stateOf s′) (s′ .depth)) i (a .same) pos (drop n c) b j in
+    subst (λ (x : List ℕ). AsIs base (stateOf s) (s .carried .depth) x (stateOf s′) (s′ .carried .depth)) i (a .same) pos (drop n c) b j in
     let r : reached b pos (take n c) ≡ pos + length (take n c) = reached-is b pos (take n c) ∙ ap (λ (x : ℕ). pos + x) (least (length (take n c)) (length b - pos) (omega arith)) in
     record {
       same =

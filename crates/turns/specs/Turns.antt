@@ -39,7 +39,7 @@ use Rattle.turns.specs.Said.{Said, saidOf, saidIn}
 
 -- the copier where nothing is owed
 abbrev pub standing : IStream → ℕ → Copy
-standing s pos = record { reader = stateOf s; depth = s .depth; pos = pos; owed = nothing }
+standing s pos = record { reader = stateOf s; depth = s .carried .depth; pos = pos; owed = nothing }
 
 -- what a call uses, says and leaves, but for the writer's places
 pub record Ended : Type 0 where
@@ -115,7 +115,7 @@ heardBuf left f pos b = bufBy left (f .answer) pos b
 
 -- a sound reader within a payload
 abbrev pub InPayload : IStream → ℕ → RawType → ℕ → ℕ → Type 0
-InPayload s id r total o = (soundStream s ≡ true) × (s .phase ≡ phases.Payload id r total o)
+InPayload s id r total o = (soundStream base s ≡ true) × (s .phase ≡ phases.Payload id r total o)
 
 -- a payload's phase, n of its bytes later
 abbrev pub pastPiece : ℕ → RawType → ℕ → ℕ → ℕ → Phase
@@ -132,7 +132,7 @@ pub record Went (s : IStream) (pos : ℕ) (c b : List ℕ) (s′ : IStream) (n p
   pub same : copy base (standing s pos) c b ≡ after n (copy base (standing s′ pos′) (drop n c) b′)
   pub few : n ≤ length c
   pub nearer : 2 * (length c - n) + weight (stateOf s′) < 2 * length c + weight (stateOf s)
-  pub sound : soundStream s′ ≡ true
+  pub sound : soundStream base s′ ≡ true
   pub live : Live (stateOf s′)
   pub size : length b′ ≡ length b
   pub within : pos′ ≤ length b

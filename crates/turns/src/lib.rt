@@ -4,6 +4,7 @@ ghost use mathlib.Core.Path.{_≡_};
 ghost use mathlib.Core.Bool.{true};
 ghost use Prim.Native.Nat.{_+_, _<_, _≤_, min};
 ghost use lib.ListN.{length};
+ghost use Rattle.layout.specs.Limits.{base};
 ghost use Rattle.copying.specs.Owed.{dueIn};
 ghost use Rattle.istream.specs.Stream.{stateOf, soundStream};
 ghost use Rattle.phase.proofs.Phases.{Live};
@@ -148,22 +149,22 @@ fn piece(
     let len = rest.len();
     let n = least(least(len, buf.len() - pos), (total - offset) as usize);
     let end = put_rest(buf, pos, &rest[..n], 0);
-    let depth = reader.depth;
+    let carried = reader.carried;
     let at = offset + n as u32;
     if at < total {
         let next = IStream {
             phase: Phase::Payload(id, r, total, at),
-            depth,
+            carried,
         };
-        return stopped(depth, n, cut(n, len), next, end);
+        return stopped(carried.depth, n, cut(n, len), next, end);
     }
     let phase = idle();
-    Turn::On(IStream { phase, depth }, n, end)
+    Turn::On(IStream { phase, carried }, n, end)
 }
 
 // One turn: a payload's bytes, what stands in its shortest form already, or an event.
 fn one_turn(reader: IStream, pos: usize, rest: &[u8], buf: &mut [u8]) -> Turn
-    requires { ⌜ (soundStream reader ≡ true) × (Live (stateOf reader) × (pos ≤ length (now buf))) ⌝ }
+    requires { ⌜ (soundStream base reader ≡ true) × (Live (stateOf reader) × (pos ≤ length (now buf))) ⌝ }
     ensures { λ r. ⌜ Turned reader pos (now (rest .entry)) (now (buf .entry)) r (now (buf .exit)) ⌝ }
 {
     let phase = reader.phase;
@@ -178,7 +179,7 @@ fn one_turn(reader: IStream, pos: usize, rest: &[u8], buf: &mut [u8]) -> Turn
         let end = put_rest(buf, pos, &rest[..n], 0);
         return Turn::On(next, n, end);
     }
-    heard(reader.depth, due(reader), reader.feed(rest), pos, buf)
+    heard(reader.carried.depth, due(reader), reader.feed(rest), pos, buf)
 }
 
 impl Stop {
@@ -204,7 +205,7 @@ impl Stop {
 
 // Turns one after another, nothing being owed at first.
 pub fn run(reader: IStream, start: usize, chunk: &[u8], buf: &mut [u8]) -> Stop
-    requires { ⌜ (soundStream reader ≡ true) × (Live (stateOf reader) × (start ≤ length (now buf))) ⌝ }
+    requires { ⌜ (soundStream base reader ≡ true) × (Live (stateOf reader) × (start ≤ length (now buf))) ⌝ }
     ensures { λ r. ⌜ Ran reader start (now (chunk .entry)) (now (buf .entry)) r (now (buf .exit)) ⌝ }
 {
     let mut at = reader;

@@ -12,15 +12,15 @@ use Rattle.turns.proofs.due.Lts as lts
 
 returns : tie.Need-returns
 unfolding dueIn
-returns c = sym (ap (λ (p : Phase). dueIn (stateAt (c .before .before .before .args .reader .depth) p)) (c .before .phase .given .1))
+returns c = sym (ap (λ (p : Phase). dueIn (stateAt (c .before .before .before .args .reader .carried .depth) p)) (c .before .phase .given .1))
 
 returns-2 : tie.Need-returns-2
 unfolding dueIn
-returns-2 c = sym (ap (λ (p : Phase). dueIn (stateAt (c .before .before .before .args .reader .depth) p)) (c .before .phase2 .given .1))
+returns-2 c = sym (ap (λ (p : Phase). dueIn (stateAt (c .before .before .before .args .reader .carried .depth) p)) (c .before .phase2 .given .1))
 
 returns-3 : tie.Need-returns-3
 unfolding dueIn
-returns-3 c = sym (ap (λ (p : Phase). dueIn (stateAt (c .before .before .before .args .reader .depth) p)) (c .before .phase3 .given .1))
+returns-3 c = sym (ap (λ (p : Phase). dueIn (stateAt (c .before .before .before .args .reader .carried .depth) p)) (c .before .phase3 .given .1))
 
 returns-4 : tie.Need-returns-4
 returns-4 c = none-due (c .before .args .reader) (c .match .keys4)

@@ -31,7 +31,7 @@ use Rattle.copier.specs.Copier.{copyOf, soundWriter}
 pub not-broke : (s : IStream) → OneOf (0 ∷ 1 ∷ 2 ∷ 3 ∷ 4 ∷ 5 ∷ 6 ∷ 7 ∷ 8 ∷ 9 ∷ 10 ∷ []) (tagOf readers.the-type (s .phase)) → false ≡ isBroke (stateOf s)
 not-broke s h = go (s .phase) h
   where
-    go : (p : code.Phase) → OneOf (0 ∷ 1 ∷ 2 ∷ 3 ∷ 4 ∷ 5 ∷ 6 ∷ 7 ∷ 8 ∷ 9 ∷ 10 ∷ []) (tagOf readers.the-type p) → false ≡ isBroke (stateAt (s .depth) p)
+    go : (p : code.Phase) → OneOf (0 ∷ 1 ∷ 2 ∷ 3 ∷ 4 ∷ 5 ∷ 6 ∷ 7 ∷ 8 ∷ 9 ∷ 10 ∷ []) (tagOf readers.the-type p) → false ≡ isBroke (stateAt (s .carried .depth) p)
     go (phases.Header a) h = refl
     go (phases.Unsigned id left a) h = refl
     go (phases.Signed id left a) h = refl

@@ -136,7 +136,7 @@ module _ (reserved : List ℕ) (cs : List (List ℕ)) (d : Desk) (c : List ℕ) 
                   ap (λ (z : List Heard). z ++ (told (d .read + u) said ∷ [])) (s .heard)
                   ∙ ap (λ (z : Heard). heardAll (verdictsOf base [] (s .done)) ++ (z ∷ [])) (t ∙ ap (λ (z : List ℕ). heardOf (verdictOf base z)) (sym j))
                   ∙ sym (heard-last [] (s .done) x);
-              sound = sound-is base k′ (length b′) y;
+              sound = sound-is k′ (length b′) y;
             };
         sound = y;
         room = omega (arith, f .room);
@@ -172,7 +172,7 @@ module _ (reserved : List ℕ) (cs : List (List ℕ)) (d : Desk) (c : List ℕ) 
               keeps = q;
               settled = λ w. let v : _≡_ {A = ℕ} 0 1 = cc in absurd (omega arith);
               heard = s .heard;
-              sound = sound-is base k′ (length b′) y;
+              sound = sound-is k′ (length b′) y;
             };
         sound = y;
         room = omega (arith, f .room);
@@ -199,7 +199,7 @@ module _ (reserved : List ℕ) (cs : List (List ℕ)) (d : Desk) (c : List ℕ) 
   abbrev k′ : Copier
   k′ = copierIn (k .writer) (r .copy)
 
-  called : Kept base base reserved (s .read) (d .sent) (copyOf k) c b r
+  called : Kept base reserved (s .read) (d .sent) (copyOf k) c b r
   called = copy-keeps base reserved (s .read) (d .sent) (copyOf k) c b (s .keeps) (inside k (length b) (f .sound)) (sound-plain base (stateOf (k .reader)) (k .writer .depth) (copyOf k .owed) (f .sound .owed))
 
   owed-same : rest (copyOf k′ .owed) ≡ rest (r .copy .owed)
@@ -362,7 +362,7 @@ fine-sending reserved cs d b f h =
                 };
             settled = s .settled;
             heard = s .heard;
-            sound = sound-is base k (length b) y;
+            sound = sound-is k (length b) y;
           };
       sound = y;
       room = h;
@@ -442,7 +442,7 @@ fine-fresh offset b cs h a k e s =
                 };
             settled = λ z. (refl, w);
             heard = refl;
-            sound = sound-is base k (length b) s;
+            sound = sound-is k (length b) s;
           };
       sound = s;
       room = omega arith;

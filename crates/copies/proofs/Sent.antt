@@ -31,7 +31,7 @@ use Rattle.copies.proofs.Runs.{Fine, fine-fresh, fine-act, fine-acts, b
 pub fine-start : (offset : ℕ) (b : List ℕ) (cs : List (List ℕ)) → offset < length b → All Bytes cs → Fine (take offset b) cs (openedAt offset b cs)
 fine-start offset b cs h a =
     fine-fresh offset b cs h a (started (length b) offset .copier) (ap (λ (r : Started). r .copier) (start-is (length b) offset h))
-    (is-sound base (started (length b) offset .copier) (length b) (started-sound (length b) offset))
+    (is-sound (started (length b) offset .copier) (length b) (started-sound (length b) offset))
 
 pub fine-run : (offset : ℕ) (b : List ℕ) (cs : List (List ℕ)) (as′ : List Act) → offset < length b → All Bytes cs → Allowed as′ (openedAt offset b cs)
     → Fine (take offset b) cs (acts as′ (openedAt offset b cs))

@@ -60,8 +60,8 @@ reader-is : (s : IStream) → soundReader s ≡ true → SoundState base (stateO
 reader-is s h = go (stateOf s) refl h
   where
     go : (st : State) → stateOf s ≡ st → _≡_ {A = Bool} (elim st [ reading d p ↦ reader.soundStream base s | owing d id r ↦ reader.soundStream base s | broke ↦ true ]) true → SoundState base st
-    go (reading d p) e t = subst SoundState base e (readers.is-sound base s t)
-    go (owing d id r) e t = subst SoundState base e (readers.is-sound base s t)
+    go (reading d p) e t = subst (SoundState base) e (readers.is-sound base s t)
+    go (owing d id r) e t = subst (SoundState base) e (readers.is-sound base s t)
     go broke e t = tt
 
 is-reader : (st : State) → SoundState base st → soundReader (streamIn st) ≡ true
@@ -75,13 +75,13 @@ is-reader st h =
 
 pub is-sound : (k : Copier) (size : ℕ) → soundCopier k size ≡ true → Sound k size
 unfolding soundWriter
-is-sound base k size h =
+is-sound k size h =
     let a = both (soundReader (k .reader)) (soundWriter k size) h in
     let p = with-parts base (writer.soundStream (k .writer) size) (k .writer .npending) (copyOf k) (a .1) in
     record { tested = a .0; tests = a .1; reader = reader-is (k .reader) (a .0); writer = p .0; unheld = p .1; owed = p .2 }
 
 pub sound-is : (k : Copier) (size : ℕ) → Sound k size → soundCopier k size ≡ true
-sound-is base k size h = simp (h .tested, h .tests)
+sound-is k size h = simp (h .tested, h .tests)
 
 -- put together anew
 pub make : (k : Copier) (size : ℕ) → soundReader (k .reader) ≡ true → writer.soundStream (k .writer) size ≡ true → k .writer .npending ≡ 0
@@ -120,7 +120,7 @@ pub carried-sound : (k : Copier) (c b : List ℕ) → Bytes c → Sound k (lengt
 carried-sound k c b h s =
     let r : Copied = copy base (copyOf k) c b in
     let q : Sounds base (copyOf k) c b r = copy-sound base (copyOf k) c b (counted-sound k (length b) s) (inside k (length b) s) in
-    let t : SoundState base (r .copy .reader) = copy-reader base SoundState base (λ n. n < 256) (λ st d b h. call-sound st d h b) (copyOf k) c b h (s .reader) in
+    let t : SoundState base (r .copy .reader) = copy-reader base (SoundState base) (λ n. n < 256) (λ st d b h. call-sound base st d h b) (copyOf k) c b h (s .reader) in
     make (copierIn (k .writer) (r .copy)) (length b) (is-reader (r .copy .reader) t)
     (quiet (moved (k .writer) (r .copy .pos) (r .copy .depth)) (length b) (q .within) (s .unheld) (q .sound .depth) (unheld-clean (k .writer) (length b) (s .writer) (s .unheld)))
     (s .unheld)
@@ -158,8 +158,8 @@ feed-stays k c b h s (owing d id r) e = live-stays k c b h s (subst Live (sym e)
 pub copied-sound : (k : Copier) (c b : List ℕ) → Bytes c → soundCopier k (length b) ≡ true
     → (soundCopier (copied k c b .copier) (length (copied k c b .buf)) ≡ true) × (length (copied k c b .buf) ≡ length b)
 copied-sound k c b h s =
-    let r = feed-stays k c b h (is-sound base k (length b) s) (stateOf (k .reader)) refl in
-    (subst (λ (n : ℕ). soundCopier (copied k c b .copier) n ≡ true) (sym (r .1)) (sound-is base (copied k c b .copier) (length b) (r .0)), r .1)
+    let r = feed-stays k c b h (is-sound k (length b) s) (stateOf (k .reader)) refl in
+    (subst (λ (n : ℕ). soundCopier (copied k c b .copier) n ≡ true) (sym (r .1)) (sound-is (copied k c b .copier) (length b) (r .0)), r .1)
 
 -- ---- draining, changing the buffer, opening
 
@@ -193,14 +193,14 @@ moved-sound k size p q s l = make (over k (at (k .writer) p)) q (s .tested) (sou
 
 pub drained-sound : (k : Copier) (size : ℕ) → soundCopier k size ≡ true → soundCopier (drained k size .copier) size ≡ true
 drained-sound k size h =
-    let s = is-sound base k size h in
-    ap (λ (r : Sent). soundCopier (r .copier) size) (drain-is k size (s .writer)) ∙ sound-is base (over k (at (k .writer) 0)) size (moved-sound k size 0 size s (omega arith))
+    let s = is-sound k size h in
+    ap (λ (r : Sent). soundCopier (r .copier) size) (drain-is k size (s .writer)) ∙ sound-is (over k (at (k .writer) 0)) size (moved-sound k size 0 size s (omega arith))
 
 -- for the new buffer, where that is taken; else nothing altered, and it is sound for the old one
 pub changed-sound : (k : Copier) (old new offset : ℕ) → soundCopier k old ≡ true → (offset < new → soundCopier (changed k old new offset .copier) new ≡ true) × (new ≤ offset → changed k old new offset .copier ≡ k)
 changed-sound k old new offset h =
-    let s = is-sound base k old h in (
-      λ l. ap (λ (r : Sent). soundCopier (r .copier) new) (change-is k old new offset (s .writer) l) ∙ sound-is base (over k (at (k .writer) offset)) new (moved-sound k old offset new s (omega arith)),
+    let s = is-sound k old h in (
+      λ l. ap (λ (r : Sent). soundCopier (r .copier) new) (change-is k old new offset (s .writer) l) ∙ sound-is (over k (at (k .writer) offset)) new (moved-sound k old offset new s (omega arith)),
       λ l. ap (λ (r : Sent). r .copier) (change-unfit k old new offset l),
     )
 
@@ -214,17 +214,17 @@ start-unfit size offset l = ap (λ (r : Written). record { opens = opensIn (r .a
 
 fresh-sound : (size offset : ℕ) → offset ≤ size → Sound (freshOver (opened offset)) size
 unfolding opened soundOwed agrees
-fresh-sound base size offset l = make (freshOver (opened offset)) size (is-reader fresh (readers.is-sound base (streamIn fresh) readers.fresh-sound base)) (opened-sound offset size l) refl refl
+fresh-sound size offset l = make (freshOver (opened offset)) size (is-reader fresh (readers.is-sound base (streamIn fresh) (readers.fresh-sound base))) (opened-sound offset size l) refl refl
 
 -- "A fresh copier is sound"; where its opening is refused, for any buffer, since it stands at 0.
 pub started-sound : (size offset : ℕ) → soundCopier (started size offset .copier) size ≡ true
 started-sound size offset = go (leb size offset) refl
   where
     go : (t : Bool) → leb size offset ≡ t → soundCopier (started size offset .copier) size ≡ true
-    go true e = ap (λ (r : Started). soundCopier (r .copier) size) (start-unfit size offset (leb-true size offset e)) ∙ sound-is base (freshOver (opened 0)) size (fresh-sound base size 0 (omega arith))
+    go true e = ap (λ (r : Started). soundCopier (r .copier) size) (start-unfit size offset (leb-true size offset e)) ∙ sound-is (freshOver (opened 0)) size (fresh-sound size 0 (omega arith))
     go false e =
         let l = leb-false size offset e in
-        ap (λ (r : Started). soundCopier (r .copier) size) (start-is size offset l) ∙ sound-is base (freshOver (opened offset)) size (fresh-sound base size offset (omega arith))
+        ap (λ (r : Started). soundCopier (r .copier) size) (start-is size offset l) ∙ sound-is (freshOver (opened offset)) size (fresh-sound size offset (omega arith))
 
 -- ---- refusals
 
@@ -245,7 +245,7 @@ by-tests k c b P one six two live = go (soundReader (k .reader)) refl (soundWrit
     go false e u f = subst P (sym (on-unsound k c b e)) one
     go true e false f = subst P (sym (on-unfit k c b e f)) six
     go true e true f =
-        let s : Sound k (length b) = is-sound base k (length b) (simp (e, f)) in
+        let s : Sound k (length b) = is-sound k (length b) (simp (e, f)) in
         by-state (stateOf (k .reader)) refl s
       where
         by-state : (st : State) → stateOf (k .reader) ≡ st → Sound k (length b) → P (copied k c b)

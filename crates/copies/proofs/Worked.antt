@@ -15,6 +15,7 @@ use Rattle.machine.specs.Run.{Heard, status}
 use Rattle.emit.specs.Put.{over, put, reached}
 use Rattle.varint.specs.Varint.{soundAcc}
 use Rattle.phase.specs.declared.Phase.the-variants.{Header}
+use Rattle.phase.specs.Phases.{carriedAt}
 use Rattle.istream.specs.declared.IStream.{IStream}
 use Rattle.istream.specs.Stream as reader
 use Rattle.istream.specs.Stream.{streamIn}
@@ -75,7 +76,7 @@ at s n = record { reader = s; writer = writer.opened n; owed = Nothing; place = 
 
 -- a reader with a header of ten bytes taken
 abbrev wild : IStream
-wild = record { phase = Header (record { value = 0; taken = 10 }); depth = 0 }
+wild = record { phase = Header (record { value = 0; taken = 10 }); carried = carriedAt 0 }
 
 abbrev refused : Copier → ℕ
 refused k = saidNumber (copied k (0x08 ∷ []) (0xEE ∷ []) .said)
@@ -84,7 +85,7 @@ refused k = saidNumber (copied k (0x08 ∷ []) (0xEE ∷ []) .said)
 abbrev holding : Copier
 holding =
     record {
-      reader = record { phase = Header (record { value = 0; taken = 0 }); depth = 1 };
+      reader = record { phase = Header (record { value = 0; taken = 0 }); carried = carriedAt 1 };
       writer = record { offset = 0; depth = 1; pending = 5 ∷ replicate 7 0; npending = 1 };
       owed = Nothing;
       place = 0;

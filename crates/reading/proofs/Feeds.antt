@@ -99,6 +99,19 @@ record Follow (L : Limits) (bs : List ℕ) (es : List Event) (s : IStream) : Typ
   sound : SoundState L state
   follows : Follows L bs es state
 
+-- ---- bytes
+
+pub each-byte : (c : List ℕ) → Bytes c → (i : ℕ) → getD c i 0 < 256
+each-byte [] h zero = omega arith
+each-byte [] h (suc i) = omega arith
+each-byte (b ∷ bs) h zero = h .0
+each-byte (b ∷ bs) h (suc i) = each-byte bs (h .1) i
+
+pub bytes-drop : (k : ℕ) (c : List ℕ) → Bytes c → Bytes (drop k c)
+bytes-drop zero c h = h
+bytes-drop (suc k) [] h = tt
+bytes-drop (suc k) (b ∷ bs) h = bytes-drop k bs (h .1)
+
 module _ (L : Limits) where
   small-wire : (d id : ℕ) (t : Wire) → SmallStep (atWire L d id t)
   small-wire d id T-unsigned = tt
@@ -219,23 +232,12 @@ module _ (L : Limits) where
   fed-is (owing d id r) c h = sym (fed-sound L (streamIn (owing d id r)) (owing d id r) c (state-of-stream (owing d id r)) tt (sound-is L (owing d id r) h))
   fed-is broke c h = sym (fed-broken L (streamIn broke) c refl)
 
-  pub each-byte : (c : List ℕ) → Bytes c → (i : ℕ) → getD c i 0 < 256
-  each-byte [] h zero = omega arith
-  each-byte [] h (suc i) = omega arith
-  each-byte (b ∷ bs) h zero = h .0
-  each-byte (b ∷ bs) h (suc i) = each-byte bs (h .1) i
-
   pub call-sound : (st : State) (c : List ℕ) → SoundState L st → Bytes c → SoundState L (call L st c .state)
   unfolding fedIn
   call-sound st c h b =
       let k : soundStream L (fedOf L (streamIn st) c .stream) ≡ true = feed-keeps L (streamIn st) c (each-byte c b) (sound-is L st h) in
       let e : soundStream L (streamIn (call L st c .state)) ≡ true = sym (ap (λ (r : Given.Fed). soundStream L (r .stream)) (fed-is st c h)) ∙ k in
       subst (SoundState L) (state-of-stream (call L st c .state)) (is-sound L (streamIn (call L st c .state)) e)
-
-  pub bytes-drop : (k : ℕ) (c : List ℕ) → Bytes c → Bytes (drop k c)
-  bytes-drop zero c h = h
-  bytes-drop (suc k) [] h = tt
-  bytes-drop (suc k) (b ∷ bs) h = bytes-drop k bs (h .1)
 
   -- ---- a chunk
 

@@ -22,7 +22,7 @@ use Rattle.emit.proofs.Writes.{reached-is, reached-le}
 use Rattle.emit.proofs.Turns.{Left, Whole, start, none-left, no-room, followed, followed-by, same-size}
 use Rattle.emit.proofs.Segments.{Emitted, some-left}
 use Rattle.emit.proofs.Elements.{each-at, each-end, each-append, length-each}
-use Rattle.elements.specs.Standing.{Standing}
+use Rattle.elements.specs.Standing.{Standing, elementsMost}
 
 -- so many whole elements of w bytes are out after the first `skip`, of n
 pub evenly : (n skip w r : ℕ) → 0 < w → r ≡ min (skip / w) n → (r * w ≤ skip) × (r < n → skip - r * w < w)
@@ -65,7 +65,7 @@ module _ {A : Type 0} (f : A → List ℕ) (l : List A) where
   pub record Counting (skip left i : ℕ) : Type 0 where
     pub within : i ≤ length l
     pub sum : length (each f (take i l)) + left ≡ skip
-    pub few : skip ≤ longest base * i + left
+    pub few : skip ≤ elementsMost i + left
 
   pub out-start : (skip : ℕ) → Counting skip skip 0
   unfolding each
@@ -95,13 +95,13 @@ module _ {A : Type 0} (f : A → List ℕ) (l : List A) where
 
   -- how many bytes the elements take, where they are no more than so many; else more
   pub counted-up : (most whole part r : ℕ) → Standing f l most whole part → r ≡ pick (ltb whole (length l)) (most + 1) (most - part)
-      → (r ≡ length (each f l)) ⊎ ((most < r) × (most < length (each f l)) × (most < longest base * length l))
+      → (r ≡ length (each f l)) ⊎ ((most < r) × (most < length (each f l)) × (most < elementsMost (length l)))
   counted-up most whole part r w e = go (ltb whole (length l)) refl e
     where
       s : length (each f (take whole l)) + part ≡ most
       s = w .sum
 
-      go : (t : Bool) → ltb whole (length l) ≡ t → r ≡ pick t (most + 1) (most - part) → (r ≡ length (each f l)) ⊎ ((most < r) × (most < length (each f l)) × (most < longest base * length l))
+      go : (t : Bool) → ltb whole (length l) ≡ t → r ≡ pick t (most + 1) (most - part) → (r ≡ length (each f l)) ⊎ ((most < r) × (most < length (each f l)) × (most < elementsMost (length l)))
       go true u e =
           let h : whole < length l = ltb-true _ _ u in
           let x : A = some-of l whole h in

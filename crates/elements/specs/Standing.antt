@@ -7,8 +7,12 @@ use lib.ListN.{length, take, getD}
 use Rattle.layout.specs.Limits.{base, longest}
 use Rattle.layout.specs.Field.{each}
 
+-- the most bytes of n elements
+abbrev pub elementsMost : ℕ → ℕ
+elementsMost n = longest base * n
+
 pub record Standing {A : Type 0} (f : A → List ℕ) (l : List A) (skip whole part : ℕ) : Type 0 where
   pub within : whole ≤ length l
   pub sum : length (each f (take whole l)) + part ≡ skip
   pub short : (x : A) → whole < length l → part < length (f (getD l whole x))
-  pub few : whole < length l → skip < longest base * (whole + 1)
+  pub few : whole < length l → skip < elementsMost (whole + 1)

@@ -7,16 +7,16 @@ use varint::VARINT_MAX;
 use varint::varint_len;
 use varint::zigzag_encode;
 ghost use mathlib.Core.Path.{_≡_};
-ghost use Prim.Native.Nat.{_+_, _-_, _*_, _≤_, _<_};
+ghost use Prim.Native.Nat.{_+_, _-_, _≤_, _<_};
 ghost use lib.Dec.{ltb};
 ghost use lib.ListN.{length, drop};
 ghost use Rattle.layout.specs.Varint.{shortest};
 ghost use Rattle.layout.specs.Field.{each};
-ghost use Rattle.layout.specs.Limits.{base, longest, pick};
+ghost use Rattle.layout.specs.Limits.{pick};
 ghost use Rattle.layout.specs.Zigzag.{zigzag};
 ghost use Rattle.emit.specs.Put.{put, reached};
 ghost use Rattle.emit.specs.Cursor.{placed, moved};
-ghost use Rattle.elements.specs.Standing.{Standing};
+ghost use Rattle.elements.specs.Standing.{Standing, elementsMost};
 
 // How much of an array's elements is out: whole ones, and bytes of the next.
 pub struct Out {
@@ -27,7 +27,7 @@ pub struct Out {
 // The varints of an unsigned array's elements where there is room for the longest of each. Two at a turn: the loop's own steps cost a
 // sixth of a short element's.
 pub fn put_fittings(buf: &mut [u8], pos: usize, items: &[u64]) -> usize
-    requires { ⌜ pos + longest base * length (now items) ≤ length (now buf) ⌝ }
+    requires { ⌜ pos + elementsMost (length (now items)) ≤ length (now buf) ⌝ }
     ensures { λ r. ⌜ (r ≡ reached (now (buf .entry)) pos (each shortest (now (items .entry)))) × (now (buf .exit) ≡ put (now (buf .entry)) pos (each shortest (now (items .entry)))) × (pos + length (each shortest (now (items .entry))) ≤ length (now (buf .entry))) ⌝ }
 {
     let mut at = pos;
@@ -48,7 +48,7 @@ pub fn put_fittings(buf: &mut [u8], pos: usize, items: &[u64]) -> usize
 
 // The same of a signed array's.
 pub fn put_fitting_zigzags(buf: &mut [u8], pos: usize, items: &[i64]) -> usize
-    requires { ⌜ pos + longest base * length (now items) ≤ length (now buf) ⌝ }
+    requires { ⌜ pos + elementsMost (length (now items)) ≤ length (now buf) ⌝ }
     ensures { λ r. ⌜ (r ≡ reached (now (buf .entry)) pos (each (λ z. shortest (zigzag z)) (now (items .entry)))) × (now (buf .exit) ≡ put (now (buf .entry)) pos (each (λ z. shortest (zigzag z)) (now (items .entry)))) × (pos + length (each (λ z. shortest (zigzag z)) (now (items .entry))) ≤ length (now (buf .entry))) ⌝ }
 {
     let mut at = pos;

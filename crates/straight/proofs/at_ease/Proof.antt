@@ -1,7 +1,6 @@
 -- `straight::at_ease`: the tests in order.
 use borrow.Author.Tests.{le-leb, lt-leb}
 use Rattle.straight.specs.Straight.{easyAt}
-use borrow.Author.Needs.{needs}
 use Rattle.straight.proofs.at_ease.Statement.{statement}
 use Rattle.straight.proofs.at_ease.Tie as tie
 use Rattle.straight.proofs.at_ease.Reads as reads

@@ -8,7 +8,7 @@ use native.Mathlib.Omega.{arith}
 use lib.Dec.{lit<}
 use lib.ListN.{length, drop, getD, drop-of-length-le}
 use lib.Seq.{drop-cons}
-use Rattle.layout.specs.Limits.{base}
+use Rattle.layout.specs.Limits.{base, lastPlace}
 use Rattle.layout.specs.Varint.{Outcome, whole, short, broken, Push, more, value, overrun, push, digit, varintFrom, varint}
 use Rattle.varint.specs.declared.Acc.{Acc}
 use Rattle.varint.specs.declared.Push.the-variants.{More, Value, Overlong}
@@ -67,32 +67,32 @@ one t i h l =
 pub record Under (t : List ℕ) (at i : ℕ) (a : Acc) : Type 0 where
   pub from : at ≤ i
   pub to : i ≤ length t
-  pub sound : Sound a
+  pub sound : Sound base a
   pub same : varint base (drop at t) ≡ varintFrom base (a .taken) (a .value) (drop i t)
 
 pub under-start : (t : List ℕ) (at : ℕ) (a : Acc) → at ≤ length t → a ≡ start → Under t at at a
-under-start t at a h e = subst (Under t at at) (sym e) (record { from = omega arith; to = h; sound = sound-start; same = refl })
+under-start t at a h e = subst (Under t at at) (sym e) (record { from = omega arith; to = h; sound = sound-start base; same = refl })
 
 module _ {t : List ℕ} {at i : ℕ} {a : Acc} (u : Under t at i a) where
-  pub under-more : (n : Acc) → i < length t → pushed a (getD t i 0) ≡ More n → Under t at (i + 1) n
+  pub under-more : (n : Acc) → i < length t → pushed base a (getD t i 0) ≡ More n → Under t at (i + 1) n
   under-more n h e =
       record {
         from = omega (arith, u .from);
         to = omega arith;
-        sound = sound-more a (getD t i 0) n (u .sound) e;
-        same = u .same ∙ on t i (a .taken) (a .value) h (n .taken) (n .value) (layout-step a (getD t i 0) (u .sound) ∙ ap unanswer e);
+        sound = sound-more base a (getD t i 0) n (u .sound) e;
+        same = u .same ∙ on t i (a .taken) (a .value) h (n .taken) (n .value) (layout-step base a (getD t i 0) (u .sound) ∙ ap unanswer e);
       }
 
-  pub under-value : (v : ℕ) → i < length t → pushed a (getD t i 0) ≡ Value v → Reaches t at (varint base (drop at t)) (Founds.Value v (i + 1))
+  pub under-value : (v : ℕ) → i < length t → pushed base a (getD t i 0) ≡ Value v → Reaches t at (varint base (drop at t)) (Founds.Value v (i + 1))
   under-value v h e =
       record {
-        same = u .same ∙ done t i (a .taken) (a .value) h v (layout-step a (getD t i 0) (u .sound) ∙ ap unanswer e);
+        same = u .same ∙ done t i (a .taken) (a .value) h v (layout-step base a (getD t i 0) (u .sound) ∙ ap unanswer e);
         past = (omega (arith, u .from), omega arith);
       }
 
-  pub under-over : i < length t → pushed a (getD t i 0) ≡ Overlong → Reaches t at (varint base (drop at t)) (Founds.Broken (i + 1))
+  pub under-over : i < length t → pushed base a (getD t i 0) ≡ Overlong → Reaches t at (varint base (drop at t)) (Founds.Broken (i + 1))
   under-over h e =
-      record { same = u .same ∙ over t i (a .taken) (a .value) h (layout-step a (getD t i 0) (u .sound) ∙ ap unanswer e); past = omega arith }
+      record { same = u .same ∙ over t i (a .taken) (a .value) h (layout-step base a (getD t i 0) (u .sound) ∙ ap unanswer e); past = omega arith }
 
   pub under-end : length t ≤ i → Reaches t at (varint base (drop at t)) Founds.Short
   under-end h = record { same = u .same ∙ out t i (a .taken) (a .value) h; past = tt }
@@ -101,7 +101,7 @@ module _ {t : List ℕ} {at i : ℕ} {a : Acc} (u : Under t at i a) where
 pub record Skipping (t : List ℕ) (at i : ℕ) : Type 0 where
   pub from : at ≤ i
   pub to : i ≤ length t
-  pub few : i - at ≤ 9
+  pub few : i - at ≤ lastPlace base
   pub value : ℕ
   pub same : varint base (drop at t) ≡ varintFrom base (i - at) value (drop i t)
 
@@ -112,7 +112,7 @@ skipping-start t at h =
 
 module _ {t : List ℕ} {at i : ℕ} (s : Skipping t at i) (h : i < length t) where
   -- this byte goes on
-  pub skipping-more : i - at < 9 → 128 ≤ getD t i 0 → Skipping t at (i + 1)
+  pub skipping-more : i - at < lastPlace base → 128 ≤ getD t i 0 → Skipping t at (i + 1)
   skipping-more l g =
       let b = getD t i 0 in
       let k : i - at + 1 ≡ i + 1 - at = omega (arith, s .from) in
@@ -130,13 +130,13 @@ module _ {t : List ℕ} {at i : ℕ} (s : Skipping t at i) (h : i < length t) wh
   unfolding ends
   ending n e = record { same = λ d. ap (ends d) (s .same ∙ done t i (i - at) (s .value) h n e); past = (omega (arith, s .from), omega arith) }
 
-  pub skipping-ends : i - at < 9 → getD t i 0 < 128 → Passes t at (λ d. ends d (varint base (drop at t))) (Lands.At (i + 1))
+  pub skipping-ends : i - at < lastPlace base → getD t i 0 < 128 → Passes t at (λ d. ends d (varint base (drop at t))) (Lands.At (i + 1))
   skipping-ends l g = ending _ (steps.ends base (i - at) (s .value) (getD t i 0) l g)
 
-  pub skipping-last : 9 ≤ i - at → getD t i 0 ≤ 1 → Passes t at (λ d. ends d (varint base (drop at t))) (Lands.At (i + 1))
+  pub skipping-last : lastPlace base ≤ i - at → getD t i 0 ≤ 1 → Passes t at (λ d. ends d (varint base (drop at t))) (Lands.At (i + 1))
   skipping-last l g = ending _ (steps.ends-last base (i - at) (s .value) (getD t i 0) l (omega arith))
 
-  pub skipping-over : 9 ≤ i - at → 1 < getD t i 0 → Passes t at (λ d. ends d (varint base (drop at t))) (Lands.Broken (i + 1))
+  pub skipping-over : lastPlace base ≤ i - at → 1 < getD t i 0 → Passes t at (λ d. ends d (varint base (drop at t))) (Lands.Broken (i + 1))
   unfolding ends
   skipping-over l g = record { same = λ d. ap (ends d) (s .same ∙ over t i (i - at) (s .value) h (steps.overruns base (i - at) (s .value) (getD t i 0) l g)); past = omega arith }
 

@@ -5,10 +5,10 @@ use mathlib.Core.Bool.{Bool, true, false, not}
 use Prim.Native.Nat.{ℕ, _≤_}
 use native.Mathlib.Omega.{arith}
 use borrow.Author.Tests.{ltb-false, not-false}
-use Rattle.layout.specs.Limits.{base, pick}
+use Rattle.layout.specs.Limits.{pick}
 use Rattle.answers.specs.declared.Check.{Check}
 use Rattle.answers.specs.Judged.{Test, Verdict, accepted, refusedWith, judged, checkOf}
-use Rattle.answers.specs.Tests.{unsoundWriter, idTooLarge, payloadTooLong}
+use Rattle.answers.specs.Tests.{unsoundWriter, idTooLarge, tooLong}
 
 pub passed : (t : Test) (ts : List Test) → judged (t ∷ ts) ≡ accepted → (t .fails ≡ false) × (judged ts ≡ accepted)
 passed t ts e = go (t .fails) refl e
@@ -29,9 +29,9 @@ check-fails (refusedWith x) r e h = ap (λ (c : Check). refusedWith (c .error)) 
 pub check-sound : (sound : Bool) (ts : List Test) → judged (unsoundWriter sound ∷ ts) ≡ accepted → sound ≡ true
 check-sound sound ts e = not-false sound (passed (unsoundWriter sound) ts e .0)
 
--- and a field's payload or array is no longer than it may be
-pub check-short : (sound : Bool) (id n : ℕ) → judged (unsoundWriter sound ∷ idTooLarge id ∷ payloadTooLong n ∷ []) ≡ accepted → n ≤ base .size
-check-short sound id n e =
-    let f = passed (unsoundWriter sound) (idTooLarge id ∷ payloadTooLong n ∷ []) e .1 in
-    let g = passed (idTooLarge id) (payloadTooLong n ∷ []) f .1 in
-    ltb-false (base .size) n (passed (payloadTooLong n) [] g .0)
+-- and a field's payload or array is no longer than the limit of its kind
+pub check-short : (sound : Bool) (id most n : ℕ) → judged (unsoundWriter sound ∷ idTooLarge id ∷ tooLong most n ∷ []) ≡ accepted → n ≤ most
+check-short sound id most n e =
+    let f = passed (unsoundWriter sound) (idTooLarge id ∷ tooLong most n ∷ []) e .1 in
+    let g = passed (idTooLarge id) (tooLong most n ∷ []) f .1 in
+    ltb-false most n (passed (tooLong most n) [] g .0)

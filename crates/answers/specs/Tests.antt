@@ -36,9 +36,12 @@ outermost depth = record { fails = eqb depth 0; error = refusal 8 }
 abbrev pub idTooLarge : ℕ → Test
 idTooLarge id = record { fails = ltb (base .id) id; error = refusal 9 }
 
--- "Number 10: a payload or array is longer than 2,147,483,647."
+-- "Number 10: a payload or array is longer than 2,147,483,647." A length has its limit, and a count has another.
+abbrev pub tooLong : ℕ → ℕ → Test
+tooLong most n = record { fails = ltb most n; error = refusal 10 }
+
 abbrev pub payloadTooLong : ℕ → Test
-payloadTooLong n = record { fails = ltb (base .size) n; error = refusal 10 }
+payloadTooLong n = tooLong (base .size) n
 
 abbrev pub arrayTooLong : ℕ → Test
-arrayTooLong n = record { fails = ltb (base .count) n; error = refusal 10 }
+arrayTooLong n = tooLong (base .count) n

@@ -1,7 +1,7 @@
 // What a call of the writer answers, by numbers alone: what it refuses, and in which order (whether the state is sound is told), and how
 // far its output goes.
-use types::ARRAY_MAX;
 use types::Error;
+use types::FIXLEN_MAX;
 use types::FixlenType;
 use types::ID_MAX;
 use types::MAX_DEPTH;
@@ -10,7 +10,7 @@ ghost use mathlib.Core.List.{[], _∷_};
 ghost use mathlib.Core.Bool.{true, false};
 ghost use Rattle.types.specs.Types.{subtype};
 ghost use Rattle.answers.specs.Judged.{accepted, refusedWith, judged, checkOf};
-ghost use Rattle.answers.specs.Tests.{badBuffer, unsoundWriter, isString, stringSubtype, deepest, outermost, idTooLarge, payloadTooLong};
+ghost use Rattle.answers.specs.Tests.{badBuffer, unsoundWriter, isString, stringSubtype, deepest, outermost, idTooLarge, tooLong, payloadTooLong};
 ghost use Rattle.answers.specs.Outcome.{reaches};
 ghost use Prim.Native.Nat.{_≤_, min};
 
@@ -78,9 +78,9 @@ pub fn check_change(sound: bool, size: usize, offset: usize, drained: bool) -> C
     passed()
 }
 
-// The refusals of a field: the state, the id, and how long its payload or array is.
-pub fn check_field(sound: bool, id: u32, len: usize) -> Check
-    ensures { λ r. ⌜ r ≡ checkOf (judged (unsoundWriter sound ∷ idTooLarge id ∷ payloadTooLong len ∷ [])) ⌝ }
+// The refusals of a field: the state, the id.
+pub fn check_field(sound: bool, id: u32) -> Check
+    ensures { λ r. ⌜ r ≡ checkOf (judged (unsoundWriter sound ∷ idTooLarge id ∷ [])) ⌝ }
 {
     if !sound {
         return failed(Error::UnsoundWriter);
@@ -88,7 +88,20 @@ pub fn check_field(sound: bool, id: u32, len: usize) -> Check
     if ID_MAX < id {
         return failed(Error::IdTooLarge);
     }
-    if (ARRAY_MAX as usize) < len {
+    passed()
+}
+
+// And those of one with a payload or an array: how long it is, against the limit of its kind.
+pub fn check_sized(sound: bool, id: u32, len: usize, most: u32) -> Check
+    ensures { λ r. ⌜ r ≡ checkOf (judged (unsoundWriter sound ∷ idTooLarge id ∷ tooLong most len ∷ [])) ⌝ }
+{
+    if !sound {
+        return failed(Error::UnsoundWriter);
+    }
+    if ID_MAX < id {
+        return failed(Error::IdTooLarge);
+    }
+    if (most as usize) < len {
         return failed(Error::TooLong);
     }
     passed()
@@ -104,7 +117,7 @@ pub fn check_fixlen(sound: bool, t: FixlenType, id: u32, len: usize) -> Check
     if is_string(t) {
         return failed(Error::StringSubtype);
     }
-    check_field(true, id, len)
+    check_sized(true, id, len, FIXLEN_MAX)
 }
 
 // The refusals of an open: the state, the depth, the id.

@@ -3,7 +3,7 @@ use mathlib.Core.Path.{_≡_, refl, sym, ap, _∙_}
 use mathlib.Core.List.{List, _++_}
 use mathlib.Core.Bool.{Bool, true, false}
 use mathlib.Core.Logic.{_⊎_, inl, inr}
-use Prim.Native.Nat.{ℕ, _+_, _-_, _*_, _≤_, _<_}
+use Prim.Native.Nat.{ℕ, _+_, _-_, _≤_, _<_}
 use native.Mathlib.Omega.{arith}
 use lib.Dec.{ltb}
 use lib.ListN.{length, length-append}
@@ -13,7 +13,7 @@ use Rattle.layout.specs.Field.{each}
 use Rattle.layout.specs.Limits.{base, pick}
 use Rattle.emit.specs.declared.Cursor.{Cursor}
 use Rattle.emit.proofs.Segments.{Emitted, joined}
-use Rattle.elements.specs.Standing.{Standing}
+use Rattle.elements.specs.Standing.{Standing, elementsMost}
 use Rattle.elements.proofs.Onward.{counted-up}
 use Rattle.answers.specs.declared.Outcome.{Outcome}
 use Rattle.answers.specs.declared.Outcome.the-variants.{Through}
@@ -26,20 +26,24 @@ use Rattle.held.proofs.Ends.{Ended, ended, ended-as, stops-short, grouped}
 alike : (pos size s t place : ℕ) → place + (size - pos) < s → place + (size - pos) < t → reaches pos size s place ≡ reaches pos size t place
 alike pos size s t place h k = sym (reaches-full pos size s place _ (omega arith) (omega arith) refl) ∙ reaches-full pos size t place _ (omega arith) (omega arith) refl
 
-pub far-enough : (place room most : ℕ) → most ≡ pick (ltb place 1099511627776) (place + room) 1099511627776 → room ≤ 9223372036854775808 → most ≤ 9223373136366403584
-far-enough place room most e h = go (ltb place 1099511627776) refl e
+-- how many bytes are looked at: the place and the room after it, or all that elements can take
+abbrev far : ℕ → ℕ → ℕ
+far place room = pick (ltb place (elementsMost (base .count))) (place + room) (elementsMost (base .count))
+
+pub far-enough : (place room most : ℕ) → most ≡ far place room → room ≤ 9223372036854775808 → most ≤ 9223372036854775808 + elementsMost (base .count)
+far-enough place room most e h = go (ltb place (elementsMost (base .count))) refl e
   where
-    go : (t : Bool) → ltb place 1099511627776 ≡ t → most ≡ pick t (place + room) 1099511627776 → most ≤ 9223373136366403584
-    go true q e = let k : place < 1099511627776 = ltb-true place 1099511627776 q in omega arith
+    go : (t : Bool) → ltb place (elementsMost (base .count)) ≡ t → most ≡ pick t (place + room) (elementsMost (base .count)) → most ≤ 9223372036854775808 + elementsMost (base .count)
+    go true q e = let k : place < elementsMost (base .count) = ltb-true place (elementsMost (base .count)) q in omega arith
     go false q e = omega arith
 
 -- n bytes after h, or r where both are too many
-as-far : (pos size place h n r m most : ℕ) → most ≡ pick (ltb place 1099511627776) (place + (size - pos)) 1099511627776 → m ≤ base .count
-    → (r ≡ n) ⊎ ((most < r) × (most < n) × (most < 10 * m)) → reaches pos size (h + r) place ≡ reaches pos size (h + n) place
+as-far : (pos size place h n r m most : ℕ) → most ≡ far place (size - pos) → m ≤ base .count
+    → (r ≡ n) ⊎ ((most < r) × (most < n) × (most < elementsMost m)) → reaches pos size (h + r) place ≡ reaches pos size (h + n) place
 as-far pos size place h n r m most e k (inl q) = ap (λ (x : ℕ). reaches pos size (h + x) place) q
-as-far pos size place h n r m most e k (inr (a, b, c)) = go (ltb place 1099511627776) e
+as-far pos size place h n r m most e k (inr (a, b, c)) = go (ltb place (elementsMost (base .count))) e
   where
-    go : (t : Bool) → most ≡ pick t (place + (size - pos)) 1099511627776 → reaches pos size (h + r) place ≡ reaches pos size (h + n) place
+    go : (t : Bool) → most ≡ pick t (place + (size - pos)) (elementsMost (base .count)) → reaches pos size (h + r) place ≡ reaches pos size (h + n) place
     go true e = alike pos size (h + r) (h + n) place (omega arith) (omega arith)
     go false e = absurd (omega arith)
 
@@ -57,7 +61,7 @@ module _ (held : ℕ) (places : List ℕ) (header : ℕ) {A : Type 0} (f : A →
   stopped z k = ended-as pos b _ _ place _ b2 spelled (stops-short pos b _ place c2 b2 output h z k)
 
   -- by its elements' count
-  pub counted-out : (most whole part r : ℕ) (x : Outcome) → length l ≤ base .count → most ≡ pick (ltb place 1099511627776) (place + (length b - pos)) 1099511627776
+  pub counted-out : (most whole part r : ℕ) (x : Outcome) → length l ≤ base .count → most ≡ far place (length b - pos)
       → Standing f l most whole part → r ≡ pick (ltb whole (length l)) (most + 1) (most - part) → x ≡ reaches pos (length b) (length (headOf held places header (length l)) + r) place
       → Ended pos b (headersOf held places ++ o) place x b2
   counted-out most whole part r x k m s n t =

@@ -15,9 +15,12 @@ use floats::put_fp64s;
 use held::head_len;
 use held::put_head;
 use held::tagged;
+use types::ARRAY_MAX;
+use types::LAZY_SEQ_DEPTH;
 use types::T_FIXLENARRAY;
 use types::T_VARINTARRAY_SIGNED;
 use types::T_VARINTARRAY_UNSIGNED;
+use varint::VARINT_MAX;
 ghost use mathlib.Core.Path.{_≡_};
 ghost use mathlib.Core.List.{_++_, map};
 ghost use Prim.Native.Nat.{_+_, _-_, _*_, _≤_};
@@ -25,29 +28,34 @@ ghost use lib.Dec.{ltb};
 ghost use lib.ListN.{length};
 ghost use lib.Ieee.{binary32, binary64, toBits};
 ghost use Rattle.layout.specs.Varint.{shortest};
-ghost use Rattle.layout.specs.Field.{fp32, fp64, unsignedArray, signedArray, floatArray};
+ghost use Rattle.layout.specs.Field.{fp32, fp64, bytesOf, unsignedArray, signedArray, floatArray};
 ghost use Rattle.layout.specs.Copy.{fieldBytes};
 ghost use Rattle.layout.specs.Limits.{base, pick};
 ghost use Rattle.emit.specs.Cursor.{placed, moved};
 ghost use Rattle.answers.specs.Outcome.{reaches};
+ghost use Rattle.elements.specs.Standing.{elementsMost};
+ghost use Rattle.held.specs.Places.{lazyDepth};
 ghost use Rattle.held.specs.Headers.{headersOf, headOf, startAt, leftAt};
+
+// Most bytes of an array's elements.
+const ELEMENTS_MAX: usize = VARINT_MAX * (ARRAY_MAX as usize);
 
 // The place and the room after it, as far as it matters: no array's elements take more bytes than that.
 fn farthest(place: usize, room: usize) -> usize
     requires { ⌜ room ≤ 9223372036854775808 ⌝ }
-    ensures { λ r. ⌜ r ≡ pick (ltb place 1099511627776) (place + room) 1099511627776 ⌝ }
+    ensures { λ r. ⌜ r ≡ pick (ltb place (elementsMost (base .count))) (place + room) (elementsMost (base .count)) ⌝ }
 {
-    if place < 1099511627776 {
+    if place < ELEMENTS_MAX {
         return place + room;
     }
-    1099511627776
+    ELEMENTS_MAX
 }
 
 // How far an array of n integers goes of which so many are out after the first `most` bytes of them.
 fn finish_counted(
     size: usize,
     pos: usize,
-    places: [u32; 8],
+    places: [u32; LAZY_SEQ_DEPTH],
     held: u16,
     header: u64,
     n: usize,
@@ -55,7 +63,7 @@ fn finish_counted(
     most: usize,
     place: usize,
 ) -> Outcome
-    requires { ⌜ (held ≤ 8) × (pos ≤ size) × (out .part ≤ most) × (most ≤ 9223373136366403584) ⌝ }
+    requires { ⌜ (held ≤ lazyDepth) × (pos ≤ size) × (out .part ≤ most) × (most ≤ 9223372036854775808 + elementsMost (base .count)) ⌝ }
     ensures { λ r. ⌜ r ≡ reaches pos size (length (headOf held places header n) + pick (ltb (out .whole) n) (most + 1) (most - out .part)) place ⌝ }
 {
     let len = counted(out, n, most);
@@ -68,13 +76,13 @@ fn finish_counted(
 pub fn put_unsigned_array(
     buf: &mut [u8],
     pos: usize,
-    places: [u32; 8],
+    places: [u32; LAZY_SEQ_DEPTH],
     held: u16,
     id: u32,
     items: &[u64],
     place: usize,
 ) -> Outcome
-    requires { ⌜ (held ≤ 8) × (pos ≤ length (now buf)) × (length (now items) ≤ base .count) ⌝ }
+    requires { ⌜ (held ≤ lazyDepth) × (pos ≤ length (now buf)) × (length (now items) ≤ base .count) ⌝ }
     ensures { λ r. ⌜ (r ≡ reaches pos (length (now (buf .entry))) (length (headersOf held places ++ fieldBytes (unsignedArray id (now (items .entry))))) place) × (now (buf .exit) ≡ leftAt pos (now (buf .entry)) (headersOf held places ++ fieldBytes (unsignedArray id (now (items .entry)))) place) ⌝ }
 {
     let size = buf.len();
@@ -104,13 +112,13 @@ pub fn put_unsigned_array(
 pub fn put_signed_array(
     buf: &mut [u8],
     pos: usize,
-    places: [u32; 8],
+    places: [u32; LAZY_SEQ_DEPTH],
     held: u16,
     id: u32,
     items: &[i64],
     place: usize,
 ) -> Outcome
-    requires { ⌜ (held ≤ 8) × (pos ≤ length (now buf)) × (length (now items) ≤ base .count) ⌝ }
+    requires { ⌜ (held ≤ lazyDepth) × (pos ≤ length (now buf)) × (length (now items) ≤ base .count) ⌝ }
     ensures { λ r. ⌜ (r ≡ reaches pos (length (now (buf .entry))) (length (headersOf held places ++ fieldBytes (signedArray id (now (items .entry))))) place) × (now (buf .exit) ≡ leftAt pos (now (buf .entry)) (headersOf held places ++ fieldBytes (signedArray id (now (items .entry)))) place) ⌝ }
 {
     let size = buf.len();
@@ -141,14 +149,14 @@ pub fn put_signed_array(
 fn put_announced(
     buf: &mut [u8],
     pos: usize,
-    places: [u32; 8],
+    places: [u32; LAZY_SEQ_DEPTH],
     held: u16,
     id: u32,
     count: u64,
     word: u64,
     place: usize,
 ) -> Cursor
-    requires { ⌜ (held ≤ 8) × (pos ≤ length (now buf)) ⌝ }
+    requires { ⌜ (held ≤ lazyDepth) × (pos ≤ length (now buf)) ⌝ }
     ensures { λ r. ⌜ (r ≡ moved (startAt pos place) (now (buf .entry)) (headOf held places (id * 8 + 5) count ++ shortest word)) × (now (buf .exit) ≡ placed (startAt pos place) (now (buf .entry)) (headOf held places (id * 8 + 5) count ++ shortest word)) ⌝ }
 {
     let head = put_head(
@@ -167,14 +175,14 @@ fn put_announced(
 fn finish_floats(
     size: usize,
     pos: usize,
-    places: [u32; 8],
+    places: [u32; LAZY_SEQ_DEPTH],
     held: u16,
     id: u32,
     n: usize,
     bytes: usize,
     place: usize,
 ) -> Outcome
-    requires { ⌜ (held ≤ 8) × (pos ≤ size) × (n ≤ base .count) × (bytes ≤ 17179869176) ⌝ }
+    requires { ⌜ (held ≤ lazyDepth) × (pos ≤ size) × (n ≤ base .count) × (bytes ≤ bytesOf fp64 * base .count) ⌝ }
     ensures { λ r. ⌜ r ≡ reaches pos size (length (headOf held places (id * 8 + 5) n) + (1 + bytes)) place ⌝ }
 {
     let head = head_len(places, held, tagged(id, T_FIXLENARRAY), n as u64);
@@ -185,13 +193,13 @@ fn finish_floats(
 pub fn put_fp32_bits_array(
     buf: &mut [u8],
     pos: usize,
-    places: [u32; 8],
+    places: [u32; LAZY_SEQ_DEPTH],
     held: u16,
     id: u32,
     items: &[u32],
     place: usize,
 ) -> Outcome
-    requires { ⌜ (held ≤ 8) × (pos ≤ length (now buf)) × (length (now items) ≤ base .count) ⌝ }
+    requires { ⌜ (held ≤ lazyDepth) × (pos ≤ length (now buf)) × (length (now items) ≤ base .count) ⌝ }
     ensures { λ r. ⌜ (r ≡ reaches pos (length (now (buf .entry))) (length (headersOf held places ++ fieldBytes (floatArray id fp32 (now (items .entry))))) place) × (now (buf .exit) ≡ leftAt pos (now (buf .entry)) (headersOf held places ++ fieldBytes (floatArray id fp32 (now (items .entry)))) place) ⌝ }
 {
     let size = buf.len();
@@ -205,13 +213,13 @@ pub fn put_fp32_bits_array(
 pub fn put_fp32_array(
     buf: &mut [u8],
     pos: usize,
-    places: [u32; 8],
+    places: [u32; LAZY_SEQ_DEPTH],
     held: u16,
     id: u32,
     items: &[f32],
     place: usize,
 ) -> Outcome
-    requires { ⌜ (held ≤ 8) × (pos ≤ length (now buf)) × (length (now items) ≤ base .count) ⌝ }
+    requires { ⌜ (held ≤ lazyDepth) × (pos ≤ length (now buf)) × (length (now items) ≤ base .count) ⌝ }
     ensures { λ r. ⌜ (r ≡ reaches pos (length (now (buf .entry))) (length (headersOf held places ++ fieldBytes (floatArray id fp32 (map (toBits binary32) (now (items .entry)))))) place) × (now (buf .exit) ≡ leftAt pos (now (buf .entry)) (headersOf held places ++ fieldBytes (floatArray id fp32 (map (toBits binary32) (now (items .entry))))) place) ⌝ }
 {
     let size = buf.len();
@@ -225,13 +233,13 @@ pub fn put_fp32_array(
 pub fn put_fp64_bits_array(
     buf: &mut [u8],
     pos: usize,
-    places: [u32; 8],
+    places: [u32; LAZY_SEQ_DEPTH],
     held: u16,
     id: u32,
     items: &[u64],
     place: usize,
 ) -> Outcome
-    requires { ⌜ (held ≤ 8) × (pos ≤ length (now buf)) × (length (now items) ≤ base .count) ⌝ }
+    requires { ⌜ (held ≤ lazyDepth) × (pos ≤ length (now buf)) × (length (now items) ≤ base .count) ⌝ }
     ensures { λ r. ⌜ (r ≡ reaches pos (length (now (buf .entry))) (length (headersOf held places ++ fieldBytes (floatArray id fp64 (now (items .entry))))) place) × (now (buf .exit) ≡ leftAt pos (now (buf .entry)) (headersOf held places ++ fieldBytes (floatArray id fp64 (now (items .entry)))) place) ⌝ }
 {
     let size = buf.len();
@@ -245,13 +253,13 @@ pub fn put_fp64_bits_array(
 pub fn put_fp64_array(
     buf: &mut [u8],
     pos: usize,
-    places: [u32; 8],
+    places: [u32; LAZY_SEQ_DEPTH],
     held: u16,
     id: u32,
     items: &[f64],
     place: usize,
 ) -> Outcome
-    requires { ⌜ (held ≤ 8) × (pos ≤ length (now buf)) × (length (now items) ≤ base .count) ⌝ }
+    requires { ⌜ (held ≤ lazyDepth) × (pos ≤ length (now buf)) × (length (now items) ≤ base .count) ⌝ }
     ensures { λ r. ⌜ (r ≡ reaches pos (length (now (buf .entry))) (length (headersOf held places ++ fieldBytes (floatArray id fp64 (map (toBits binary64) (now (items .entry)))))) place) × (now (buf .exit) ≡ leftAt pos (now (buf .entry)) (headersOf held places ++ fieldBytes (floatArray id fp64 (map (toBits binary64) (now (items .entry))))) place) ⌝ }
 {
     let size = buf.len();

@@ -2,6 +2,7 @@
 use answers::check_change;
 use held::sound_for;
 use types::Error;
+use types::LAZY_SEQ_DEPTH;
 ghost use mathlib.Core.Path.{_≡_};
 ghost use Rattle.buffers.specs.Moved.{drainedTo, changedTo};
 
@@ -12,7 +13,7 @@ pub enum Moved {
 }
 
 // The bytes below the position are sent, and writing starts at 0.
-pub fn drain(pos: usize, depth: u16, held: u16, places: [u32; 8], size: usize) -> Moved
+pub fn drain(pos: usize, depth: u16, held: u16, places: [u32; LAZY_SEQ_DEPTH], size: usize) -> Moved
     ensures { λ r. ⌜ r ≡ drainedTo pos depth held places size ⌝ }
 {
     if sound_for(pos, depth, held, places, size) {
@@ -27,7 +28,7 @@ pub fn change(
     pos: usize,
     depth: u16,
     held: u16,
-    places: [u32; 8],
+    places: [u32; LAZY_SEQ_DEPTH],
     old: usize,
     new: usize,
     offset: usize,

@@ -1,13 +1,13 @@
 -- A field or an array by the numbers of a writer's state: its refusals in order, else its bytes behind the held headers, from a place on.
 use mathlib.Core.Bool.{Bool}
-use mathlib.Core.List.{List, [], _∷_, _++_}
+use mathlib.Core.List.{List, _∷_, _++_}
 use Prim.Native.Nat.{ℕ}
 use lib.ListN.{length}
 use Rattle.layout.specs.Field.{Subtype, header, word, T-fixlen}
 use Rattle.answers.specs.declared.Outcome.{Outcome}
 use Rattle.answers.specs.declared.Outcome.the-variants.{Refused}
 use Rattle.answers.specs.Judged.{Test, Verdict, accepted, refusedWith, judged}
-use Rattle.answers.specs.Tests.{unsoundWriter, idTooLarge, payloadTooLong}
+use Rattle.answers.specs.Tests.{unsoundWriter, idTooLarge}
 use Rattle.answers.specs.Outcome.{reaches}
 use Rattle.held.specs.Places.{soundWriter}
 use Rattle.held.specs.Headers.{headersOf, leftAt}
@@ -30,13 +30,13 @@ goesBy (refusedWith e) pos b o place = record { outcome = Refused e; buf = b }
 unfoldable pub fixlenBytes : ℕ → Subtype → List ℕ → List ℕ
 fixlenBytes id t bytes = header id T-fixlen ++ (word (length bytes) t ++ bytes)
 
--- the tests of a field with a payload or array of n: the state, the id, the length
-abbrev pub tests : Bool → ℕ → ℕ → List Test
-tests sound id n = unsoundWriter sound ∷ idTooLarge id ∷ payloadTooLong n ∷ []
+-- the tests of a field: the state, the id, and those of its length, where it has one
+abbrev pub tests : Bool → ℕ → List Test → List Test
+tests sound id more = unsoundWriter sound ∷ idTooLarge id ∷ more
 
-abbrev pub verdictOf : ℕ → ℕ → ℕ → List ℕ → ℕ → ℕ → ℕ → Verdict
-verdictOf pos depth held places size id n = judged (tests (soundWriter pos depth held places size) id n)
+abbrev pub verdictOf : ℕ → ℕ → ℕ → List ℕ → ℕ → ℕ → List Test → Verdict
+verdictOf pos depth held places size id more = judged (tests (soundWriter pos depth held places size) id more)
 
 -- a field of these bytes
-abbrev pub fieldFrom : ℕ → ℕ → ℕ → List ℕ → List ℕ → ℕ → ℕ → List ℕ → ℕ → Went
-fieldFrom pos depth held places b id n bytes place = goesBy (verdictOf pos depth held places (length b) id n) pos b (headersOf held places ++ bytes) place
+abbrev pub fieldFrom : ℕ → ℕ → ℕ → List ℕ → List ℕ → ℕ → List Test → List ℕ → ℕ → Went
+fieldFrom pos depth held places b id more bytes place = goesBy (verdictOf pos depth held places (length b) id more) pos b (headersOf held places ++ bytes) place

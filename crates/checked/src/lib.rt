@@ -3,6 +3,7 @@
 use answers::Check;
 use answers::Outcome;
 use answers::check_field;
+use answers::check_sized;
 use arrays::put_fp32_array;
 use arrays::put_fp32_bits_array;
 use arrays::put_fp64_array;
@@ -13,10 +14,13 @@ use fields::put_fixlen_field;
 use fields::put_varint_field;
 use held::sound_for;
 use held::tagged;
+use types::ARRAY_MAX;
+use types::FIXLEN_MAX;
 use types::FixlenType;
+use types::LAZY_SEQ_DEPTH;
 use types::T_FIXLEN;
 ghost use mathlib.Core.Path.{_≡_};
-ghost use mathlib.Core.List.{map, _++_};
+ghost use mathlib.Core.List.{[], _∷_, map, _++_};
 ghost use Prim.Native.Nat.{_+_, _*_};
 ghost use lib.ListN.{length};
 ghost use lib.Ieee.{binary32, binary64, toBits};
@@ -25,21 +29,47 @@ ghost use Rattle.layout.specs.Field.{fp32, fp64, unsignedArray, signedArray, fl
 ghost use Rattle.layout.specs.Copy.{fieldBytes};
 ghost use Rattle.types.specs.Types.{subtype};
 ghost use Rattle.answers.specs.Judged.{checkOf};
+ghost use Rattle.answers.specs.Tests.{payloadTooLong, arrayTooLong};
 ghost use Rattle.checked.specs.Went.{wentBy, fixlenBytes, verdictOf, fieldFrom};
 
-// The refusals of a field, in order: the state, the id, and how long its payload or array is.
-fn check(
+// The refusals of a field with a payload, in order: the state, the id, the length.
+fn check_payload(
     pos: usize,
     depth: u16,
     held: u16,
-    places: [u32; 8],
+    places: [u32; LAZY_SEQ_DEPTH],
     size: usize,
     id: u32,
     len: usize,
 ) -> Check
-    ensures { λ r. ⌜ r ≡ checkOf (verdictOf pos depth held places size id len) ⌝ }
+    ensures { λ r. ⌜ r ≡ checkOf (verdictOf pos depth held places size id (payloadTooLong len ∷ [])) ⌝ }
 {
-    check_field(sound_for(pos, depth, held, places, size), id, len)
+    check_sized(
+        sound_for(pos, depth, held, places, size),
+        id,
+        len,
+        FIXLEN_MAX,
+    )
+}
+
+// Those of an array: the state, the id, the count.
+fn check_array(
+    pos: usize,
+    depth: u16,
+    held: u16,
+    places: [u32; LAZY_SEQ_DEPTH],
+    size: usize,
+    id: u32,
+    count: usize,
+) -> Check
+    ensures { λ r. ⌜ r ≡ checkOf (verdictOf pos depth held places size id (arrayTooLong count ∷ [])) ⌝ }
+{
+    check_sized(
+        sound_for(pos, depth, held, places, size),
+        id,
+        count,
+        ARRAY_MAX,
+    )
 }
 
 // A field of one varint.
@@ -48,15 +78,15 @@ pub fn varint_field(
     pos: usize,
     depth: u16,
     held: u16,
-    places: [u32; 8],
+    places: [u32; LAZY_SEQ_DEPTH],
     id: u32,
     wire: u8,
     value: u64,
     place: usize,
 ) -> Outcome
-    ensures { λ r. ⌜ wentBy r (now (buf .exit)) ≡ fieldFrom pos depth held places (now (buf .entry)) id 0 (shortest (id * 8 + wire) ++ shortest value) place ⌝ }
+    ensures { λ r. ⌜ wentBy r (now (buf .exit)) ≡ fieldFrom pos depth held places (now (buf .entry)) id [] (shortest (id * 8 + wire) ++ shortest value) place ⌝ }
 {
-    let tests = check(pos, depth, held, places, buf.len(), id, 0);
+    let tests = check_field(sound_for(pos, depth, held, places, buf.len()), id);
     let error = tests.error;
     if !tests.ok {
         return Outcome::Refused(error);
@@ -70,15 +100,15 @@ pub fn fixlen_field(
     pos: usize,
     depth: u16,
     held: u16,
-    places: [u32; 8],
+    places: [u32; LAZY_SEQ_DEPTH],
     id: u32,
     bytes: &[u8],
     t: FixlenType,
     place: usize,
 ) -> Outcome
-    ensures { λ r. ⌜ wentBy r (now (buf .exit)) ≡ fieldFrom pos depth held places (now (buf .entry)) id (length (now (bytes .entry))) (fixlenBytes id (subtype t) (now (bytes .entry))) place ⌝ }
+    ensures { λ r. ⌜ wentBy r (now (buf .exit)) ≡ fieldFrom pos depth held places (now (buf .entry)) id (payloadTooLong (length (now (bytes .entry))) ∷ []) (fixlenBytes id (subtype t) (now (bytes .entry))) place ⌝ }
 {
-    let tests = check(pos, depth, held, places, buf.len(), id, bytes.len());
+    let tests = check_payload(pos, depth, held, places, buf.len(), id, bytes.len());
     let error = tests.error;
     if !tests.ok {
         return Outcome::Refused(error);
@@ -102,14 +132,14 @@ pub fn unsigned_array(
     pos: usize,
     depth: u16,
     held: u16,
-    places: [u32; 8],
+    places: [u32; LAZY_SEQ_DEPTH],
     id: u32,
     items: &[u64],
     place: usize,
 ) -> Outcome
-    ensures { λ r. ⌜ wentBy r (now (buf .exit)) ≡ fieldFrom pos depth held places (now (buf .entry)) id (length (now (items .entry))) (fieldBytes (unsignedArray id (now (items .entry)))) place ⌝ }
+    ensures { λ r. ⌜ wentBy r (now (buf .exit)) ≡ fieldFrom pos depth held places (now (buf .entry)) id (arrayTooLong (length (now (items .entry))) ∷ []) (fieldBytes (unsignedArray id (now (items .entry)))) place ⌝ }
 {
-    let tests = check(pos, depth, held, places, buf.len(), id, items.len());
+    let tests = check_array(pos, depth, held, places, buf.len(), id, items.len());
     let error = tests.error;
     if !tests.ok {
         return Outcome::Refused(error);
@@ -123,14 +153,14 @@ pub fn signed_array(
     pos: usize,
     depth: u16,
     held: u16,
-    places: [u32; 8],
+    places: [u32; LAZY_SEQ_DEPTH],
     id: u32,
     items: &[i64],
     place: usize,
 ) -> Outcome
-    ensures { λ r. ⌜ wentBy r (now (buf .exit)) ≡ fieldFrom pos depth held places (now (buf .entry)) id (length (now (items .entry))) (fieldBytes (signedArray id (now (items .entry)))) place ⌝ }
+    ensures { λ r. ⌜ wentBy r (now (buf .exit)) ≡ fieldFrom pos depth held places (now (buf .entry)) id (arrayTooLong (length (now (items .entry))) ∷ []) (fieldBytes (signedArray id (now (items .entry)))) place ⌝ }
 {
-    let tests = check(pos, depth, held, places, buf.len(), id, items.len());
+    let tests = check_array(pos, depth, held, places, buf.len(), id, items.len());
     let error = tests.error;
     if !tests.ok {
         return Outcome::Refused(error);
@@ -144,14 +174,14 @@ pub fn fp32_bits_array(
     pos: usize,
     depth: u16,
     held: u16,
-    places: [u32; 8],
+    places: [u32; LAZY_SEQ_DEPTH],
     id: u32,
     items: &[u32],
     place: usize,
 ) -> Outcome
-    ensures { λ r. ⌜ wentBy r (now (buf .exit)) ≡ fieldFrom pos depth held places (now (buf .entry)) id (length (now (items .entry))) (fieldBytes (floatArray id fp32 (now (items .entry)))) place ⌝ }
+    ensures { λ r. ⌜ wentBy r (now (buf .exit)) ≡ fieldFrom pos depth held places (now (buf .entry)) id (arrayTooLong (length (now (items .entry))) ∷ []) (fieldBytes (floatArray id fp32 (now (items .entry)))) place ⌝ }
 {
-    let tests = check(pos, depth, held, places, buf.len(), id, items.len());
+    let tests = check_array(pos, depth, held, places, buf.len(), id, items.len());
     let error = tests.error;
     if !tests.ok {
         return Outcome::Refused(error);
@@ -165,14 +195,14 @@ pub fn fp32_array(
     pos: usize,
     depth: u16,
     held: u16,
-    places: [u32; 8],
+    places: [u32; LAZY_SEQ_DEPTH],
     id: u32,
     items: &[f32],
     place: usize,
 ) -> Outcome
-    ensures { λ r. ⌜ wentBy r (now (buf .exit)) ≡ fieldFrom pos depth held places (now (buf .entry)) id (length (now (items .entry))) (fieldBytes (floatArray id fp32 (map (toBits binary32) (now (items .entry))))) place ⌝ }
+    ensures { λ r. ⌜ wentBy r (now (buf .exit)) ≡ fieldFrom pos depth held places (now (buf .entry)) id (arrayTooLong (length (now (items .entry))) ∷ []) (fieldBytes (floatArray id fp32 (map (toBits binary32) (now (items .entry))))) place ⌝ }
 {
-    let tests = check(pos, depth, held, places, buf.len(), id, items.len());
+    let tests = check_array(pos, depth, held, places, buf.len(), id, items.len());
     let error = tests.error;
     if !tests.ok {
         return Outcome::Refused(error);
@@ -186,14 +216,14 @@ pub fn fp64_bits_array(
     pos: usize,
     depth: u16,
     held: u16,
-    places: [u32; 8],
+    places: [u32; LAZY_SEQ_DEPTH],
     id: u32,
     items: &[u64],
     place: usize,
 ) -> Outcome
-    ensures { λ r. ⌜ wentBy r (now (buf .exit)) ≡ fieldFrom pos depth held places (now (buf .entry)) id (length (now (items .entry))) (fieldBytes (floatArray id fp64 (now (items .entry)))) place ⌝ }
+    ensures { λ r. ⌜ wentBy r (now (buf .exit)) ≡ fieldFrom pos depth held places (now (buf .entry)) id (arrayTooLong (length (now (items .entry))) ∷ []) (fieldBytes (floatArray id fp64 (now (items .entry)))) place ⌝ }
 {
-    let tests = check(pos, depth, held, places, buf.len(), id, items.len());
+    let tests = check_array(pos, depth, held, places, buf.len(), id, items.len());
     let error = tests.error;
     if !tests.ok {
         return Outcome::Refused(error);
@@ -207,14 +237,14 @@ pub fn fp64_array(
     pos: usize,
     depth: u16,
     held: u16,
-    places: [u32; 8],
+    places: [u32; LAZY_SEQ_DEPTH],
     id: u32,
     items: &[f64],
     place: usize,
 ) -> Outcome
-    ensures { λ r. ⌜ wentBy r (now (buf .exit)) ≡ fieldFrom pos depth held places (now (buf .entry)) id (length (now (items .entry))) (fieldBytes (floatArray id fp64 (map (toBits binary64) (now (items .entry))))) place ⌝ }
+    ensures { λ r. ⌜ wentBy r (now (buf .exit)) ≡ fieldFrom pos depth held places (now (buf .entry)) id (arrayTooLong (length (now (items .entry))) ∷ []) (fieldBytes (floatArray id fp64 (map (toBits binary64) (now (items .entry))))) place ⌝ }
 {
-    let tests = check(pos, depth, held, places, buf.len(), id, items.len());
+    let tests = check_array(pos, depth, held, places, buf.len(), id, items.len());
     let error = tests.error;
     if !tests.ok {
         return Outcome::Refused(error);

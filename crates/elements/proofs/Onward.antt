@@ -11,7 +11,7 @@ use lib.Dec.{leb, ltb}
 use lib.ListN.{length, take, drop, getD, length-append, length-drop, take-append-drop}
 use lib.Seq.{take-all, length-take-le, drop-append-le, drop-append-add, drop-drop}
 use borrow.Author.Tests.{leb-true, leb-false, ltb-true, ltb-false}
-use Rattle.layout.specs.Limits.{pick}
+use Rattle.layout.specs.Limits.{base, longest, pick}
 use Rattle.layout.specs.Varint.{shortest}
 use Rattle.layout.specs.Field.{each}
 use Rattle.varint.proofs.Shortest.{drop-shortest}
@@ -22,7 +22,7 @@ use Rattle.emit.proofs.Writes.{reached-is, reached-le}
 use Rattle.emit.proofs.Turns.{Left, Whole, start, none-left, no-room, followed, followed-by, same-size}
 use Rattle.emit.proofs.Segments.{Emitted, some-left}
 use Rattle.emit.proofs.Elements.{each-at, each-end, each-append, length-each}
-use Rattle.elements.specs.Standing.{Standing}
+use Rattle.elements.specs.Standing.{Standing, elementsMost}
 
 -- so many whole elements of w bytes are out after the first `skip`, of n
 pub evenly : (n skip w r : ℕ) → 0 < w → r ≡ min (skip / w) n → (r * w ≤ skip) × (r < n → skip - r * w < w)
@@ -65,17 +65,17 @@ module _ {A : Type 0} (f : A → List ℕ) (l : List A) where
   pub record Counting (skip left i : ℕ) : Type 0 where
     pub within : i ≤ length l
     pub sum : length (each f (take i l)) + left ≡ skip
-    pub few : skip ≤ 10 * i + left
+    pub few : skip ≤ elementsMost i + left
 
   pub out-start : (skip : ℕ) → Counting skip skip 0
   unfolding each
   out-start skip = record { within = omega arith; sum = omega arith; few = omega arith }
 
   module _ (skip left i : ℕ) (w : Counting skip left i) where
-    pub out-next : (x : A) (n : ℕ) → i < length l → n ≡ length (f (getD l i x)) → n ≤ 10 → n ≤ left → Counting skip (left - n) (i + 1)
+    pub out-next : (x : A) (n : ℕ) → i < length l → n ≡ length (f (getD l i x)) → n ≤ longest base → n ≤ left → Counting skip (left - n) (i + 1)
     out-next x n h e m g = let o = one-more i x h in let s = w .sum in let t = w .few in record { within = omega arith; sum = omega arith; few = omega arith }
 
-    pub out-stop : (x : A) (n : ℕ) → i < length l → n ≡ length (f (getD l i x)) → n ≤ 10 → left < n → Standing f l skip i left
+    pub out-stop : (x : A) (n : ℕ) → i < length l → n ≡ length (f (getD l i x)) → n ≤ longest base → left < n → Standing f l skip i left
     out-stop x n h e m g =
         let t = w .few in
         record { within = w .within; sum = w .sum; short = λ y k. let a = from-here i x h in let b = from-here i y h in omega arith; few = λ k. omega arith }
@@ -84,7 +84,7 @@ module _ {A : Type 0} (f : A → List ℕ) (l : List A) where
     out-end h = record { within = w .within; sum = w .sum; short = λ y k. absurd (omega arith); few = λ k. absurd (omega arith) }
 
   -- elements of n bytes each need no counting
-  pub out-evenly : (n : ℕ) → n ≤ 10 → ((x : A) → length (f x) ≡ n) → (skip whole part : ℕ) → whole ≤ length l → whole * n + part ≡ skip → (whole < length l → part < n) → Standing f l skip whole part
+  pub out-evenly : (n : ℕ) → n ≤ longest base → ((x : A) → length (f x) ≡ n) → (skip whole part : ℕ) → whole ≤ length l → whole * n + part ≡ skip → (whole < length l → part < n) → Standing f l skip whole part
   out-evenly n t k skip whole part h s g =
       record {
         within = h;
@@ -95,13 +95,13 @@ module _ {A : Type 0} (f : A → List ℕ) (l : List A) where
 
   -- how many bytes the elements take, where they are no more than so many; else more
   pub counted-up : (most whole part r : ℕ) → Standing f l most whole part → r ≡ pick (ltb whole (length l)) (most + 1) (most - part)
-      → (r ≡ length (each f l)) ⊎ ((most < r) × (most < length (each f l)) × (most < 10 * length l))
+      → (r ≡ length (each f l)) ⊎ ((most < r) × (most < length (each f l)) × (most < elementsMost (length l)))
   counted-up most whole part r w e = go (ltb whole (length l)) refl e
     where
       s : length (each f (take whole l)) + part ≡ most
       s = w .sum
 
-      go : (t : Bool) → ltb whole (length l) ≡ t → r ≡ pick t (most + 1) (most - part) → (r ≡ length (each f l)) ⊎ ((most < r) × (most < length (each f l)) × (most < 10 * length l))
+      go : (t : Bool) → ltb whole (length l) ≡ t → r ≡ pick t (most + 1) (most - part) → (r ≡ length (each f l)) ⊎ ((most < r) × (most < length (each f l)) × (most < elementsMost (length l)))
       go true u e =
           let h : whole < length l = ltb-true _ _ u in
           let x : A = some-of l whole h in

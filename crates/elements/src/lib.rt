@@ -3,10 +3,11 @@
 use emit::Cursor;
 use emit::put_fitting;
 use emit::put_whole;
+use varint::VARINT_MAX;
 use varint::varint_len;
 use varint::zigzag_encode;
 ghost use mathlib.Core.Path.{_≡_};
-ghost use Prim.Native.Nat.{_+_, _-_, _*_, _≤_, _<_};
+ghost use Prim.Native.Nat.{_+_, _-_, _≤_, _<_};
 ghost use lib.Dec.{ltb};
 ghost use lib.ListN.{length, drop};
 ghost use Rattle.layout.specs.Varint.{shortest};
@@ -15,7 +16,7 @@ ghost use Rattle.layout.specs.Limits.{pick};
 ghost use Rattle.layout.specs.Zigzag.{zigzag};
 ghost use Rattle.emit.specs.Put.{put, reached};
 ghost use Rattle.emit.specs.Cursor.{placed, moved};
-ghost use Rattle.elements.specs.Standing.{Standing};
+ghost use Rattle.elements.specs.Standing.{Standing, elementsMost};
 
 // How much of an array's elements is out: whole ones, and bytes of the next.
 pub struct Out {
@@ -26,7 +27,7 @@ pub struct Out {
 // The varints of an unsigned array's elements where there is room for the longest of each. Two at a turn: the loop's own steps cost a
 // sixth of a short element's.
 pub fn put_fittings(buf: &mut [u8], pos: usize, items: &[u64]) -> usize
-    requires { ⌜ pos + 10 * length (now items) ≤ length (now buf) ⌝ }
+    requires { ⌜ pos + elementsMost (length (now items)) ≤ length (now buf) ⌝ }
     ensures { λ r. ⌜ (r ≡ reached (now (buf .entry)) pos (each shortest (now (items .entry)))) × (now (buf .exit) ≡ put (now (buf .entry)) pos (each shortest (now (items .entry)))) × (pos + length (each shortest (now (items .entry))) ≤ length (now (buf .entry))) ⌝ }
 {
     let mut at = pos;
@@ -47,7 +48,7 @@ pub fn put_fittings(buf: &mut [u8], pos: usize, items: &[u64]) -> usize
 
 // The same of a signed array's.
 pub fn put_fitting_zigzags(buf: &mut [u8], pos: usize, items: &[i64]) -> usize
-    requires { ⌜ pos + 10 * length (now items) ≤ length (now buf) ⌝ }
+    requires { ⌜ pos + elementsMost (length (now items)) ≤ length (now buf) ⌝ }
     ensures { λ r. ⌜ (r ≡ reached (now (buf .entry)) pos (each (λ z. shortest (zigzag z)) (now (items .entry)))) × (now (buf .exit) ≡ put (now (buf .entry)) pos (each (λ z. shortest (zigzag z)) (now (items .entry)))) × (pos + length (each (λ z. shortest (zigzag z)) (now (items .entry))) ≤ length (now (buf .entry))) ⌝ }
 {
     let mut at = pos;
@@ -65,7 +66,7 @@ fn put_next(buf: &mut [u8], pos: usize, v: u64) -> usize
     requires { ⌜ pos ≤ length (now buf) ⌝ }
     ensures { λ r. ⌜ (r ≡ reached (now (buf .entry)) pos (shortest v)) × (now (buf .exit) ≡ put (now (buf .entry)) pos (shortest v)) ⌝ }
 {
-    if 10 <= buf.len() - pos {
+    if VARINT_MAX <= buf.len() - pos {
         return put_fitting(buf, pos, v);
     }
     put_whole(buf, pos, v)

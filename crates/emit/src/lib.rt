@@ -2,9 +2,10 @@
 // A call that goes on from a place skips the bytes that are out already. Every write stops at the buffer's end, so a call may emit
 // all its segments with no test between them; how much went follows from the lengths.
 ghost use mathlib.Core.Path.{_≡_};
-ghost use Prim.Native.Nat.{_+_, _≤_, _<_, min};
+ghost use Prim.Native.Nat.{_+_, _-_, _≤_, _<_, min};
 ghost use lib.ListN.{length, drop};
 use varint::varint_len;
+ghost use Rattle.layout.specs.Limits.{base, longest};
 ghost use Rattle.layout.specs.Varint.{shortest};
 ghost use Rattle.layout.specs.Field.{lowBytes};
 ghost use Rattle.emit.specs.Put.{put, reached};
@@ -36,7 +37,7 @@ pub fn put_whole(buf: &mut [u8], pos: usize, v: u64) -> usize
 
 // The same where there is room for the longest, with no test for the buffer's end at each byte.
 pub fn put_fitting(buf: &mut [u8], pos: usize, v: u64) -> usize
-    requires { ⌜ pos + 10 ≤ length (now buf) ⌝ }
+    requires { ⌜ pos + longest base ≤ length (now buf) ⌝ }
     ensures { λ r. ⌜ (r ≡ reached (now (buf .entry)) pos (shortest v)) × (now (buf .exit) ≡ put (now (buf .entry)) pos (shortest v)) ⌝ }
 {
     if v < 128 {
@@ -55,7 +56,7 @@ pub fn put_fitting(buf: &mut [u8], pos: usize, v: u64) -> usize
 
 // Such a varint from its third byte on.
 fn put_third(buf: &mut [u8], pos: usize, v: u64) -> usize
-    requires { ⌜ pos + 8 ≤ length (now buf) ⌝ }
+    requires { ⌜ pos + (longest base - 2) ≤ length (now buf) ⌝ }
     ensures { λ r. ⌜ (r ≡ reached (now (buf .entry)) pos (shortest v)) × (now (buf .exit) ≡ put (now (buf .entry)) pos (shortest v)) ⌝ }
 {
     if v < 128 {

@@ -12,7 +12,7 @@ use Rattle.emit.proofs.Writes.{reached-is}
 use Rattle.emit.proofs.Turns.{Whole, in-a-row, same-size}
 use Rattle.emit.proofs.Segments.{Emitted}
 use Rattle.answers.specs.declared.Outcome.the-variants.{Through}
-use Rattle.held.specs.Headers.{startAt}
+use Rattle.held.specs.Headers.{pairMost, startAt}
 use Rattle.held.proofs.Ends.{Ended, at-once}
 use Rattle.straight.specs.Straight.{roomFor}
 use Rattle.straight.proofs.Straight.{WholeIf, was-made, yes-both, room-for}
@@ -22,7 +22,7 @@ unfolding moved placed
 as-whole pos b o c′ b′ (e, f) = (ap (λ (x : Cursor). x .pos) e, f)
 
 -- the held headers h, and then the rest of the output, o
-pub behind : (pos : ℕ) (b h o : List ℕ) (place n : ℕ) (c1 : Cursor) (b1 : List ℕ) (rest : Bool) (end : ℕ) (b2 : List ℕ) → place ≡ 0 → pos + (length h + 20 + n) ≤ length b → length o ≤ 20 + n
+pub behind : (pos : ℕ) (b h o : List ℕ) (place n : ℕ) (c1 : Cursor) (b1 : List ℕ) (rest : Bool) (end : ℕ) (b2 : List ℕ) → place ≡ 0 → pos + (length h + pairMost + n) ≤ length b → length o ≤ pairMost + n
     → Emitted (startAt pos 0) b h c1 b1 → rest ≡ true → WholeIf (roomFor (length b1) (c1 .pos) n && rest) b1 (c1 .pos) o b2 end → Ended pos b (h ++ o) place (Through end) b2
 behind pos b h o place n c1 b1 rest end b2 z r l e er w =
     let inside : pos ≤ length b = omega arith in

@@ -9,6 +9,7 @@ use held::put_held;
 use held::tagged;
 use straight::put_field;
 use straight::put_pair;
+use types::LAZY_SEQ_DEPTH;
 use types::T_SEQUENCE_END;
 use varint::varint_len;
 ghost use mathlib.Core.Path.{_≡_};
@@ -19,25 +20,26 @@ ghost use Rattle.layout.specs.Varint.{shortest};
 ghost use Rattle.layout.specs.Field.{lowBytes, end};
 ghost use Rattle.layout.specs.Copy.{fieldBytes};
 ghost use Rattle.answers.specs.Outcome.{reaches};
+ghost use Rattle.held.specs.Places.{lazyDepth};
 ghost use Rattle.held.specs.Headers.{headersOf, headOf, leftAt};
 
 // The held headers, a header and one varint: where there is room for the longest that they can be, straight away.
 pub fn put_varint_field(
     buf: &mut [u8],
     pos: usize,
-    places: [u32; 8],
+    places: [u32; LAZY_SEQ_DEPTH],
     held: u16,
     header: u64,
     value: u64,
     place: usize,
 ) -> Outcome
-    requires { ⌜ (held ≤ 8) × (pos ≤ length (now buf)) ⌝ }
+    requires { ⌜ (held ≤ lazyDepth) × (pos ≤ length (now buf)) ⌝ }
     ensures { λ r. ⌜ (r ≡ reaches pos (length (now (buf .entry))) (length (headOf held places header value)) place) × (now (buf .exit) ≡ leftAt pos (now (buf .entry)) (headOf held places header value) place) ⌝ }
 {
     let size = buf.len();
     if place == 0 && has_room_behind(size, pos, places, held, 0) {
         let behind = put_held(buf, pos, places, held, 0);
-        let end = put_pair(buf, behind.pos, [0; 8], header, value);
+        let end = put_pair(buf, behind.pos, [0; LAZY_SEQ_DEPTH], header, value);
         return Outcome::Through(end);
     }
     put_head(buf, pos, places, held, header, value, place);
@@ -48,20 +50,20 @@ pub fn put_varint_field(
 pub fn put_fixlen_field(
     buf: &mut [u8],
     pos: usize,
-    places: [u32; 8],
+    places: [u32; LAZY_SEQ_DEPTH],
     held: u16,
     header: u64,
     word: u64,
     bytes: &[u8],
     place: usize,
 ) -> Outcome
-    requires { ⌜ (held ≤ 8) × (pos ≤ length (now buf)) ⌝ }
+    requires { ⌜ (held ≤ lazyDepth) × (pos ≤ length (now buf)) ⌝ }
     ensures { λ r. ⌜ (r ≡ reaches pos (length (now (buf .entry))) (length (headersOf held places ++ (shortest header ++ (shortest word ++ now (bytes .entry))))) place) × (now (buf .exit) ≡ leftAt pos (now (buf .entry)) (headersOf held places ++ (shortest header ++ (shortest word ++ now (bytes .entry)))) place) ⌝ }
 {
     let size = buf.len();
     if place == 0 && has_room_behind(size, pos, places, held, bytes.len()) {
         let behind = put_held(buf, pos, places, held, 0);
-        let end = put_field(buf, behind.pos, [0; 8], header, word, bytes);
+        let end = put_field(buf, behind.pos, [0; LAZY_SEQ_DEPTH], header, word, bytes);
         return Outcome::Through(end);
     }
     let head = put_head(buf, pos, places, held, header, word, place);
@@ -74,12 +76,12 @@ pub fn put_fixlen_field(
 pub fn put_marker(
     buf: &mut [u8],
     pos: usize,
-    places: [u32; 8],
+    places: [u32; LAZY_SEQ_DEPTH],
     held: u16,
     header: u64,
     place: usize,
 ) -> Outcome
-    requires { ⌜ (held ≤ 8) × (pos ≤ length (now buf)) ⌝ }
+    requires { ⌜ (held ≤ lazyDepth) × (pos ≤ length (now buf)) ⌝ }
     ensures { λ r. ⌜ (r ≡ reaches pos (length (now (buf .entry))) (length (headersOf held places ++ shortest header)) place) × (now (buf .exit) ≡ leftAt pos (now (buf .entry)) (headersOf held places ++ shortest header) place) ⌝ }
 {
     let size = buf.len();
@@ -94,8 +96,14 @@ pub fn put_marker(
 }
 
 // The held headers and a close, whose id is 0.
-pub fn put_close(buf: &mut [u8], pos: usize, places: [u32; 8], held: u16, place: usize) -> Outcome
-    requires { ⌜ (held ≤ 8) × (pos ≤ length (now buf)) ⌝ }
+pub fn put_close(
+    buf: &mut [u8],
+    pos: usize,
+    places: [u32; LAZY_SEQ_DEPTH],
+    held: u16,
+    place: usize,
+) -> Outcome
+    requires { ⌜ (held ≤ lazyDepth) × (pos ≤ length (now buf)) ⌝ }
     ensures { λ r. ⌜ (r ≡ reaches pos (length (now (buf .entry))) (length (headersOf held places ++ fieldBytes (end 0))) place) × (now (buf .exit) ≡ leftAt pos (now (buf .entry)) (headersOf held places ++ fieldBytes (end 0)) place) ⌝ }
 {
     put_marker(buf, pos, places, held, tagged(0, T_SEQUENCE_END), place)

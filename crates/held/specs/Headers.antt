@@ -1,13 +1,24 @@
 -- The headers that are held back, and where a call's output goes on that begins with them.
 use mathlib.Core.List.{List, _++_}
-use Prim.Native.Nat.{ℕ}
+use Prim.Native.Nat.{ℕ, _+_, _*_}
 use lib.Dec.{ltb}
 use lib.ListN.{length, take, drop}
-use Rattle.layout.specs.Limits.{pick}
+use Rattle.layout.specs.Limits.{base, longest, pick}
 use Rattle.layout.specs.Varint.{shortest}
 use Rattle.layout.specs.Field.{header, each, T-begin}
 use Rattle.emit.specs.Put.{put}
 use Rattle.emit.specs.declared.Cursor.{Cursor}
+use Rattle.held.specs.Places.{lazyDepth}
+
+-- the most bytes of a field's header and the varint after it, of the headers that are held back, and of all of these
+abbrev pub pairMost : ℕ
+pairMost = 2 * longest base
+
+abbrev pub heldMost : ℕ
+heldMost = lazyDepth * longest base
+
+abbrev pub headMost : ℕ
+headMost = heldMost + pairMost
 
 -- the headers of the sequences that are held back, "outermost first"
 unfoldable pub headersOf : ℕ → List ℕ → List ℕ

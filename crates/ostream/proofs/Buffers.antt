@@ -16,7 +16,8 @@ use Rattle.ostream.specs.declared.Answer.the-variants.{Done}
 use Rattle.ostream.specs.declared.Count.the-variants.{Bytes, Refused}
 use Rattle.ostream.specs.Stream.{every, soundStream, at, opened}
 use Rattle.ostream.specs.Emission.{Verdict, accepted, refusedWith, refused}
-use Rattle.ostream.specs.Buffer.{badBuffer, countedAt, countedBy, opening, draining, changing}
+use Rattle.ostream.specs.Straight.{countedAt}
+use Rattle.ostream.specs.Buffer.{badBuffer, countedBy, opening, draining, changing}
 use Rattle.ostream.proofs.Called.{both, is-sound}
 use Rattle.ostream.proofs.Straight.{quiet}
 

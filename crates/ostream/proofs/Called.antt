@@ -25,7 +25,7 @@ use Rattle.ostream.specs.declared.Answer.the-variants as Answers
 use Rattle.ostream.specs.declared.Written.{Written}
 use Rattle.ostream.specs.Stream.{every, soundStream, lazyDepth, heldBytes, zeroed, committed, at}
 use Rattle.ostream.specs.Straight.{Clears, settled, unwritten}
-use Rattle.ostream.specs.Calls.{unsound, tooDeep, noneOpen, idTooLarge, payloadTooLong, fieldTests}
+use Rattle.ostream.specs.Calls.{unsound, tooDeep, noneOpen, idTooLarge}
 use Rattle.ostream.specs.Emission.{Test, Call, Verdict, accepted, refusedWith, judged, through, leftBy, refused, emittedBy, emitted, writtenBy, written}
 pub use Rattle.held.proofs.Places.{both}
 
@@ -148,23 +148,23 @@ few-clears s h (Through end) = h
 few-clears s h (Full out) = tt
 few-clears s h (Refused e) = tt
 
-module _ (s : OStream) (b : List ℕ) (id n : ℕ) (bytes : List ℕ) (place : ℕ) (out : Outcome) (b′ : List ℕ) (w : wentBy out b′ ≡ fieldFrom (s .offset) (s .depth) (s .npending) (s .pending) b id n bytes place) where
+module _ (s : OStream) (b : List ℕ) (id : ℕ) (more : List Test) (bytes : List ℕ) (place : ℕ) (out : Outcome) (b′ : List ℕ) (w : wentBy out b′ ≡ fieldFrom (s .offset) (s .depth) (s .npending) (s .pending) b id more bytes place) where
   -- where it is all out, the state was sound
   pub field-clears : Clears s out
   unfolding soundStream wentBy goesBy
-  field-clears = go (judged (fieldTests s (length b) id n)) refl w
+  field-clears = go (judged (unsound s (length b) ∷ idTooLarge id ∷ more)) refl w
     where
-      go : (v : Verdict) → judged (fieldTests s (length b) id n) ≡ v → wentBy out b′ ≡ goesBy v (s .offset) b (headersOf (s .npending) (s .pending) ++ bytes) place → Clears s out
-      go accepted j w = few-clears s (is-sound s (length b) (check-sound (soundStream s (length b)) (idTooLarge id ∷ payloadTooLong n ∷ []) j) .few) out
+      go : (v : Verdict) → judged (unsound s (length b) ∷ idTooLarge id ∷ more) ≡ v → wentBy out b′ ≡ goesBy v (s .offset) b (headersOf (s .npending) (s .pending) ++ bytes) place → Clears s out
+      go accepted j w = few-clears s (is-sound s (length b) (check-sound (soundStream s (length b)) (idTooLarge id ∷ more) j) .few) out
       go (refusedWith e) j w = subst (Clears s) (sym (ap (λ (g : Went). g .outcome) w)) tt
 
   -- what it came to is what the call says and leaves
-  pub goes : (k : Call) (r : Written) → judged (fieldTests s (length b) id n) ≡ judged (k .tests) → heldBytes s ++ bytes ≡ k .output → committed s (s .depth) ≡ k .done → r ≡ settled s (length b) (committed s (s .depth)) out
+  pub goes : (k : Call) (r : Written) → judged (unsound s (length b) ∷ idTooLarge id ∷ more) ≡ judged (k .tests) → heldBytes s ++ bytes ≡ k .output → committed s (s .depth) ≡ k .done → r ≡ settled s (length b) (committed s (s .depth)) out
       → leftBy r b′ ≡ written k s b place
   unfolding soundStream heldBytes wentBy goesBy written writtenBy leftBy
   goes k r j o d h =
       ap (λ (x : Written). leftBy x b′) h
-      ∙ go (judged (fieldTests s (length b) id n)) w
+      ∙ go (judged (unsound s (length b) ∷ idTooLarge id ∷ more)) w
       ∙ ap (λ (v : Verdict). writtenBy v k s b place) j
     where
       go : (v : Verdict) → wentBy out b′ ≡ goesBy v (s .offset) b (headersOf (s .npending) (s .pending) ++ bytes) place → leftBy (settled s (length b) (committed s (s .depth)) out) b′ ≡ writtenBy v k s b place

@@ -11,6 +11,7 @@ use Rattle.layout.specs.Limits.{base}
 use Rattle.layout.specs.Varint.{shortest}
 use Rattle.emit.proofs.Turns.{Whole}
 use Rattle.held.specs.Places.{clean}
+use Rattle.held.specs.Headers.{pairMost}
 use Rattle.held.proofs.Ends.{at-once}
 use Rattle.straight.specs.Straight.{roomFor, easyAt, closesAt}
 use Rattle.straight.proofs.Straight.{has-room}
@@ -27,7 +28,7 @@ use Rattle.ostream.proofs.Called.{both, none-held, settles}
 
 -- a state that holds nothing, from which a field of two varints and n more bytes can be written straight away
 pub record Ready (s : OStream) (size id n : ℕ) : Type 0 where
-  pub room : s .offset + 20 + n ≤ size
+  pub room : s .offset + pairMost + n ≤ size
   pub legal : id ≤ base .id
   pub none : s .npending ≡ 0
   pub sound : soundStream s size ≡ true
@@ -39,31 +40,33 @@ quiet s size h e d z =
     ∙ simp (le-leb (s .offset) size h, le-leb 0 (s .depth) (omega arith), le-leb (s .depth) (base .depth) d, z)
 
 -- the tests that come before the places and the room
-pub record Easy (s : OStream) (id n : ℕ) : Type 0 where
+pub record Easy (s : OStream) (id : ℕ) : Type 0 where
   pub legal : id ≤ base .id
   pub none : s .npending ≡ 0
   pub shallow : s .depth ≤ base .depth
-  pub short : n ≤ base .size
 
-pub is-easy : (s : OStream) (id n : ℕ) → easyAt (s .depth) (s .npending) id n ≡ true → Easy s id n
+pub is-easy : (s : OStream) (id : ℕ) → easyAt (s .depth) (s .npending) id ≡ true → Easy s id
 unfolding easyAt
-is-easy s id n e =
+is-easy s id e =
     let a = both _ _ e in
     let b = both _ _ (a .1) in
-    let c = both _ _ (b .1) in
-    record { legal = leb-true _ _ (a .0); none = nothing (s .npending) (leb-true _ _ (b .0)); shallow = leb-true _ _ (c .0); short = leb-true _ _ (c .1) }
+    record { legal = leb-true _ _ (a .0); none = nothing (s .npending) (leb-true _ _ (b .0)); shallow = leb-true _ _ (b .1) }
   where
     nothing : (n : ℕ) → n ≤ 0 → n ≡ 0
     nothing n h = omega arith
 
-pub closes-easy : (s : OStream) → closesAt (s .depth) (s .npending) ≡ true → (0 < s .depth) × Easy s 0 0
-unfolding closesAt
-closes-easy s e = let a = both _ _ e in (ltb-true _ _ (a .0), is-easy s 0 0 (a .1))
+-- with a payload or an array of n
+pub easy-with : (s : OStream) (id n most : ℕ) → (easyAt (s .depth) (s .npending) id && leb n most) ≡ true → Easy s id × (n ≤ most)
+easy-with s id n most e = let a = both _ _ e in (is-easy s id (a .0), leb-true _ _ (a .1))
 
-pub is-ready : (s : OStream) (size id k n : ℕ) → Easy s id k → (roomFor size (s .offset) n && clean (s .pending)) ≡ true → Ready s size id n
-is-ready s size id k n y e =
+pub closes-easy : (s : OStream) → closesAt (s .depth) (s .npending) ≡ true → (0 < s .depth) × Easy s 0
+unfolding closesAt
+closes-easy s e = let a = both _ _ e in (ltb-true _ _ (a .0), is-easy s 0 (a .1))
+
+pub is-ready : (s : OStream) (size id n : ℕ) → Easy s id → (roomFor size (s .offset) n && clean (s .pending)) ≡ true → Ready s size id n
+is-ready s size id n y e =
     let a = both _ _ e in
-    let r : s .offset + 20 + n ≤ size = has-room size (s .offset) n (a .0) in
+    let r : s .offset + pairMost + n ≤ size = has-room size (s .offset) n (a .0) in
     record { room = r; legal = y .legal; none = y .none; sound = quiet s size (omega arith) (y .none) (y .shallow) (a .1) }
 
 -- a sequence can be opened and held back

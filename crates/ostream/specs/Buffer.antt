@@ -3,8 +3,6 @@ use mathlib.Core.Bool.{Bool}
 use mathlib.Core.List.{List, [], _∷_}
 use Prim.Native.Nat.{ℕ}
 use lib.ListN.{take}
-use Rattle.buffers.specs.declared.Moved.{Moved}
-use Rattle.buffers.specs.declared.Moved.the-variants as moved
 use Rattle.ostream.specs.declared.OStream.{OStream}
 use Rattle.ostream.specs.declared.Answer.the-variants.{Done}
 use Rattle.ostream.specs.declared.Written.{Written}
@@ -22,11 +20,6 @@ openedBy (refusedWith e) offset = refused (opened 0) e
 
 unfoldable pub opening : ℕ → ℕ → Bool → Written
 opening size offset drained = openedBy (judged (badBuffer size offset drained ∷ [])) offset
-
--- by where a call about buffers goes on: the old position is answered, and the state is at the new one
-abbrev pub countedAt : OStream → Moved → Counted
-countedAt s (moved.To sent pos) = record { answer = Bytes sent; stream = at s pos }
-countedAt s (moved.Refused e) = record { answer = Refused e; stream = s }
 
 -- The old position is answered, and the state is at another.
 abbrev pub countedBy : Verdict → OStream → ℕ → Counted

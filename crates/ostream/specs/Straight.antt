@@ -6,9 +6,13 @@ use Rattle.layout.specs.Limits.{base, pick}
 use Rattle.types.specs.Types.{refusal}
 use Rattle.answers.specs.declared.Outcome.{Outcome}
 use Rattle.answers.specs.declared.Outcome.the-variants.{Through, Full, Refused}
+use Rattle.buffers.specs.declared.Moved.{Moved}
+use Rattle.buffers.specs.declared.Moved.the-variants as moved
 use Rattle.ostream.specs.declared.OStream.{OStream}
 use Rattle.ostream.specs.declared.Answer.the-variants as Answers
 use Rattle.ostream.specs.declared.Written.{Written}
+use Rattle.ostream.specs.declared.Count.the-variants as Counts
+use Rattle.ostream.specs.declared.Counted.{Counted}
 use Rattle.ostream.specs.Stream.{lazyDepth, soundStream, at}
 use Rattle.ostream.specs.Emission.{refused}
 
@@ -31,3 +35,8 @@ settled s size next (Refused e) = refused s e
 -- those of a call that writes nothing
 abbrev pub unwritten : OStream → ℕ → OStream → Written
 unwritten s place next = pick (ltb 0 place) (refused s (refusal 11)) (record { answer = Answers.Done; stream = next })
+
+-- the answer of a drain or a buffer change, by where it goes on: the old position, and the state at the new one
+abbrev pub countedAt : OStream → Moved → Counted
+countedAt s (moved.To sent pos) = record { answer = Counts.Bytes sent; stream = at s pos }
+countedAt s (moved.Refused e) = record { answer = Counts.Refused e; stream = s }

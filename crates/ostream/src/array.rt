@@ -9,9 +9,10 @@ use checked::fp64_bits_array;
 use checked::signed_array;
 use checked::unsigned_array;
 use held::tagged;
-use straight::at_ease;
+use straight::at_ease_with;
 use straight::put_signeds;
 use straight::put_unsigneds;
+use types::ARRAY_MAX;
 use types::T_VARINTARRAY_SIGNED;
 use types::T_VARINTARRAY_UNSIGNED;
 ghost use mathlib.Core.Path.{_≡_};
@@ -38,7 +39,7 @@ impl OStream {
                 .write_array_unsigned_slowly(buf, id, items, place)
                 .anew();
         }
-        if at_ease(self.depth, self.npending, id, items.len()) {
+        if at_ease_with(self.depth, self.npending, id, items.len(), ARRAY_MAX) {
             let places = self.pending;
             let end = put_unsigneds(
                 buf,
@@ -100,7 +101,7 @@ impl OStream {
                 .write_array_signed_slowly(buf, id, items, place)
                 .anew();
         }
-        if at_ease(self.depth, self.npending, id, items.len()) {
+        if at_ease_with(self.depth, self.npending, id, items.len(), ARRAY_MAX) {
             let places = self.pending;
             let end = put_signeds(
                 buf,

@@ -9,8 +9,9 @@ use event::fp64_bits;
 use fields::le32;
 use fields::le64;
 use held::tagged;
-use straight::at_ease;
+use straight::at_ease_with;
 use straight::put_field;
+use types::FIXLEN_MAX;
 use types::FixlenType;
 use types::T_FIXLEN;
 ghost use mathlib.Core.Path.{_≡_};
@@ -37,7 +38,7 @@ impl OStream {
                 .write_fixlen_slowly(buf, id, bytes, subtype, place)
                 .anew();
         }
-        if at_ease(self.depth, self.npending, id, bytes.len()) {
+        if at_ease_with(self.depth, self.npending, id, bytes.len(), FIXLEN_MAX) {
             let places = self.pending;
             let word = tagged(bytes.len() as u32, subtype.raw());
             let end = put_field(buf, self.offset, places, tagged(id, T_FIXLEN), word, bytes);

@@ -15,21 +15,22 @@ use buffers::drain;
 use held::clear;
 use held::sound_for;
 use types::Error;
+use types::LAZY_SEQ_DEPTH;
 ghost use mathlib.Core.Path.{_≡_};
 ghost use Prim.Native.Nat.{_≤_};
 ghost use mathlib.Core.Bool.{true, false};
 ghost use lib.ListN.{length};
-ghost use Rattle.ostream.specs.Stream.{soundStream, committed, opened};
-ghost use Rattle.ostream.specs.Straight.{Clears, settled, unwritten};
+ghost use Rattle.ostream.specs.Stream.{lazyDepth, soundStream, committed, opened};
+ghost use Rattle.ostream.specs.Straight.{Clears, settled, unwritten, countedAt};
 ghost use Rattle.ostream.specs.Emission.{refused};
-ghost use Rattle.ostream.specs.Buffer.{opening, countedAt, draining, changing};
+ghost use Rattle.ostream.specs.Buffer.{opening, draining, changing};
 
 // A writer's state. `offset` is where the next byte goes; `depth` counts the open sequences; `pending` has the ids of the innermost
 // `npending` of them, whose headers are held back, and zero elsewhere. (The order of the fields leaves no gap between them: a copy of a
 // gap goes through memory.)
 pub struct OStream {
     pub offset: usize,
-    pub pending: [u32; 8],
+    pub pending: [u32; LAZY_SEQ_DEPTH],
     pub depth: u16,
     pub npending: u16,
 }
@@ -94,7 +95,7 @@ impl OStream {
         OStream {
             offset,
             depth: 0,
-            pending: [0; 8],
+            pending: [0; LAZY_SEQ_DEPTH],
             npending: 0,
         }
     }
@@ -118,7 +119,7 @@ impl OStream {
 
     // The state once no id is held any more, at a depth. (`settle` asks its callers for it.)
     fn commit(mut self, depth: u16) -> OStream
-        requires { ⌜ self .npending ≤ 8 ⌝ }
+        requires { ⌜ self .npending ≤ lazyDepth ⌝ }
         ensures { λ r. ⌜ r ≡ committed self depth ⌝ }
     {
         let pending = self.pending;

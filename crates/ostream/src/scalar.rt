@@ -38,7 +38,7 @@ impl OStream {
                 .write_varint_field_slowly(buf, id, wire, value, place)
                 .anew();
         }
-        if at_ease(self.depth, self.npending, id, 0) {
+        if at_ease(self.depth, self.npending, id) {
             let places = self.pending;
             let end = put_pair(buf, self.offset, places, tagged(id, wire), value);
             if self.offset < end {

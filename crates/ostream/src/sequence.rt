@@ -12,12 +12,15 @@ use held::tagged;
 use straight::closes_at_ease;
 use straight::put_end;
 use types::ID_MAX;
+use types::LAZY_SEQ_DEPTH;
+use types::MAX_DEPTH;
 use types::T_SEQUENCE_START;
 ghost use mathlib.Core.Path.{_≡_};
 ghost use Prim.Native.Nat.{_≤_, _<_};
 ghost use mathlib.Core.Bool.{true};
 ghost use lib.ListN.{length};
-ghost use Rattle.ostream.specs.Stream.{soundStream, holding, dropped};
+ghost use Rattle.layout.specs.Limits.{base};
+ghost use Rattle.ostream.specs.Stream.{lazyDepth, soundStream, holding, dropped};
 ghost use Rattle.ostream.specs.Straight.{holds};
 ghost use Rattle.ostream.specs.Emission.{leftBy, written};
 ghost use Rattle.ostream.specs.Calls.{beginCall, endCall, endKeepCall};
@@ -27,10 +30,10 @@ impl OStream {
     fn can_hold(self, size: usize, id: u32) -> bool
         ensures { λ r. ⌜ r ≡ holds self size id ⌝ }
     {
-        if 8 <= self.npending {
+        if LAZY_SEQ_DEPTH <= self.npending as usize {
             return false;
         }
-        if 255 <= self.depth {
+        if MAX_DEPTH <= self.depth as u32 {
             return false;
         }
         if ID_MAX < id {
@@ -41,7 +44,7 @@ impl OStream {
 
     // The state with one more sequence held back. (Its callers have tested both, by `can_hold` or by the refusals of an open.)
     fn hold(mut self, id: u32) -> OStream
-        requires { ⌜ (self .npending < 8) × (self .depth < 255) ⌝ }
+        requires { ⌜ (self .npending < lazyDepth) × (self .depth < base .depth) ⌝ }
         ensures { λ r. ⌜ r ≡ holding self id ⌝ }
     {
         let places = self.pending;
@@ -54,7 +57,7 @@ impl OStream {
 
     // The state with the last one held back dropped, and its place zero. (`end_slowly` has tested the state, and that one is held.)
     fn unhold(mut self) -> OStream
-        requires { ⌜ (0 < self .npending) × (self .npending ≤ 8) × (self .npending ≤ self .depth) ⌝ }
+        requires { ⌜ (0 < self .npending) × (self .npending ≤ lazyDepth) × (self .npending ≤ self .depth) ⌝ }
         ensures { λ r. ⌜ r ≡ dropped self ⌝ }
     {
         let places = self.pending;
@@ -88,7 +91,7 @@ impl OStream {
         if !check.ok {
             return self.refuse(error);
         }
-        if self.npending < 8 {
+        if (self.npending as usize) < LAZY_SEQ_DEPTH {
             return self.alter(place, self.hold(id));
         }
         let places = self.pending;

@@ -8,7 +8,7 @@ use lib.ListN.{length, drop, drop-of-length-le, length-append}
 use lib.Dec.{leb, ltb, eqb}
 use types.Run.{OneOf, miss}
 use denote.Enum.Declared.{tagOf}
-use Rattle.layout.specs.Limits.{base}
+use Rattle.layout.specs.Limits.{base, longest}
 use Rattle.layout.specs.Field.{fp32, fp64, string, blob, unsigneds, signeds, floats, bytesOf, float, raw}
 use Rattle.layout.specs.Event as layout
 use Rattle.laws.specs.Events.{eventBytes}
@@ -32,7 +32,7 @@ use Rattle.emit.proofs.Segments.{Emitted}
 use Rattle.emit.proofs.Writes.{put-none, put-put, reached-is, reached-reached, length-put}
 use Rattle.owed.specs.declared.Owed.{Owed}
 use Rattle.owed.specs.declared.Owed.the-variants.{Nothing, Unsigned, Signed, Element, SignedElement, Fp32, Fp64, Float, Payload, Array, Begin, End}
-use Rattle.owed.specs.Owed.{owedOf, owe, owedIn, outputBytes, outputOf, levelOf, legalOf, placeIsIn}
+use Rattle.owed.specs.Owed.{owedOf, owe, owedIn, outputBytes, outputMost, outputOf, levelOf, legalOf, placeIsIn}
 use Rattle.owed.proofs.Owed.{the-type}
 
 -- ---- writes
@@ -59,23 +59,23 @@ landed-none b pos place t e =
 
 -- a whole output, where there is room for it
 abbrev pub Fitting : List ℕ → ℕ → List ℕ → ℕ → List ℕ → Type 0
-Fitting b pos s end b′ = (end ≡ reached b pos s) × (b′ ≡ put b pos s) × (length s ≤ 30)
+Fitting b pos s end b′ = (end ≡ reached b pos s) × (b′ ≡ put b pos s) × (length s ≤ outputMost)
 
-pub fitting-one : (b : List ℕ) (pos : ℕ) (s t : List ℕ) (end : ℕ) (b′ : List ℕ) → t ≡ s → (end ≡ reached b pos s) × (b′ ≡ put b pos s) → length s ≤ 30 → Fitting b pos t end b′
+pub fitting-one : (b : List ℕ) (pos : ℕ) (s t : List ℕ) (end : ℕ) (b′ : List ℕ) → t ≡ s → (end ≡ reached b pos s) × (b′ ≡ put b pos s) → length s ≤ outputMost → Fitting b pos t end b′
 fitting-one b pos s t end b′ e (p, q) l = subst (λ (x : List ℕ). Fitting b pos x end b′) (sym e) (p, q, l)
 
 pub fitting-none : (b : List ℕ) (pos : ℕ) (t : List ℕ) → t ≡ [] → Fitting b pos t pos b
-fitting-none b pos t e = let w = landed-none b pos 0 t e in (w .0, w .1, subst (λ (x : List ℕ). length x ≤ 30) (sym e) (omega arith))
+fitting-none b pos t e = let w = landed-none b pos 0 t e in (w .0, w .1, subst (λ (x : List ℕ). length x ≤ outputMost) (sym e) (omega arith))
 
 pub fitting-two : (b : List ℕ) (pos : ℕ) (s u t : List ℕ) (mid : ℕ) (b1 : List ℕ) (end : ℕ) (b2 : List ℕ) → pos ≤ length b → t ≡ s ++ u → (mid ≡ reached b pos s) × (b1 ≡ put b pos s) → (end ≡ reached b1 mid u) × (b2 ≡ put b1 mid u)
-    → length s ≤ 10 → length u ≤ 10 → Fitting b pos t end b2
+    → length s ≤ longest base → length u ≤ longest base → Fitting b pos t end b2
 fitting-two b pos s u t mid b1 end b2 h e (p, q) (f, g) l m =
     fitting-one b pos (s ++ u) t end b2 e
     (f ∙ ap (λ (x : List ℕ). reached x mid u) q ∙ ap (λ (n : ℕ). reached (put b pos s) n u) p ∙ reached-reached b pos s u h, g ∙ ap (λ (x : List ℕ). put x mid u) q ∙ ap (λ (n : ℕ). put (put b pos s) n u) p ∙ put-put b pos s u h)
     (omega (arith, length-append s u))
 
 -- where the second of two starts
-pub mid-room : (b : List ℕ) (pos : ℕ) (s : List ℕ) (mid : ℕ) (b1 : List ℕ) → pos + 30 ≤ length b → length s ≤ 10 → (mid ≡ reached b pos s) × (b1 ≡ put b pos s) → mid + 10 ≤ length b1
+pub mid-room : (b : List ℕ) (pos : ℕ) (s : List ℕ) (mid : ℕ) (b1 : List ℕ) → pos + outputMost ≤ length b → length s ≤ longest base → (mid ≡ reached b pos s) × (b1 ≡ put b pos s) → mid + longest base ≤ length b1
 mid-room b pos s mid b1 h l (p, q) =
     let r = reached-is b pos s in
     let n : length b1 ≡ length b = ap length q ∙ length-put b pos s (omega arith) in

@@ -4,7 +4,7 @@ use mathlib.Core.Bool.{Bool, true, _&&_}
 use mathlib.Core.List.{List, [], _++_}
 use lib.Dec.{leb, ltb, eqb}
 use lib.ListN.{length}
-use Rattle.layout.specs.Limits.{base}
+use Rattle.layout.specs.Limits.{base, longest}
 use Rattle.layout.specs.Varint.{shortest}
 use Rattle.layout.specs.Zigzag.{zigzag}
 use Rattle.layout.specs.Field.{bytesOf, fp32, fp64, float, raw, lowBytes, subtypeNumber}
@@ -67,6 +67,10 @@ outputBytes (Two a b) = shortest a ++ shortest b
 outputBytes (Three a b c) = shortest a ++ (shortest b ++ shortest c)
 outputBytes (Four x) = lowBytes 4 x
 outputBytes (Eight x) = lowBytes 8 x
+
+-- the most bytes that an output has: those of three varints
+abbrev pub outputMost : ℕ
+outputMost = 3 * longest base
 
 abbrev pub arrayOutput : ℕ → ArrayKind → ℕ → Output
 arrayOutput id Kinds.Unsigned n = Two (id * 8 + 3) n

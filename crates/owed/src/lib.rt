@@ -10,7 +10,7 @@ ghost use Rattle.layout.specs.Limits.{base};
 ghost use Rattle.copying.specs.Owed.{agrees};
 ghost use Rattle.event.specs.Event.{eventOf};
 ghost use Rattle.emit.specs.Put.{put, reached};
-ghost use Rattle.owed.specs.Owed.{owedOf, owe, arrayOutput, outputOf, outputBytes, levelOf, legalOf, placeIsIn};
+ghost use Rattle.owed.specs.Owed.{owedOf, owe, arrayOutput, outputOf, outputBytes, outputMost, levelOf, legalOf, placeIsIn};
 use emit::Cursor;
 use emit::put_fitting;
 use event::Event;
@@ -18,6 +18,7 @@ use event::fp32_bits;
 use event::fp64_bits;
 use types::ARRAY_MAX;
 use types::ArrayKind;
+use types::FIXLEN_MAX;
 use types::FixlenType;
 use types::FloatType;
 use types::ID_MAX;
@@ -30,6 +31,7 @@ use types::T_VARINT_SIGNED;
 use types::T_VARINT_UNSIGNED;
 use types::T_VARINTARRAY_SIGNED;
 use types::T_VARINTARRAY_UNSIGNED;
+use varint::VARINT_MAX;
 use varint::varint_len;
 use varint::zigzag_encode;
 
@@ -60,6 +62,9 @@ pub enum Output {
     Four(u32),
     Eight(u64),
 }
+
+// Most bytes that an event is written as: three varints.
+pub const OUTPUT_MAX: usize = 3 * VARINT_MAX;
 
 // A header's number, and a fixed-length word's.
 fn tagged(n: u32, tag: u8) -> u64
@@ -133,14 +138,14 @@ fn announced(id: u32, t: FixlenType, total: u32) -> Owed
     }
 }
 
-// Whether an id and a length or count are as the layout allows.
-fn within(id: u32, n: u32) -> bool
-    ensures { λ r. ⌜ r ≡ (leb id (base .id) && leb n (base .count)) ⌝ }
+// Whether an id is as the layout allows, and a length or a count no more than the limit of its kind.
+fn within(id: u32, n: u32, most: u32) -> bool
+    ensures { λ r. ⌜ r ≡ (leb id (base .id) && leb n most) ⌝ }
 {
     if ID_MAX < id {
         return false;
     }
-    n <= ARRAY_MAX
+    n <= most
 }
 
 impl Owed {
@@ -190,8 +195,8 @@ impl Owed {
             Owed::Unsigned(id, _) => id <= ID_MAX,
             Owed::Signed(id, _) => id <= ID_MAX,
             Owed::Float(id, _) => id <= ID_MAX,
-            Owed::Payload(id, _, total) => within(id, total),
-            Owed::Array(id, _, count) => within(id, count),
+            Owed::Payload(id, _, total) => within(id, total, FIXLEN_MAX),
+            Owed::Array(id, _, count) => within(id, count, ARRAY_MAX),
             Owed::Begin(id) => id <= ID_MAX,
             _ => true,
         }
@@ -224,7 +229,7 @@ impl Owed {
 impl Output {
     // How many bytes it has.
     pub fn len(self) -> usize
-        ensures { λ r. ⌜ (r ≡ length (outputBytes self)) × (r ≤ 30) ⌝ }
+        ensures { λ r. ⌜ (r ≡ length (outputBytes self)) × (r ≤ outputMost) ⌝ }
     {
         match self {
             Output::Empty => 0,
@@ -238,8 +243,8 @@ impl Output {
 
     // Its bytes from pos on, where there is room for the longest, with no test for the buffer's end; where they end.
     pub fn put_fitting(self, buf: &mut [u8], pos: usize) -> usize
-        requires { ⌜ pos + 30 ≤ length (now buf) ⌝ }
-        ensures { λ r. ⌜ (r ≡ reached (now (buf .entry)) pos (outputBytes self)) × (now (buf .exit) ≡ put (now (buf .entry)) pos (outputBytes self)) × (length (outputBytes self) ≤ 30) ⌝ }
+        requires { ⌜ pos + outputMost ≤ length (now buf) ⌝ }
+        ensures { λ r. ⌜ (r ≡ reached (now (buf .entry)) pos (outputBytes self)) × (now (buf .exit) ≡ put (now (buf .entry)) pos (outputBytes self)) × (length (outputBytes self) ≤ outputMost) ⌝ }
     {
         match self {
             Output::Empty => pos,
@@ -252,13 +257,13 @@ impl Output {
         }
     }
 
-    // The same of the rarer outputs; that none is longer than 30 bytes is known by its length.
+    // The same of the rarer outputs; that none is longer than OUTPUT_MAX is known by its length.
     fn put_bounded(self, buf: &mut [u8], pos: usize) -> usize
-        requires { ⌜ pos + 30 ≤ length (now buf) ⌝ }
-        ensures { λ r. ⌜ (r ≡ reached (now (buf .entry)) pos (outputBytes self)) × (now (buf .exit) ≡ put (now (buf .entry)) pos (outputBytes self)) × (length (outputBytes self) ≤ 30) ⌝ }
+        requires { ⌜ pos + outputMost ≤ length (now buf) ⌝ }
+        ensures { λ r. ⌜ (r ≡ reached (now (buf .entry)) pos (outputBytes self)) × (now (buf .exit) ≡ put (now (buf .entry)) pos (outputBytes self)) × (length (outputBytes self) ≤ outputMost) ⌝ }
     {
         let len = self.len();
-        if 30 < len {
+        if OUTPUT_MAX < len {
             return pos;
         }
         self.put(buf, pos, 0)

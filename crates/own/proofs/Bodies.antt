@@ -160,7 +160,7 @@ headed h w e = let s : h ≡ h / 8 * 8 + wireNumber w = omega arith in ap shorte
 pub with-header : (h d : ℕ) (w : Wire) (bs : List ℕ) → h / 8 ≤ base .id → h % 8 ≡ wireNumber w → Body w bs → AsIs base d (shortest h ++ bs) d
 with-header h d w bs i e b = subst (λ (x : List ℕ). AsIs base d (x ++ bs) d) (sym (headed h w e)) (b (h / 8) d i)
 
-pub opens : (h d : ℕ) → h / 8 ≤ base .id → h % 8 ≡ 6 → d < 255 → AsIs base d (shortest h ++ []) (d + 1)
+pub opens : (h d : ℕ) → h / 8 ≤ base .id → h % 8 ≡ 6 → d < base .depth → AsIs base d (shortest h ++ []) (d + 1)
 unfolding fieldBytes depthAfter
 opens h d i e l =
     subst (λ (n : ℕ). AsIs base d (shortest h ++ []) n) (sym (add-one d))

@@ -93,7 +93,7 @@ array-field h d bs i a g l b = go (h % 8) refl a g l
     go (suc (suc (suc (suc (suc k))))) e a g l = absurd (omega arith)
 
 -- an open and a close: nothing follows
-pub open-ends : (t : List ℕ) (at h d : ℕ) → at ≤ length t → h / 8 ≤ base .id → h % 8 ≡ 6 → d < 255 → Ends t at (λ bs. AsIs base d (shortest h ++ bs) (d + 1)) at
+pub open-ends : (t : List ℕ) (at h d : ℕ) → at ≤ length t → h / 8 ≤ base .id → h % 8 ≡ 6 → d < base .depth → Ends t at (λ bs. AsIs base d (shortest h ++ bs) (d + 1)) at
 open-ends t at h d p i e l = reaches p (here at (opens h d i e l))
 
 pub close-ends : (t : List ℕ) (at h d : ℕ) → at ≤ length t → h ≡ 7 → 0 < d → Ends t at (λ bs. AsIs base d (shortest h ++ bs) (d - 1)) at

@@ -11,8 +11,11 @@ ghost use Rattle.layout.specs.Varint.{shortest};
 ghost use Rattle.layout.specs.Field.{T-fixlen, T-unsigneds, T-signeds, T-floats};
 ghost use Rattle.own.specs.Own.{AsIs, Numbers, Number, Body, Stretch, Ends};
 use types::ARRAY_MAX;
+use types::FIXLEN_MAX;
 use types::ID_MAX;
+use types::MAX_DEPTH;
 use varint::Acc;
+use varint::LAST_PLACE;
 use varint::Push;
 
 // Fields: how many bytes they have, and the depth after them.
@@ -54,7 +57,7 @@ fn long_number_at(t: &[u8], at: usize) -> usize
     let mut i = at;
     while i < t.len() {
         let b = t[i];
-        if i - at < 9 {
+        if i - at < LAST_PLACE as usize {
             if b < 128 {
                 if i == at {
                     return i + 1;
@@ -253,7 +256,7 @@ fn fixlen_at(t: &[u8], at: usize) -> usize
         0 => { if n == 4 { jump(t, i, 4) } else { 0 } }
         1 => { if n == 8 { jump(t, i, 8) } else { 0 } }
         2 | 3 => {
-            if n <= ARRAY_MAX as u64 {
+            if n <= FIXLEN_MAX as u64 {
                 jump(t, i, n)
             } else {
                 0
@@ -332,7 +335,7 @@ fn body_at(t: &[u8], at: usize, h: u64, depth: u8) -> Next
             depth,
         },
         6 => {
-            if depth < 255 {
+            if (depth as u32) < MAX_DEPTH {
                 Next {
                     at,
                     depth: depth + 1,

@@ -9,25 +9,26 @@ use borrow.Author.Tests.{leb-true, le-leb, not-true, not-false}
 use Rattle.emit.specs.Put.{reached}
 use Rattle.emit.proofs.Writes.{reached-is}
 use Rattle.emit.proofs.Turns.{Whole}
-use Rattle.held.specs.Places.{every, clean}
+use Rattle.held.specs.Places.{lazyDepth, every, clean}
+use Rattle.held.specs.Headers.{pairMost}
 use Rattle.held.proofs.Places.{both}
 use Rattle.straight.specs.Straight.{roomFor, reachedIf, putIf}
 
 -- ---- the room
 
-pub has-room : (size pos n : ℕ) → roomFor size pos n ≡ true → pos + 20 + n ≤ size
+pub has-room : (size pos n : ℕ) → roomFor size pos n ≡ true → pos + pairMost + n ≤ size
 unfolding roomFor
 has-room size pos n e =
     let a = both _ _ e in
     let b = both _ _ (a .1) in
-    let ha : 20 ≤ size = leb-true _ _ (a .0) in
-    let hb : pos ≤ size - 20 = leb-true _ _ (b .0) in
-    let hn : n ≤ size - 20 - pos = leb-true _ _ (b .1) in
+    let ha : pairMost ≤ size = leb-true _ _ (a .0) in
+    let hb : pos ≤ size - pairMost = leb-true _ _ (b .0) in
+    let hn : n ≤ size - pairMost - pos = leb-true _ _ (b .1) in
     omega arith
 
-pub room-for : (size pos n : ℕ) → pos + 20 + n ≤ size → roomFor size pos n ≡ true
+pub room-for : (size pos n : ℕ) → pos + pairMost + n ≤ size → roomFor size pos n ≡ true
 unfolding roomFor
-room-for size pos n h = simp (le-leb 20 size (omega arith), le-leb pos (size - 20) (omega arith), le-leb n (size - 20 - pos) (omega arith))
+room-for size pos n h = simp (le-leb pairMost size (omega arith), le-leb pos (size - pairMost) (omega arith), le-leb n (size - pairMost - pos) (omega arith))
 
 -- ---- two tests
 
@@ -105,6 +106,6 @@ pub unmoved : (room rest : Bool) (b : List ℕ) (pos n : ℕ) (o d : List ℕ) (
 unmoved room rest b pos n o d end e w h l =
     stayed (room && rest) b pos o d end w (λ t. let r = has-room (length b) pos n (sym e ∙ both room rest t .0) in (h, omega arith)) l
 
-pub clean-zeros : clean (replicate 8 0) ≡ true
+pub clean-zeros : clean (replicate lazyDepth 0) ≡ true
 unfolding every
 clean-zeros = refl

@@ -6,19 +6,20 @@ use Prim.Native.Nat.{ℕ, _-_}
 use lib.Dec.{leb, ltb}
 use Rattle.layout.specs.Limits.{base, pick}
 use Rattle.emit.specs.Put.{put, reached}
+use Rattle.held.specs.Headers.{pairMost}
 
--- whether there is room from pos on for two varints, of ten bytes at most each, and n more bytes
+-- whether there is room from pos on for two varints, however long, and n more bytes
 unfoldable pub roomFor : ℕ → ℕ → ℕ → Bool
-roomFor size pos n = leb 20 size && (leb pos (size - 20) && leb n (size - 20 - pos))
+roomFor size pos n = leb pairMost size && (leb pos (size - pairMost) && leb n (size - pairMost - pos))
 
--- whether no id is held, and nothing but the places and the room stands against a field with a payload or array of n
-unfoldable pub easyAt : ℕ → ℕ → ℕ → ℕ → Bool
-easyAt depth held id n = leb id (base .id) && (leb held 0 && (leb depth (base .depth) && leb n (base .size)))
+-- whether no id is held, and nothing but the places, the room and a length stands against a field
+unfoldable pub easyAt : ℕ → ℕ → ℕ → Bool
+easyAt depth held id = leb id (base .id) && (leb held 0 && leb depth (base .depth))
 
 -- and against a close
 unfoldable pub closesAt : ℕ → ℕ → Bool
 unfolding easyAt
-closesAt depth held = ltb 0 depth && easyAt depth held 0 0
+closesAt depth held = ltb 0 depth && easyAt depth held 0
 
 -- a write that is made where a test passes, and otherwise not: where it ends, and what it leaves
 abbrev pub reachedIf : Bool → List ℕ → ℕ → List ℕ → ℕ

@@ -3,26 +3,30 @@ use elements::put_fitting_zigzags;
 use elements::put_fittings;
 use emit::put_fitting;
 use emit::put_rest;
+use held::PAIR_MAX;
 use held::unused_zero;
-use types::ARRAY_MAX;
 use types::ID_MAX;
+use types::LAZY_SEQ_DEPTH;
+use types::MAX_DEPTH;
 use types::T_SEQUENCE_END;
+use varint::VARINT_MAX;
 ghost use mathlib.Core.Path.{_≡_};
 ghost use mathlib.Core.List.{[], _∷_, _++_};
-ghost use Prim.Native.Nat.{_+_, _*_, _≤_};
+ghost use Prim.Native.Nat.{_+_, _≤_};
 ghost use mathlib.Core.Bool.{true, _&&_};
-ghost use lib.Dec.{ltb};
+ghost use lib.Dec.{leb, ltb};
 ghost use lib.ListN.{length};
 ghost use Rattle.layout.specs.Varint.{shortest};
 ghost use Rattle.layout.specs.Field.{each};
 ghost use Rattle.layout.specs.Zigzag.{zigzag};
 ghost use Rattle.layout.specs.Limits.{base};
+ghost use Rattle.elements.specs.Standing.{elementsMost};
 ghost use Rattle.held.specs.Places.{clean};
 ghost use Rattle.straight.specs.Straight.{roomFor, easyAt, closesAt, reachedIf, putIf};
 
-// Whether no id is held, and nothing but the places and the room stands against a field with a payload or array of `len`.
-pub fn at_ease(depth: u16, held: u16, id: u32, len: usize) -> bool
-    ensures { λ r. ⌜ r ≡ easyAt depth held id len ⌝ }
+// Whether no id is held, and nothing but the places and the room stands against a field.
+pub fn at_ease(depth: u16, held: u16, id: u32) -> bool
+    ensures { λ r. ⌜ r ≡ easyAt depth held id ⌝ }
 {
     if ID_MAX < id {
         return false;
@@ -30,10 +34,17 @@ pub fn at_ease(depth: u16, held: u16, id: u32, len: usize) -> bool
     if 0 < held {
         return false;
     }
-    if 255 < depth {
+    depth as u32 <= MAX_DEPTH
+}
+
+// And against one with a payload or an array of `len`, of which `most` is the limit.
+pub fn at_ease_with(depth: u16, held: u16, id: u32, len: usize, most: u32) -> bool
+    ensures { λ r. ⌜ r ≡ (easyAt depth held id && leb len most) ⌝ }
+{
+    if !at_ease(depth, held, id) {
         return false;
     }
-    len <= ARRAY_MAX as usize
+    len <= most as usize
 }
 
 // And against a close.
@@ -43,26 +54,32 @@ pub fn closes_at_ease(depth: u16, held: u16) -> bool
     if depth == 0 {
         return false;
     }
-    at_ease(depth, held, 0, 0)
+    at_ease(depth, held, 0)
 }
 
 // Whether there is room from pos on for two varints, however long, and `more` bytes.
 fn has_room(size: usize, pos: usize, more: usize) -> bool
     ensures { λ r. ⌜ r ≡ roomFor size pos more ⌝ }
 {
-    if size < 20 {
+    if size < PAIR_MAX {
         return false;
     }
-    if size - 20 < pos {
+    if size - PAIR_MAX < pos {
         return false;
     }
-    more <= size - 20 - pos
+    more <= size - PAIR_MAX - pos
 }
 
 // Two varints straight away, where no place is in use and there is room for the longest; where they end. Else nothing, and pos.
 // The writer's calls test little themselves and leave the rest to this and the four after it, so that they are small enough to be inlined:
 // then a writer's state stays in registers from call to call.
-pub fn put_pair(buf: &mut [u8], pos: usize, places: [u32; 8], header: u64, second: u64) -> usize
+pub fn put_pair(
+    buf: &mut [u8],
+    pos: usize,
+    places: [u32; LAZY_SEQ_DEPTH],
+    header: u64,
+    second: u64,
+) -> usize
     ensures { λ r. ⌜ (r ≡ reachedIf (roomFor (length (now (buf .entry))) pos 0 && clean places) (now (buf .entry)) pos (shortest header ++ shortest second)) × (now (buf .exit) ≡ putIf (roomFor (length (now (buf .entry))) pos 0 && clean places) (now (buf .entry)) pos (shortest header ++ shortest second)) ⌝ }
 {
     if !has_room(buf.len(), pos, 0) {
@@ -79,7 +96,7 @@ pub fn put_pair(buf: &mut [u8], pos: usize, places: [u32; 8], header: u64, secon
 pub fn put_field(
     buf: &mut [u8],
     pos: usize,
-    places: [u32; 8],
+    places: [u32; LAZY_SEQ_DEPTH],
     header: u64,
     second: u64,
     bytes: &[u8],
@@ -101,14 +118,14 @@ pub fn put_field(
 pub fn put_unsigneds(
     buf: &mut [u8],
     pos: usize,
-    places: [u32; 8],
+    places: [u32; LAZY_SEQ_DEPTH],
     header: u64,
     items: &[u64],
 ) -> usize
     requires { ⌜ length (now items) ≤ base .count ⌝ }
-    ensures { λ r. ⌜ (r ≡ reachedIf (roomFor (length (now (buf .entry))) pos (10 * length (now (items .entry))) && clean places) (now (buf .entry)) pos (shortest header ++ (shortest (length (now (items .entry))) ++ each shortest (now (items .entry))))) × (now (buf .exit) ≡ putIf (roomFor (length (now (buf .entry))) pos (10 * length (now (items .entry))) && clean places) (now (buf .entry)) pos (shortest header ++ (shortest (length (now (items .entry))) ++ each shortest (now (items .entry))))) × ((roomFor (length (now (buf .entry))) pos (10 * length (now (items .entry))) && clean places) ≡ true → pos + length (shortest header ++ (shortest (length (now (items .entry))) ++ each shortest (now (items .entry)))) ≤ length (now (buf .entry))) ⌝ }
+    ensures { λ r. ⌜ (r ≡ reachedIf (roomFor (length (now (buf .entry))) pos (elementsMost (length (now (items .entry)))) && clean places) (now (buf .entry)) pos (shortest header ++ (shortest (length (now (items .entry))) ++ each shortest (now (items .entry))))) × (now (buf .exit) ≡ putIf (roomFor (length (now (buf .entry))) pos (elementsMost (length (now (items .entry)))) && clean places) (now (buf .entry)) pos (shortest header ++ (shortest (length (now (items .entry))) ++ each shortest (now (items .entry))))) × ((roomFor (length (now (buf .entry))) pos (elementsMost (length (now (items .entry)))) && clean places) ≡ true → pos + length (shortest header ++ (shortest (length (now (items .entry))) ++ each shortest (now (items .entry)))) ≤ length (now (buf .entry))) ⌝ }
 {
-    if !has_room(buf.len(), pos, 10 * items.len()) {
+    if !has_room(buf.len(), pos, VARINT_MAX * items.len()) {
         return pos;
     }
     if !unused_zero(places, 0) {
@@ -123,14 +140,14 @@ pub fn put_unsigneds(
 pub fn put_signeds(
     buf: &mut [u8],
     pos: usize,
-    places: [u32; 8],
+    places: [u32; LAZY_SEQ_DEPTH],
     header: u64,
     items: &[i64],
 ) -> usize
     requires { ⌜ length (now items) ≤ base .count ⌝ }
-    ensures { λ r. ⌜ (r ≡ reachedIf (roomFor (length (now (buf .entry))) pos (10 * length (now (items .entry))) && clean places) (now (buf .entry)) pos (shortest header ++ (shortest (length (now (items .entry))) ++ each (λ z. shortest (zigzag z)) (now (items .entry))))) × (now (buf .exit) ≡ putIf (roomFor (length (now (buf .entry))) pos (10 * length (now (items .entry))) && clean places) (now (buf .entry)) pos (shortest header ++ (shortest (length (now (items .entry))) ++ each (λ z. shortest (zigzag z)) (now (items .entry))))) × ((roomFor (length (now (buf .entry))) pos (10 * length (now (items .entry))) && clean places) ≡ true → pos + length (shortest header ++ (shortest (length (now (items .entry))) ++ each (λ z. shortest (zigzag z)) (now (items .entry)))) ≤ length (now (buf .entry))) ⌝ }
+    ensures { λ r. ⌜ (r ≡ reachedIf (roomFor (length (now (buf .entry))) pos (elementsMost (length (now (items .entry)))) && clean places) (now (buf .entry)) pos (shortest header ++ (shortest (length (now (items .entry))) ++ each (λ z. shortest (zigzag z)) (now (items .entry))))) × (now (buf .exit) ≡ putIf (roomFor (length (now (buf .entry))) pos (elementsMost (length (now (items .entry)))) && clean places) (now (buf .entry)) pos (shortest header ++ (shortest (length (now (items .entry))) ++ each (λ z. shortest (zigzag z)) (now (items .entry))))) × ((roomFor (length (now (buf .entry))) pos (elementsMost (length (now (items .entry)))) && clean places) ≡ true → pos + length (shortest header ++ (shortest (length (now (items .entry))) ++ each (λ z. shortest (zigzag z)) (now (items .entry)))) ≤ length (now (buf .entry))) ⌝ }
 {
-    if !has_room(buf.len(), pos, 10 * items.len()) {
+    if !has_room(buf.len(), pos, VARINT_MAX * items.len()) {
         return pos;
     }
     if !unused_zero(places, 0) {
@@ -142,7 +159,7 @@ pub fn put_signeds(
 }
 
 // The one byte of a close.
-pub fn put_end(buf: &mut [u8], pos: usize, places: [u32; 8]) -> usize
+pub fn put_end(buf: &mut [u8], pos: usize, places: [u32; LAZY_SEQ_DEPTH]) -> usize
     ensures { λ r. ⌜ (r ≡ reachedIf (ltb pos (length (now (buf .entry))) && clean places) (now (buf .entry)) pos (7 ∷ [])) × (now (buf .exit) ≡ putIf (ltb pos (length (now (buf .entry))) && clean places) (now (buf .entry)) pos (7 ∷ [])) ⌝ }
 {
     if buf.len() <= pos {

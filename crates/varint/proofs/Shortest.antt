@@ -3,14 +3,15 @@ use mathlib.Core.Path.{_≡_, refl, sym, ap, _∙_, subst}
 use mathlib.Core.Bool.{Bool, true, false}
 use mathlib.Core.List.{List, [], _∷_}
 use Prim.Native.Nat.{ℕ, zero, suc, _+_, _*_, _/_, _%_, _^_, _<_, _≤_}
-use native.Mathlib.Nat.{pow-suc, pow-succ', div-one, not-suc-le-zero, div-lt-iff-lt-mul, le-div-iff-mul-le, div-div-eq-div-mul}
+use native.Mathlib.Nat.{pow-suc, pow-succ', div-one, not-suc-le-zero, div-lt-iff-lt-mul, le-div-iff-mul-le, div-div-eq-div-mul, lt-of-lt-of-le}
 use native.Mathlib.Omega.{arith}
 use borrow.Author.Tests.{ltb-true, ltb-false, lt-ltb, le-ltb}
 use lib.Dec.{ltb, lit<}
 use lib.ListN.{length, drop, getD}
-use lib.Pow.{areBytes}
+use lib.Pow.{areBytes, pow-mono}
+use Rattle.layout.specs.Limits.{Limits, longest}
 use Rattle.layout.specs.Varint.{shortestIn, shortest}
-use Rattle.varint.proofs.Digits.{pow128-pos}
+use Rattle.varint.proofs.Digits.{pow128, pow128-pos}
 
 -- ---- the two cases
 
@@ -94,8 +95,11 @@ length-above (suc m) n h =
     let i : m < length (shortest (n / 128)) = length-above m (n / 128) (le-div-iff-mul-le (lit< tt) .1 (subst (λ (x : ℕ). x ≤ n) s h)) in
     omega arith
 
-pub length-64 : (n : ℕ) → n < 2 ^ 64 → length (shortest n) ≤ 10
-length-64 n h = length-at-most 10 n (lit< tt) (omega arith)
+-- no value of the width takes more than the longest varint has
+pub length-longest : (L : Limits) (n : ℕ) → n < 2 ^ L .bits → length (shortest n) ≤ longest L
+length-longest L n h =
+    length-at-most (longest L) n (omega arith)
+    (subst (λ (p : ℕ). n < p) (sym (pow128 (longest L))) (lt-of-lt-of-le h (pow-mono {i = L .bits} {j = longest L * 7} (omega arith))))
 
 -- ---- bytes
 

@@ -10,9 +10,11 @@ ghost use Rattle.layout.specs.Field.{wireOf, T-fixlen, T-unsigneds, T-floats};
 ghost use Rattle.layout.specs.Message.{headerOf, countOf, verdictOf};
 ghost use Rattle.whole.specs.Whole.{Reaches, Passes, Goes, ends, skips, afterBody, afterField, jumped, leftBy, deepened, verdictIn};
 use types::ARRAY_MAX;
+use types::FIXLEN_MAX;
 use types::ID_MAX;
 use types::MAX_DEPTH;
 use varint::Acc;
+use varint::LAST_PLACE;
 use varint::Push;
 
 // What a message comes to; a broken one with the number of bytes up to the offending one, which is counted.
@@ -127,7 +129,7 @@ fn skip_at(t: &[u8], at: usize) -> Land
     let mut i = at;
     while i < t.len() {
         let b = t[i];
-        if i - at < 9 {
+        if i - at < LAST_PLACE as usize {
             if b < 128 {
                 return Land::At(i + 1);
             }
@@ -226,7 +228,7 @@ fn fixlen_at(t: &[u8], at: usize) -> Land
             }
         }
         2 | 3 => {
-            if n <= ARRAY_MAX as u64 {
+            if n <= FIXLEN_MAX as u64 {
                 jump(t, i, n)
             } else {
                 Land::Broken(i)

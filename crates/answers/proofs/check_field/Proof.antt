@@ -15,14 +15,10 @@ returns-2 : tie.Need-returns-2
 returns-2 c = simp (c .before .before .if1 .left, lt-ltb _ _ (c .before .if2 .taken)) (c .failed2 .ensures)
 
 returns-3 : tie.Need-returns-3
-returns-3 c = simp (c .before .before .before .if1 .left, le-ltb _ _ (c .before .before .if2 .left), lt-ltb _ _ (c .before .if3 .taken)) (c .failed3 .ensures)
-
-returns-4 : tie.Need-returns-4
-returns-4 c = simp (c .before .before .before .if1 .left, le-ltb _ _ (c .before .before .if2 .left), le-ltb _ _ (c .before .if3 .left)) (c .passed .ensures)
+returns-3 c = simp (c .before .before .if1 .left, le-ltb _ _ (c .before .if2 .left)) (c .passed .ensures)
 
 pub check-field-spec : {M : Type 1} → statement M
 check-field-spec =
     tie.close
     (tie.spec
-    (λ c κs. search needs) returns (λ c κs. search needs) returns-2 (λ c. search needs) (λ c κs. search needs)
-    returns-3 (λ c κs. search needs) returns-4)
+    (λ c κs. search needs) returns (λ c κs. search needs) returns-2 (λ c κs. search needs) returns-3)

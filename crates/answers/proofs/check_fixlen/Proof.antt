@@ -5,7 +5,7 @@ use Rattle.answers.proofs.check_fixlen.Statement.{statement}
 use Rattle.answers.proofs.check_fixlen.Tie as tie
 use Rattle.answers.proofs.check_fixlen.Reads as reads
 use Rattle.answers.proofs.check_fixlen.Lts as lts
-use Rattle.answers.proofs.check_field.Reads as check-field-reads
+use Rattle.answers.proofs.check_sized.Reads as check-sized-reads
 use Rattle.answers.proofs.failed.Reads as failed-reads
 use Rattle.answers.proofs.is_string.Reads as is-string-reads
 
@@ -16,7 +16,7 @@ returns-2 : tie.Need-returns-2
 returns-2 c = simp (c .before .before .before .if1 .left, sym (c .before .before .is-string .ensures) ∙ c .before .if2 .taken) (c .failed2 .ensures)
 
 returns-3 : tie.Need-returns-3
-returns-3 c = simp (c .before .before .before .if1 .left, sym (c .before .before .is-string .ensures) ∙ c .before .if2 .left) (c .check-field .ensures)
+returns-3 c = simp (c .before .before .before .if1 .left, sym (c .before .before .is-string .ensures) ∙ c .before .if2 .left) (c .check-sized .ensures)
 
 pub check-fixlen-spec : {M : Type 1} → statement M
 check-fixlen-spec =

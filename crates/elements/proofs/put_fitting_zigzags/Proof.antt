@@ -6,9 +6,10 @@ use lib.ListN.{length, getD}
 use lib.IntN.{ℤ, pos}
 use mir.Syntax.{w64}
 use mir.ValLaws.{toZ-ofZ}
+use Rattle.layout.specs.Limits.{base, longest}
 use Rattle.layout.specs.Varint.{shortest}
 use Rattle.layout.specs.Zigzag.{zigzag}
-use Rattle.varint.proofs.Shortest.{length-64}
+use Rattle.varint.proofs.Shortest.{length-longest}
 use Rattle.elements.proofs.Room.{Roomy, roomy-start, roomy-here, roomy-next, roomy-end, roomy-fits}
 use Rattle.elements.proofs.put_fitting_zigzags.Statement.{statement}
 use Rattle.elements.proofs.put_fitting_zigzags.Tie as tie
@@ -18,7 +19,7 @@ use Rattle.emit.proofs.put_fitting.Reads as put-fitting-reads
 use Rattle.varint.proofs.zigzag_encode.Reads as zigzag-encode-reads
 
 abbrev Inv-loop : tie.InvT-loop
-Inv-loop buf₀ from items at₀ i₀ buf at i = Roomy (λ z. shortest (zigzag z)) 10 items buf₀ from buf at i
+Inv-loop buf₀ from items at₀ i₀ buf at i = Roomy (λ z. shortest (zigzag z)) (longest base) items buf₀ from buf at i
 
 abbrev μ-loop : tie.MeasureT-loop
 μ-loop buf₀ from items at₀ i₀ buf at i = length items - i
@@ -35,7 +36,7 @@ loop-again c =
     let z : ℤ = getD (c .before .before .before .before .before .before .before .before .before .args .items .now) (l .i) (pos 0) in
     let n = c .before .before .before .zigzag-encode in
     let e = n .ensures ∙ ap zigzag (toZ-ofZ w64 z (sfits-of (c .before .before .before .before .before .v .given))) in
-    roomy-next _ _ _ _ _ _ _ _ (l .inv) (pos 0) _ _ _ (c .before .before .before .before .before .before .loop-test .taken) (ap shortest e) (length-64 (n .result) (n .ok)) (c .before .before .put-fitting .ensures)
+    roomy-next _ _ _ _ _ _ _ _ (l .inv) (pos 0) _ _ _ (c .before .before .before .before .before .before .loop-test .taken) (ap shortest e) (length-longest base (n .result) (n .ok)) (c .before .before .put-fitting .ensures)
 
 same-length : tie.Need-same-length Inv-loop μ-loop
 same-length c = c .before .loop .inv .left .size

@@ -4,8 +4,9 @@ use mathlib.Core.Path.{_≡_, refl, subst}
 use native.Mathlib.Omega.{arith}
 use borrow.Author.Needs.{needs}
 use lib.ListN.{length, getD}
+use Rattle.layout.specs.Limits.{base, longest}
 use Rattle.layout.specs.Varint.{shortest}
-use Rattle.varint.proofs.Shortest.{length-64}
+use Rattle.varint.proofs.Shortest.{length-longest}
 use Rattle.elements.proofs.Room.{Roomy, roomy-start, roomy-here, roomy-next, roomy-end, roomy-fits}
 use Rattle.elements.proofs.put_fittings.Statement.{statement}
 use Rattle.elements.proofs.put_fittings.Tie as tie
@@ -14,24 +15,24 @@ use Rattle.elements.proofs.put_fittings.Lts as lts
 use Rattle.emit.proofs.put_fitting.Reads as put-fitting-reads
 
 abbrev Inv-loop : tie.InvT-loop
-Inv-loop buf₀ pos items at₀ i₀ buf at i = Roomy shortest 10 items buf₀ pos buf at i × (i ≤ length items)
+Inv-loop buf₀ pos items at₀ i₀ buf at i = Roomy shortest (longest base) items buf₀ pos buf at i × (i ≤ length items)
 
 abbrev μ-loop : tie.MeasureT-loop
 μ-loop buf₀ pos items at₀ i₀ buf at i = length items - i
 
 -- one element more
-first : (c : tie.After-put-fitting Inv-loop μ-loop) → Roomy shortest 10 (c .before .before .before .before .before .before .before .before .args .items .now) (c .before .before .before .before .before .before .before .before .args .buf .now) (c .before .before .before .before .before .before .before .before .args .pos) (c .put-fitting .last .0) (c .put-fitting .result) (c .before .before .before .before .before .loop .i + 1)
+first : (c : tie.After-put-fitting Inv-loop μ-loop) → Roomy shortest (longest base) (c .before .before .before .before .before .before .before .before .args .items .now) (c .before .before .before .before .before .before .before .before .args .buf .now) (c .before .before .before .before .before .before .before .before .args .pos) (c .put-fitting .last .0) (c .put-fitting .result) (c .before .before .before .before .before .loop .i + 1)
 first c =
     let l = c .before .before .before .before .before .loop in
     let t = c .before .before .before .before .loop-test .taken in
     let v : ℕ = getD (c .before .before .before .before .before .before .before .before .args .items .now) (l .i) 0 in
-    roomy-next _ _ _ _ _ _ _ _ (l .inv .0) 0 _ _ _ (omega arith) refl (length-64 v (c .before .before .before .shared-slice-known2 .given (l .i) .fits)) (c .put-fitting .ensures)
+    roomy-next _ _ _ _ _ _ _ _ (l .inv .0) 0 _ _ _ (omega arith) refl (length-longest base v (c .before .before .before .shared-slice-known2 .given (l .i) .fits)) (c .put-fitting .ensures)
 
-last : (c : tie.After-put-fitting3 Inv-loop μ-loop) → Roomy shortest 10 (c .before .before .before .before .before .before .before .before .args .items .now) (c .before .before .before .before .before .before .before .before .args .buf .now) (c .before .before .before .before .before .before .before .before .args .pos) (c .put-fitting3 .last .0) (c .put-fitting3 .result) (c .before .before .before .before .before .loop .i + 1)
+last : (c : tie.After-put-fitting3 Inv-loop μ-loop) → Roomy shortest (longest base) (c .before .before .before .before .before .before .before .before .args .items .now) (c .before .before .before .before .before .before .before .before .args .buf .now) (c .before .before .before .before .before .before .before .before .args .pos) (c .put-fitting3 .last .0) (c .put-fitting3 .result) (c .before .before .before .before .before .loop .i + 1)
 last c =
     let l = c .before .before .before .before .before .loop in
     let v : ℕ = getD (c .before .before .before .before .before .before .before .before .args .items .now) (l .i) 0 in
-    roomy-next _ _ _ _ _ _ _ _ (l .inv .0) 0 _ _ _ (c .before .before .before .if1 .taken) refl (length-64 v (c .before .before .shared-slice-known4 .given (l .i) .fits)) (c .put-fitting3 .ensures)
+    roomy-next _ _ _ _ _ _ _ _ (l .inv .0) 0 _ _ _ (c .before .before .before .if1 .taken) refl (length-longest base v (c .before .before .shared-slice-known4 .given (l .i) .fits)) (c .put-fitting3 .ensures)
 
 loop-holds : tie.Need-loop-holds Inv-loop μ-loop
 loop-holds c = (roomy-start _ _ _ _ _ (c .before .before .pre), omega arith)
@@ -67,7 +68,7 @@ loop-again c =
     let t = c .before .before .before .before .before .before .before .before .before .before .loop-test .taken in
     let v : ℕ = getD (a .items .now) (l .i + 1) 0 in
     let n : l .i + 1 + 1 ≡ l .i + 2 = omega arith in (
-      subst (λ (k : ℕ). Roomy shortest 10 (a .items .now) (a .buf .now) (a .pos) (c .before .before .put-fitting2 .last .0) (c .before .before .put-fitting2 .result) k) n (roomy-next _ _ _ _ _ _ _ _ (first (c .before .before .before .before .before .before)) 0 _ _ _ (omega arith) refl (length-64 v (c .before .before .before .before .before .before .before .before .shared-slice-known3 .given (l .i + 1) .fits)) (c .before .before .put-fitting2 .ensures)),
+      subst (λ (k : ℕ). Roomy shortest (longest base) (a .items .now) (a .buf .now) (a .pos) (c .before .before .put-fitting2 .last .0) (c .before .before .put-fitting2 .result) k) n (roomy-next _ _ _ _ _ _ _ _ (first (c .before .before .before .before .before .before)) 0 _ _ _ (omega arith) refl (length-longest base v (c .before .before .before .before .before .before .before .before .shared-slice-known3 .given (l .i + 1) .fits)) (c .before .before .put-fitting2 .ensures)),
       omega arith,
     )
 

@@ -4,8 +4,9 @@ use mathlib.Core.Path.{sym}
 use native.Mathlib.Omega.{arith}
 use borrow.Author.Needs.{needs}
 use lib.ListN.{length, getD}
+use Rattle.layout.specs.Limits.{base, longest}
 use Rattle.layout.specs.Varint.{shortest}
-use Rattle.varint.proofs.Shortest.{length-64, length-some}
+use Rattle.varint.proofs.Shortest.{length-longest, length-some}
 use Rattle.emit.proofs.Segments.{all-left}
 use Rattle.elements.proofs.Onward.{Onward, drop-shifted, onward-start, onward-next, onward-end, onward-went}
 use Rattle.elements.proofs.put_varints.Statement.{statement}
@@ -22,12 +23,12 @@ returns c = all-left (c .before .before .before .before .before .before .before 
 returns-2 : tie.Need-returns-2
 returns-2 c = onward-end shortest _ _ _ _ _ _ _ (onward-start shortest _ (c .before .before .before .before .before .args .cursor) _ _ _ (c .before .before .before .before .before .pre) (c .before .varints-out .ensures)) (c .if2 .taken)
 
--- fewer bytes of the first varint are out than it has, which are ten at most
+-- fewer bytes of the first varint are out than it has, which are no more than the longest has
 short : (c : tie.After-put-whole-arg) → c .before .before .before .varints-out .result .part < length (shortest (getD (c .before .before .before .before .before .before .before .args .items .now) (c .before .before .before .varints-out .result .whole) 0))
 short c = c .before .before .before .varints-out .ensures .short 0 (c .before .before .if2 .left)
 
-few : (c : tie.After-put-whole-arg) → c .before .before .before .varints-out .result .part < 10
-few c = let i = c .before .before .before .varints-out .result .whole in let k = short c in let l = length-64 (getD (c .before .before .before .before .before .before .before .args .items .now) i 0) (c .before .shared-slice-known2 .given i .fits) in omega arith
+few : (c : tie.After-put-whole-arg) → c .before .before .before .varints-out .result .part < longest base
+few c = let i = c .before .before .before .varints-out .result .whole in let k = short c in let l = length-longest base (getD (c .before .before .before .before .before .before .before .args .items .now) i 0) (c .before .shared-slice-known2 .given i .fits) in omega arith
 
 -- the first is out
 begun : (c : tie.After-slice-known3) → Onward shortest (c .before .before .before .before .before .before .before .before .before .before .args .items .now) (c .before .before .before .before .before .before .before .before .before .before .args .cursor) (c .before .before .before .before .before .before .before .before .before .before .args .buf .now) (c .before .before .put-whole .last .0) (c .before .before .put-whole .result) (c .before .before .before .before .before .before .varints-out .result .whole + 1) 0

@@ -7,9 +7,10 @@ use lib.ListN.{length, drop, getD}
 use lib.IntN.{ℤ, pos}
 use mir.Syntax.{w64}
 use mir.ValLaws.{toZ-ofZ}
+use Rattle.layout.specs.Limits.{base, longest}
 use Rattle.layout.specs.Varint.{shortest}
 use Rattle.layout.specs.Zigzag.{zigzag}
-use Rattle.varint.proofs.Shortest.{length-64, length-some}
+use Rattle.varint.proofs.Shortest.{length-longest, length-some}
 use Rattle.emit.proofs.Segments.{all-left}
 use Rattle.elements.proofs.Onward.{Onward, drop-shifted, onward-start, onward-next, onward-end, onward-went}
 use Rattle.elements.proofs.put_zigzags.Statement.{statement}
@@ -33,12 +34,12 @@ number c =
     let z : ℤ = getD (c .before .before .before .before .before .before .before .args .items .now) (c .before .before .before .before .zigzags-out .result .whole) (pos 0) in
     c .zigzag-encode .ensures ∙ ap zigzag (toZ-ofZ w64 z (sfits-of (c .before .before .head .given)))
 
--- fewer bytes of the first varint are out than it has, which are ten at most
+-- fewer bytes of the first varint are out than it has, which are no more than the longest has
 short : (c : tie.After-zigzag-encode) → c .before .before .before .before .zigzags-out .result .part < length (shortest (c .zigzag-encode .result))
 short c = let k = c .before .before .before .before .zigzags-out .ensures .short (pos 0) (c .before .before .before .if2 .left) in let e = ap (λ (v : ℕ). length (shortest v)) (number c) in omega arith
 
-few : (c : tie.After-zigzag-encode) → c .before .before .before .before .zigzags-out .result .part < 10
-few c = let k = short c in let l = length-64 _ (c .zigzag-encode .ok) in omega arith
+few : (c : tie.After-zigzag-encode) → c .before .before .before .before .zigzags-out .result .part < longest base
+few c = let k = short c in let l = length-longest base _ (c .zigzag-encode .ok) in omega arith
 
 -- the first is out
 begun : (c : tie.After-slice-known3) → Onward (λ z. shortest (zigzag z)) (c .before .before .before .before .before .before .before .before .before .before .args .items .now) (c .before .before .before .before .before .before .before .before .before .before .args .cursor) (c .before .before .before .before .before .before .before .before .before .before .args .buf .now) (c .before .before .put-whole .last .0) (c .before .before .put-whole .result) (c .before .before .before .before .before .before .before .zigzags-out .result .whole + 1) 0

@@ -3,8 +3,9 @@ use Prim.Native.Nat.{_-_, _≤_}
 use native.Mathlib.Omega.{arith}
 use borrow.Author.Needs.{needs}
 use lib.ListN.{length, getD}
+use Rattle.layout.specs.Limits.{base, longest}
 use Rattle.layout.specs.Varint.{shortest}
-use Rattle.varint.proofs.Shortest.{length-64}
+use Rattle.varint.proofs.Shortest.{length-longest}
 use Rattle.elements.proofs.Onward.{Counting, out-start, out-next, out-stop, out-end}
 use Rattle.elements.proofs.varints_out.Statement.{statement}
 use Rattle.elements.proofs.varints_out.Tie as tie
@@ -21,8 +22,8 @@ abbrev μ-loop : tie.MeasureT-loop
 loop-holds : tie.Need-loop-holds Inv-loop μ-loop
 loop-holds c = out-start _ _ _
 
-most : (c : tie.After-varint-len Inv-loop μ-loop) → c .varint-len .result ≤ 10
-most c = let e = c .varint-len .ensures in let l = length-64 (getD (c .before .before .before .before .before .args .items .now) (c .before .before .before .loop .i) 0) (c .before .shared-slice-known2 .given (c .before .before .before .loop .i) .fits) in omega arith
+most : (c : tie.After-varint-len Inv-loop μ-loop) → c .varint-len .result ≤ longest base
+most c = let e = c .varint-len .ensures in let l = length-longest base (getD (c .before .before .before .before .before .args .items .now) (c .before .before .before .loop .i) 0) (c .before .shared-slice-known2 .given (c .before .before .before .loop .i) .fits) in omega arith
 
 returns : tie.Need-returns Inv-loop μ-loop
 returns c = out-stop _ _ _ _ _ (c .before .before .before .before .loop .inv) 0 _ (c .before .before .before .loop-test .taken) (c .before .varint-len .ensures) (most (c .before)) (c .if1 .taken)

@@ -7,9 +7,10 @@ use lib.ListN.{length, getD}
 use lib.IntN.{ℤ, pos}
 use mir.Syntax.{w64}
 use mir.ValLaws.{toZ-ofZ}
+use Rattle.layout.specs.Limits.{base, longest}
 use Rattle.layout.specs.Varint.{shortest}
 use Rattle.layout.specs.Zigzag.{zigzag}
-use Rattle.varint.proofs.Shortest.{length-64}
+use Rattle.varint.proofs.Shortest.{length-longest}
 use Rattle.elements.proofs.Onward.{Counting, out-start, out-next, out-stop, out-end}
 use Rattle.elements.proofs.zigzags_out.Statement.{statement}
 use Rattle.elements.proofs.zigzags_out.Tie as tie
@@ -33,8 +34,8 @@ long c =
     let z : ℤ = getD (c .before .before .before .before .before .args .items .now) (c .before .before .before .before .loop .i) (pos 0) in
     c .varint-len .ensures ∙ ap (λ (v : ℕ). length (shortest v)) (c .before .zigzag-encode .ensures ∙ ap zigzag (toZ-ofZ w64 z (sfits-of (c .before .before .v .given))))
 
-most : (c : tie.After-varint-len Inv-loop μ-loop) → c .varint-len .result ≤ 10
-most c = let e = c .varint-len .ensures in let l = length-64 _ (c .before .zigzag-encode .ok) in omega arith
+most : (c : tie.After-varint-len Inv-loop μ-loop) → c .varint-len .result ≤ longest base
+most c = let e = c .varint-len .ensures in let l = length-longest base _ (c .before .zigzag-encode .ok) in omega arith
 
 returns : tie.Need-returns Inv-loop μ-loop
 returns c = out-stop _ _ _ _ _ (c .before .before .before .before .before .loop .inv) (pos 0) _ (c .before .before .before .before .loop-test .taken) (long (c .before)) (most (c .before)) (c .if1 .taken)

@@ -5,10 +5,11 @@ use mathlib.Core.List.{_++_}
 use native.Mathlib.Omega.{arith}
 use lib.ListN.{length, length-append}
 use borrow.Author.Tests.{leb-true}
+use Rattle.layout.specs.Limits.{base}
 use Rattle.layout.specs.Varint.{shortest}
-use Rattle.varint.proofs.Shortest.{length-64}
+use Rattle.varint.proofs.Shortest.{length-longest}
 use Rattle.emit.proofs.Segments.{joined}
-use Rattle.held.specs.Headers.{headersOf, headOf}
+use Rattle.held.specs.Headers.{headersOf, headOf, pairMost}
 use Rattle.held.proofs.Ends.{ended, ended-as, grouped}
 use Rattle.straight.proofs.Straight.{clean-zeros}
 use Rattle.fields.proofs.Behind.{behind}
@@ -29,9 +30,9 @@ returns : tie.Need-returns
 returns c =
     let z = c .before .before .before .before .before .before .before .before .before .before .before .before .before in
     let a = z .args in
-    let m : length (headersOf (a .held) (a .places)) + 20 + length (a .bytes .now) ≤ length (a .buf .now) - a .pos = leb-true _ _ (sym (c .before .before .before .before .before .before .before .before .before .has-room-behind .ensures) ∙ c .before .before .before .before .before .before .before .before .if2 .taken) in
-    let lh = length-64 (a .header) (z .fits .header .fits) in
-    let lw = length-64 (a .word) (z .fits .word .fits) in
+    let m : length (headersOf (a .held) (a .places)) + pairMost + length (a .bytes .now) ≤ length (a .buf .now) - a .pos = leb-true _ _ (sym (c .before .before .before .before .before .before .before .before .before .has-room-behind .ensures) ∙ c .before .before .before .before .before .before .before .before .if2 .taken) in
+    let lh = length-longest base (a .header) (z .fits .header .fits) in
+    let lw = length-longest base (a .word) (z .fits .word .fits) in
     let d = length-append (shortest (a .header)) (shortest (a .word) ++ a .bytes .now) in
     let o = length-append (shortest (a .word)) (a .bytes .now) in
     behind (a .pos) (a .buf .now) (headersOf (a .held) (a .places)) (shortest (a .header) ++ (shortest (a .word) ++ a .bytes .now)) (a .place) (length (a .bytes .now)) _ _ _ _ _ (c .before .before .before .before .before .before .before .before .before .before .if1 .taken) (omega arith) (omega arith) (c .before .before .before .before .before .before .put-held .ensures) clean-zeros (c .before .before .put-field .ensures)

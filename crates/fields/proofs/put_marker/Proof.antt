@@ -1,8 +1,9 @@
 -- `fields::put_marker`: two segments.
 use native.Mathlib.Omega.{arith}
 use lib.ListN.{length-append}
+use Rattle.layout.specs.Limits.{base}
 use Rattle.layout.specs.Varint.{shortest}
-use Rattle.varint.proofs.Shortest.{length-64}
+use Rattle.varint.proofs.Shortest.{length-longest}
 use Rattle.emit.proofs.Segments.{joined}
 use Rattle.held.specs.Headers.{headersOf}
 use Rattle.held.proofs.Ends.{ended}
@@ -20,7 +21,7 @@ use Rattle.varint.proofs.varint_len.Reads as varint-len-reads
 add-finish : tie.Need-add-finish
 add-finish c =
     let z = c .before .before .before .before .before .before .before .before .before .before .before in
-    let h = length-64 (z .args .header) (z .fits .header .fits) in
+    let h = length-longest base (z .args .header) (z .fits .header .fits) in
     let e = c .varint-len .ensures in
     let l = c .before .held-len .ensures .1 in
     record { fits = omega arith }

@@ -5,9 +5,10 @@ use mathlib.Core.List.{_++_}
 use native.Mathlib.Omega.{arith}
 use lib.ListN.{length, length-append}
 use borrow.Author.Tests.{leb-true}
+use Rattle.layout.specs.Limits.{base}
 use Rattle.layout.specs.Varint.{shortest}
-use Rattle.varint.proofs.Shortest.{length-64}
-use Rattle.held.specs.Headers.{headersOf}
+use Rattle.varint.proofs.Shortest.{length-longest}
+use Rattle.held.specs.Headers.{headersOf, pairMost}
 use Rattle.held.proofs.Ends.{ended}
 use Rattle.straight.proofs.Straight.{clean-zeros}
 use Rattle.fields.proofs.Behind.{behind}
@@ -27,9 +28,9 @@ returns : tie.Need-returns
 returns c =
     let z = c .before .before .before .before .before .before .before .before .before .before .before .before in
     let a = z .args in
-    let m : length (headersOf (a .held) (a .places)) + 20 + 0 ≤ length (a .buf .now) - a .pos = leb-true _ _ (sym (c .before .before .before .before .before .before .before .before .before .has-room-behind .ensures) ∙ c .before .before .before .before .before .before .before .before .if2 .taken) in
-    let lh = length-64 (a .header) (z .fits .header .fits) in
-    let lv = length-64 (a .value) (z .fits .value .fits) in
+    let m : length (headersOf (a .held) (a .places)) + pairMost + 0 ≤ length (a .buf .now) - a .pos = leb-true _ _ (sym (c .before .before .before .before .before .before .before .before .before .has-room-behind .ensures) ∙ c .before .before .before .before .before .before .before .before .if2 .taken) in
+    let lh = length-longest base (a .header) (z .fits .header .fits) in
+    let lv = length-longest base (a .value) (z .fits .value .fits) in
     let o = length-append (shortest (a .header)) (shortest (a .value)) in
     behind (a .pos) (a .buf .now) (headersOf (a .held) (a .places)) (shortest (a .header) ++ shortest (a .value)) (a .place) 0 _ _ _ _ _ (c .before .before .before .before .before .before .before .before .before .before .if1 .taken) (omega arith) (omega arith) (c .before .before .before .before .before .before .put-held .ensures) clean-zeros (c .before .before .put-pair .ensures)
 

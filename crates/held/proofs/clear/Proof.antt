@@ -5,7 +5,7 @@ use native.Mathlib.Omega.{arith}
 use borrow.Author.Needs.{needs}
 use mathlib.Core.List.{List}
 use lib.ListN.{length, set}
-use Rattle.held.specs.Places.{zeroed}
+use Rattle.held.specs.Places.{zeroed, lazyDepth}
 use Rattle.held.proofs.Places.{zeroed-more, length-zeroed}
 use Rattle.held.proofs.clear.Statement.{statement}
 use Rattle.held.proofs.clear.Tie as tie
@@ -13,14 +13,14 @@ use Rattle.held.proofs.clear.Reads as reads
 use Rattle.held.proofs.clear.Lts as lts
 
 abbrev Inv-loop : tie.InvT-loop
-Inv-loop n cleared₀ i₀ cleared i = (i ≤ n) × (n ≤ 8) × (length cleared₀ ≡ 8) × (cleared ≡ zeroed i cleared₀)
+Inv-loop n cleared₀ i₀ cleared i = (i ≤ n) × (n ≤ lazyDepth) × (length cleared₀ ≡ lazyDepth) × (cleared ≡ zeroed i cleared₀)
 
 abbrev μ-loop : tie.MeasureT-loop
 μ-loop n cleared₀ i₀ cleared i = n - i
 
 loop-holds : tie.Need-loop-holds Inv-loop μ-loop
 loop-holds c =
-    let l : length (c .args .places) ≡ 8 = search needs in
+    let l : length (c .args .places) ≡ lazyDepth = search needs in
     (omega arith, c .pre, l, refl)
 
 array-write-cleared : tie.Need-array-write-cleared Inv-loop μ-loop

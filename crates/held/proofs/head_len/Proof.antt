@@ -3,8 +3,9 @@ use mathlib.Core.List.{_++_}
 use native.Mathlib.Omega.{arith}
 use borrow.Author.Needs.{needs}
 use lib.ListN.{length-append}
+use Rattle.layout.specs.Limits.{base}
 use Rattle.layout.specs.Varint.{shortest}
-use Rattle.varint.proofs.Shortest.{length-64}
+use Rattle.varint.proofs.Shortest.{length-longest}
 use Rattle.held.specs.Headers.{headersOf}
 use Rattle.held.proofs.head_len.Statement.{statement}
 use Rattle.held.proofs.head_len.Tie as tie
@@ -15,7 +16,7 @@ use Rattle.varint.proofs.varint_len.Reads as varint-len-reads
 
 add-result : tie.Need-add-result
 add-result c =
-    let h = length-64 (c .before .before .args .header) (c .before .before .fits .header .fits) in
+    let h = length-longest base (c .before .before .args .header) (c .before .before .fits .header .fits) in
     let e = c .varint-len .ensures in
     let l = c .before .held-len .ensures .1 in
     record { fits = omega arith }
@@ -23,8 +24,8 @@ add-result c =
 add-result-2 : tie.Need-add-result-2
 add-result-2 c =
     let a = c .before .before .before .args in
-    let g = length-64 (a .header) (c .before .before .before .fits .header .fits) in
-    let h = length-64 (a .second) (c .before .before .before .fits .second .fits) in
+    let g = length-longest base (a .header) (c .before .before .before .fits .header .fits) in
+    let h = length-longest base (a .second) (c .before .before .before .fits .second .fits) in
     let d = c .before .varint-len .ensures in
     let e = c .varint-len2 .ensures in
     let l = c .before .before .held-len .ensures .1 in
@@ -33,8 +34,8 @@ add-result-2 c =
 returns : tie.Need-returns
 returns c =
     let a = c .before .before .before .args in
-    let g = length-64 (a .header) (c .before .before .before .fits .header .fits) in
-    let h = length-64 (a .second) (c .before .before .before .fits .second .fits) in
+    let g = length-longest base (a .header) (c .before .before .before .fits .header .fits) in
+    let h = length-longest base (a .second) (c .before .before .before .fits .second .fits) in
     let d = c .before .varint-len .ensures in
     let e = c .varint-len2 .ensures in
     let l = c .before .before .held-len .ensures in

@@ -5,9 +5,11 @@ use native.Mathlib.Omega.{arith}
 use borrow.Author.Needs.{needs}
 use lib.ListN.{length, take}
 use lib.Seq.{length-take-le, getD-take}
+use Rattle.held.specs.Places.{lazyDepth}
+use Rattle.layout.specs.Limits.{base, longest}
 use Rattle.layout.specs.Varint.{shortest}
 use Rattle.layout.specs.Field.{header, T-begin}
-use Rattle.varint.proofs.Shortest.{length-64}
+use Rattle.varint.proofs.Shortest.{length-longest}
 use Rattle.emit.proofs.Elements.{Counted, count-start, count-next, count-end}
 use Rattle.held.specs.Headers.{headersOf}
 use Rattle.held.proofs.held_len.Statement.{statement}
@@ -18,7 +20,7 @@ use Rattle.held.proofs.tagged.Reads as tagged-reads
 use Rattle.varint.proofs.varint_len.Reads as varint-len-reads
 
 abbrev Inv-loop : tie.InvT-loop
-Inv-loop held places n len₀ i₀ len i = (held ≤ 8) × (n ≡ held) × (length places ≡ 8) × Counted (λ id. header id T-begin) 10 (take held places) len i
+Inv-loop held places n len₀ i₀ len i = (held ≤ lazyDepth) × (n ≡ held) × (length places ≡ lazyDepth) × Counted (λ id. header id T-begin) (longest base) (take held places) len i
 
 abbrev μ-loop : tie.MeasureT-loop
 μ-loop held places n len₀ i₀ len i = n - i
@@ -26,9 +28,9 @@ abbrev μ-loop : tie.MeasureT-loop
 loop-holds : tie.Need-loop-holds Inv-loop μ-loop
 loop-holds c = (search needs, refl, search needs, count-start _ _ _)
 
-short : (c : tie.After-varint-len Inv-loop μ-loop) → c .varint-len .result ≤ 10
+short : (c : tie.After-varint-len Inv-loop μ-loop) → c .varint-len .result ≤ longest base
 short c =
-    let h = length-64 (c .before .tagged .result) (c .before .tagged .ok) in let e = c .varint-len .ensures in omega arith
+    let h = length-longest base (c .before .tagged .result) (c .before .tagged .ok) in let e = c .varint-len .ensures in omega arith
 
 add-len : tie.Need-add-len Inv-loop μ-loop
 add-len c = let k = c .before .before .before .loop .inv .3 .most in let h = short c in record { fits = omega arith }

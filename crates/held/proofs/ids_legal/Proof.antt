@@ -7,7 +7,7 @@ use borrow.Author.Tests.{le-leb, lt-leb}
 use lib.Dec.{leb}
 use lib.ListN.{length, take, drop}
 use Rattle.layout.specs.Limits.{base}
-use Rattle.held.specs.Places.{every}
+use Rattle.held.specs.Places.{every, lazyDepth}
 use Rattle.held.proofs.Places.{first-fails, first-on, first-end}
 use Rattle.held.proofs.ids_legal.Statement.{statement}
 use Rattle.held.proofs.ids_legal.Tie as tie
@@ -25,19 +25,19 @@ loop-holds c = (omega arith, refl)
 
 returns : tie.Need-returns Inv-loop μ-loop
 returns c =
-    let l : length (c .before .before .before .args .t1) ≡ 8 = search needs in
+    let l : length (c .before .before .before .args .t1) ≡ lazyDepth = search needs in
     let i = c .before .before .loop .inv in
     first-fails _ _ _ _ (omega arith) (c .before .loop-test .taken) (lt-leb _ _ (c .if1 .taken)) ∙ i .1
 
 loop-again : tie.Need-loop-again Inv-loop μ-loop
 loop-again c =
-    let l : length (c .before .before .before .args .t1) ≡ 8 = search needs in
+    let l : length (c .before .before .before .args .t1) ≡ lazyDepth = search needs in
     let i = c .before .before .loop .inv in
     (omega arith, sym (first-on _ _ _ _ (omega arith) (c .before .loop-test .taken) (le-leb _ _ (c .if1 .left))) ∙ i .1)
 
 returns-2 : tie.Need-returns-2 Inv-loop μ-loop
 returns-2 c =
-    let l : length (c .before .before .args .t1) ≡ 8 = search needs in
+    let l : length (c .before .before .args .t1) ≡ lazyDepth = search needs in
     sym (first-end _ _ _ _ (omega arith) (c .loop-test .left)) ∙ c .before .loop .inv .1
 
 pub ids-legal-spec : {M : Type 1} → statement M

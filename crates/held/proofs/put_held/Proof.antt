@@ -5,6 +5,7 @@ use native.Mathlib.Omega.{arith}
 use borrow.Author.Needs.{needs}
 use lib.ListN.{length, take, drop}
 use lib.Seq.{length-take-le, getD-take}
+use Rattle.held.specs.Places.{lazyDepth}
 use Rattle.layout.specs.Varint.{shortest}
 use Rattle.layout.specs.Field.{header, each, T-begin}
 use Rattle.emit.proofs.Elements.{Owing, owing-start, owing-next, owing-end, each-at, each-end}
@@ -18,7 +19,7 @@ use Rattle.emit.proofs.Cursor.put_varint.Reads as put-varint-reads
 use Rattle.held.proofs.tagged.Reads as tagged-reads
 
 abbrev Inv-loop : tie.InvT-loop
-Inv-loop buf₀ pos held place places n cursor₀ i₀ buf cursor i = (held ≤ 8) × (n ≡ held) × (length places ≡ 8) × (i ≤ held) × Owing cursor₀ buf₀ (each (λ id. header id T-begin) (take held places)) cursor buf (each (λ id. header id T-begin) (drop i (take held places)))
+Inv-loop buf₀ pos held place places n cursor₀ i₀ buf cursor i = (held ≤ lazyDepth) × (n ≡ held) × (length places ≡ lazyDepth) × (i ≤ held) × Owing cursor₀ buf₀ (each (λ id. header id T-begin) (take held places)) cursor buf (each (λ id. header id T-begin) (drop i (take held places)))
 
 abbrev μ-loop : tie.MeasureT-loop
 μ-loop buf₀ pos held place places n cursor₀ i₀ buf cursor i = n - i

@@ -6,7 +6,7 @@ use borrow.Author.Needs.{needs}
 use borrow.Author.Tests.{eq-eqb, ne-eqb}
 use lib.Dec.{eqb}
 use lib.ListN.{length, drop}
-use Rattle.held.specs.Places.{every}
+use Rattle.held.specs.Places.{every, lazyDepth}
 use Rattle.held.proofs.Places.{every-fails, every-on, every-end}
 use Rattle.held.proofs.unused_zero.Statement.{statement}
 use Rattle.held.proofs.unused_zero.Tie as tie
@@ -14,29 +14,29 @@ use Rattle.held.proofs.unused_zero.Reads as reads
 use Rattle.held.proofs.unused_zero.Lts as lts
 
 abbrev Inv-loop : tie.InvT-loop
-Inv-loop n pending i₀ i = (i ≤ 8) × (every (λ x. eqb x 0) (drop i pending) ≡ every (λ x. eqb x 0) (drop n pending))
+Inv-loop n pending i₀ i = (i ≤ lazyDepth) × (every (λ x. eqb x 0) (drop i pending) ≡ every (λ x. eqb x 0) (drop n pending))
 
 abbrev μ-loop : tie.MeasureT-loop
-μ-loop n pending i₀ i = 8 - i
+μ-loop n pending i₀ i = lazyDepth - i
 
 loop-holds : tie.Need-loop-holds Inv-loop μ-loop
 loop-holds c = (omega arith, refl)
 
 returns : tie.Need-returns Inv-loop μ-loop
 returns c =
-    let l : length (c .before .before .before .args .t1) ≡ 8 = search needs in
+    let l : length (c .before .before .before .args .t1) ≡ lazyDepth = search needs in
     let i = c .before .before .loop .inv in
     every-fails (λ x. eqb x 0) (c .before .before .before .args .t1) (c .before .before .loop .i) (omega arith) (ne-eqb _ _ (c .if1 .taken)) ∙ i .1
 
 loop-again : tie.Need-loop-again Inv-loop μ-loop
 loop-again c =
-    let l : length (c .before .before .before .args .t1) ≡ 8 = search needs in
+    let l : length (c .before .before .before .args .t1) ≡ lazyDepth = search needs in
     let i = c .before .before .loop .inv in
     (omega arith, sym (every-on (λ x. eqb x 0) (c .before .before .before .args .t1) (c .before .before .loop .i) (omega arith) (eq-eqb _ _ (c .if1 .left))) ∙ i .1)
 
 returns-2 : tie.Need-returns-2 Inv-loop μ-loop
 returns-2 c =
-    let l : length (c .before .before .args .t1) ≡ 8 = search needs in
+    let l : length (c .before .before .args .t1) ≡ lazyDepth = search needs in
     sym (every-end (λ x. eqb x 0) (c .before .before .args .t1) (c .before .loop .i) (omega arith)) ∙ c .before .loop .inv .1
 
 pub unused-zero-spec : {M : Type 1} → statement M

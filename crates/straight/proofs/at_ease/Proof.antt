@@ -1,7 +1,6 @@
 -- `straight::at_ease`: the tests in order.
 use borrow.Author.Tests.{le-leb, lt-leb}
 use Rattle.straight.specs.Straight.{easyAt}
-use borrow.Author.Needs.{needs}
 use Rattle.straight.proofs.at_ease.Statement.{statement}
 use Rattle.straight.proofs.at_ease.Tie as tie
 use Rattle.straight.proofs.at_ease.Reads as reads
@@ -17,12 +16,8 @@ returns-2 c = simp (le-leb _ _ (c .before .if1 .left), lt-leb _ _ (c .if2 .taken
 
 returns-3 : tie.Need-returns-3
 unfolding easyAt
-returns-3 c = simp (le-leb _ _ (c .before .before .if1 .left), le-leb _ _ (c .before .if2 .left), lt-leb _ _ (c .if3 .taken))
-
-returns-4 : tie.Need-returns-4
-unfolding easyAt
-returns-4 c = simp (le-leb _ _ (c .before .before .if1 .left), le-leb _ _ (c .before .if2 .left), le-leb _ _ (c .if3 .left))
+returns-3 c = simp (le-leb _ _ (c .before .if1 .left), le-leb _ _ (c .if2 .left))
 
 pub at-ease-spec : {M : Type 1} → statement M
 at-ease-spec =
-    tie.close (tie.spec returns returns-2 returns-3 (λ c. search needs) returns-4)
+    tie.close (tie.spec returns returns-2 returns-3)

@@ -3,8 +3,9 @@ use Prim.Native.Nat.{_+_}
 use mathlib.Core.Path.{_≡_}
 use native.Mathlib.Omega.{arith}
 use lib.ListN.{length}
+use Rattle.layout.specs.Limits.{base}
 use Rattle.layout.specs.Varint.{shortest}
-use Rattle.varint.proofs.Shortest.{length-one, length-more, length-64}
+use Rattle.varint.proofs.Shortest.{length-one, length-more, length-longest}
 use Rattle.varint.proofs.varint_len.Statement.{statement}
 use Rattle.varint.proofs.varint_len.Tie as tie
 
@@ -15,7 +16,7 @@ abbrev μ-loop : tie.MeasureT-loop
 μ-loop v rest₀ len₀ rest len = rest
 
 add-len : tie.Need-add-len Inv-loop μ-loop
-add-len c = omega (arith, length-64 (c .before .before .args .v) (c .before .before .fits .v .fits))
+add-len c = omega (arith, length-longest base (c .before .before .args .v) (c .before .before .fits .v .fits))
 
 loop-again : tie.Need-loop-again Inv-loop μ-loop
 loop-again c = omega (arith, length-more (c .before .loop .rest) (omega (arith, c .loop-test .taken)))

@@ -4,8 +4,9 @@ use mathlib.Core.Path.{_≡_, sym, ap, _∙_}
 use native.Mathlib.Omega.{arith}
 use borrow.Author.Needs.{needs}
 use lib.ListN.{length, drop}
+use Rattle.layout.specs.Limits.{base}
 use Rattle.layout.specs.Varint.{shortest}
-use Rattle.varint.proofs.Shortest.{length-64, drop-shortest}
+use Rattle.varint.proofs.Shortest.{length-longest, drop-shortest}
 use Rattle.varint.proofs.Digits.{pow128}
 use Rattle.emit.proofs.Segments.{some-left, none-left}
 use Rattle.emit.proofs.Cursor.put_varint.Statement.{statement}
@@ -28,10 +29,10 @@ returns-2 c =
     none-left (c .before .before .before .before .args .self) _ (shortest (c .before .before .before .before .args .v)) _ (omega arith) (omega arith)
 
 mul-put-whole : tie.Need-mul-put-whole
-mul-put-whole c = let h = length-64 (c .before .before .before .before .before .args .v) (c .before .before .before .before .before .fits .v .fits) in let l = c .before .before .varint-len .ensures in record { fits = omega arith }
+mul-put-whole c = let h = length-longest base (c .before .before .before .before .before .args .v) (c .before .before .before .before .before .fits .v .fits) in let l = c .before .before .varint-len .ensures in record { fits = omega arith }
 
 shr-put-whole : tie.Need-shr-put-whole
-shr-put-whole c = let h = length-64 (c .before .before .before .before .before .args .v) (c .before .before .before .before .before .fits .v .fits) in let l = c .before .before .varint-len .ensures in omega arith
+shr-put-whole c = let h = length-longest base (c .before .before .before .before .before .args .v) (c .before .before .before .before .before .fits .v .fits) in let l = c .before .before .varint-len .ensures in omega arith
 
 returns-3 : tie.Need-returns-3
 returns-3 c =

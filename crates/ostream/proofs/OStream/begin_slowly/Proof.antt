@@ -14,7 +14,7 @@ use Rattle.answers.proofs.Checks.{check-passes, check-fails}
 use Rattle.ostream.proofs.Called.{Sound, refuses, settles, alters, begin-knows, few-clears}
 use borrow.Author.Tests.{lt-ltb, le-ltb}
 use Rattle.ostream.specs.declared.OStream.{OStream}
-use Rattle.ostream.specs.Stream.{heldBytes, holding}
+use Rattle.ostream.specs.Stream.{lazyDepth, heldBytes, holding}
 use Rattle.ostream.specs.Straight.{unwritten}
 use Rattle.ostream.specs.Calls.{beginCall}
 use borrow.Author.Needs.{needs}
@@ -54,7 +54,7 @@ returns-2 : tie.Need-returns-2
 unfolding holding
 returns-2 c =
     let a = c .before .before .before .before .before .before .before .before .before .args in
-    let n = lt-ltb (a .self .npending) 8 (c .before .before .if2 .taken) in
+    let n = lt-ltb (a .self .npending) lazyDepth (c .before .before .if2 .taken) in
     alters (beginCall (a .self) (length (a .buf .now)) (a .id)) _ _ _ _ (holding (a .self) (a .id)) (simp n) (simp n) (passes (c .before .before .before .before)) (knows (c .before .before .before .before) .0 .inside) refl (c .alter .ensures ∙ ap (λ (x : OStream). unwritten (a .self) (a .place) x) (c .before .hold .ensures))
 
 put-marker-requires : tie.Need-put-marker-requires
@@ -70,12 +70,12 @@ returns-3 : tie.Need-returns-3
 unfolding heldBytes fieldBytes
 returns-3 c =
     let a = c .before .before .before .before .before .before .before .before .before .before .before .before .before .before .before .args in
-    let n = le-ltb (a .self .npending) 8 (c .before .before .before .before .before .before .before .before .if2 .left) in
+    let n = le-ltb (a .self .npending) lazyDepth (c .before .before .before .before .before .before .before .before .if2 .left) in
     settles (beginCall (a .self) (length (a .buf .now)) (a .id)) _ _ _ _ _ _ _ _ (simp n (ap (λ (h : ℕ). heldBytes (a .self) ++ shortest h) (c .before .before .before .before .before .before .tagged .ensures))) (simp n) (passes (c .before .before .before .before .before .before .before .before .before .before)) (c .before .before .before .before .put-marker .ensures) (c .settle .ensures)
 
 pub begin-slowly-spec : {M : Type 1} → statement M
 begin-slowly-spec =
     tie.close
     (tie.spec
-    (λ c κs. search needs) (λ c κs. search needs) (λ c κs. search needs) returns hold-requires (λ c κs. search needs)
+    (λ c κs. search needs) (λ c κs. search needs) (λ c κs. search needs) returns (λ c. search needs) hold-requires (λ c κs. search needs)
     returns-2 (λ c κs. search needs) put-marker-requires add-settle settle-requires (λ c. search needs) returns-3)

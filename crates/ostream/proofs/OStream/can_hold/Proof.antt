@@ -26,4 +26,4 @@ returns-4 c = simp (lt-ltb _ _ (c .before .before .before .before .if1 .left), l
 
 pub can-hold-spec : {M : Type 1} → statement M
 can-hold-spec =
-    tie.close (tie.spec returns returns-2 returns-3 (λ c κs. search needs) returns-4)
+    tie.close (tie.spec (λ c. search needs) returns (λ c. search needs) returns-2 returns-3 (λ c κs. search needs) returns-4)

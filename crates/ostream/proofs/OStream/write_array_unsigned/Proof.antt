@@ -5,6 +5,7 @@ use mathlib.Core.List.{_++_}
 use mathlib.Core.Logic.{⊎-elim}
 use native.Mathlib.Omega.{arith}
 use lib.ListN.{length, length-append}
+use Rattle.layout.specs.Limits.{base}
 use Rattle.layout.specs.Varint.{shortest}
 use Rattle.varint.proofs.Shortest.{length-some}
 use Rattle.straight.proofs.Straight.{went, unmoved}
@@ -12,7 +13,7 @@ use Rattle.ostream.proofs.Called.{committed-none}
 use Rattle.layout.specs.Field.{each}
 use Rattle.layout.specs.Copy.{fieldBytes}
 use Rattle.ostream.specs.Calls.{unsignedArrayCall}
-use Rattle.ostream.proofs.Straight.{is-ready, is-easy, ready-array, spelled, straight, left-to}
+use Rattle.ostream.proofs.Straight.{is-ready, easy-with, ready-array, spelled, straight, left-to}
 use borrow.Author.Needs.{needs}
 use Rattle.ostream.proofs.OStream.write_array_unsigned.Statement.{statement}
 use Rattle.ostream.proofs.OStream.write_array_unsigned.Tie as tie
@@ -22,7 +23,7 @@ use Rattle.held.proofs.tagged.Reads as tagged-reads
 use Rattle.ostream.proofs.OStream.anew.Reads as OStream-anew-reads
 use Rattle.ostream.proofs.OStream.write_array_unsigned_slowly.Reads as write-array-unsigned-slowly-reads
 use Rattle.ostream.proofs.Written.anew.Reads as Written-anew-reads
-use Rattle.straight.proofs.at_ease.Reads as at-ease-reads
+use Rattle.straight.proofs.at_ease_with.Reads as at-ease-with-reads
 use Rattle.straight.proofs.put_unsigneds.Reads as put-unsigneds-reads
 
 -- where the straight form has written nothing, the buffer is as it was
@@ -36,7 +37,7 @@ unaltered c =
     let o = length-append (shortest h) r in
     let l = length-some h in
     let e = x .4 .ensures in
-    x .9 ∙ unmoved _ _ _ _ (10 * length (a .items .now)) (shortest h ++ r) _ _ refl (e .0, e .1) (omega arith) (x .8 .left))
+    x .9 ∙ unmoved _ _ _ _ _ (shortest h ++ r) _ _ refl (e .0, e .1) (omega arith) (x .8 .left))
     (λ x. x .1)
     (c .if2 .came)
 
@@ -48,7 +49,7 @@ returns c =
 put-unsigneds-requires : tie.Need-put-unsigneds-requires
 put-unsigneds-requires c κs =
     let a = c .before .before .before .before .before .before .before .before .args in
-    is-easy (a .self) (a .id) (length (a .items .now)) (sym (c .before .before .before .before .at-ease .ensures) ∙ c .before .before .before .if2 .taken) .short
+    easy-with (a .self) (a .id) (length (a .items .now)) (base .count) (sym (c .before .before .before .before .at-ease-with .ensures) ∙ c .before .before .before .if2 .taken) .1
 
 returns-2 : tie.Need-returns-2
 unfolding fieldBytes
@@ -56,12 +57,12 @@ returns-2 c =
     let a = c .before .before .before .before .before .before .before .before .before .before .before .before .before .args in
     let q = c .before .before .before .before .put-unsigneds .ensures in
     let w = went _ _ _ _ _ _ (q .0, q .1) (c .if3 .taken) in
-    let e = is-easy (a .self) (a .id) (length (a .items .now)) (sym (c .before .before .before .before .before .before .before .before .before .at-ease .ensures) ∙ c .before .before .before .before .before .before .before .before .if2 .taken) in
-    let y = is-ready (a .self) (length (a .buf .now)) (a .id) (length (a .items .now)) (10 * length (a .items .now)) e (w .0) in
+    let e = easy-with (a .self) (a .id) (length (a .items .now)) (base .count) (sym (c .before .before .before .before .before .before .before .before .before .at-ease-with .ensures) ∙ c .before .before .before .before .before .before .before .before .if2 .taken) in
+    let y = is-ready (a .self) (length (a .buf .now)) (a .id) _ (e .0) (w .0) in
     let h = c .before .before .before .before .before .tagged .result in
     let l = shortest (length (a .items .now)) ++ each shortest (a .items .now) in
     straight (unsignedArrayCall (a .self) (length (a .buf .now)) (a .id) (a .items .now)) (a .self) (a .buf .now) (shortest h ++ l) (a .place) _ _ (a .self)
-    (ready-array (a .self) (length (a .buf .now)) (a .id) (length (a .items .now)) (10 * length (a .items .now)) y (e .short))
+    (ready-array (a .self) (length (a .buf .now)) (a .id) (length (a .items .now)) _ y (e .1))
     (spelled (a .self) (y .none) h (a .id * 8 + 3) l (c .before .before .before .before .before .tagged .ensures))
     (committed-none (a .self) (a .self .depth) (y .none))
     (omega arith)

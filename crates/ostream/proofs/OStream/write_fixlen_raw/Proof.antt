@@ -5,13 +5,14 @@ use mathlib.Core.List.{_++_}
 use mathlib.Core.Logic.{⊎-elim}
 use native.Mathlib.Omega.{arith}
 use lib.ListN.{length, length-append}
+use Rattle.layout.specs.Limits.{base}
 use Rattle.layout.specs.Varint.{shortest}
-use Rattle.varint.proofs.Shortest.{length-64, length-some}
+use Rattle.varint.proofs.Shortest.{length-longest, length-some}
 use Rattle.straight.proofs.Straight.{went, unmoved}
 use Rattle.ostream.proofs.Called.{committed-none}
 use Rattle.types.specs.Types.{fixlenRaw}
 use Rattle.ostream.specs.Calls.{rawCall, fixlenBytes}
-use Rattle.ostream.proofs.Straight.{is-ready, is-easy, ready-field, spelled, straight, left-to}
+use Rattle.ostream.proofs.Straight.{is-ready, easy-with, ready-field, spelled, straight, left-to}
 use borrow.Author.Needs.{needs}
 use Rattle.ostream.proofs.OStream.write_fixlen_raw.Statement.{statement}
 use Rattle.ostream.proofs.OStream.write_fixlen_raw.Tie as tie
@@ -21,7 +22,7 @@ use Rattle.held.proofs.tagged.Reads as tagged-reads
 use Rattle.ostream.proofs.OStream.anew.Reads as OStream-anew-reads
 use Rattle.ostream.proofs.OStream.write_fixlen_slowly.Reads as write-fixlen-slowly-reads
 use Rattle.ostream.proofs.Written.anew.Reads as Written-anew-reads
-use Rattle.straight.proofs.at_ease.Reads as at-ease-reads
+use Rattle.straight.proofs.at_ease_with.Reads as at-ease-with-reads
 use Rattle.straight.proofs.put_field.Reads as put-field-reads
 use Rattle.types.proofs.FixlenType.raw.Reads as raw-reads
 
@@ -47,7 +48,7 @@ returns c =
 cast-tagged : tie.Need-cast-tagged
 cast-tagged c =
     let a = c .before .before .before .before .before .before .args in
-    let n = is-easy (a .self) (a .id) (length (a .bytes .now)) (sym (c .before .before .at-ease .ensures) ∙ c .before .if2 .taken) .short in
+    let n = easy-with (a .self) (a .id) (length (a .bytes .now)) (base .size) (sym (c .before .before .at-ease-with .ensures) ∙ c .before .if2 .taken) .1 in
     record { fits = omega arith }
 
 returns-2 : tie.Need-returns-2
@@ -55,17 +56,17 @@ unfolding fixlenBytes
 returns-2 c =
     let a = c .before .before .before .before .before .before .before .before .before .before .before .before .before .before .before .args in
     let q = went _ _ _ _ _ _ (c .before .before .before .before .put-field .ensures) (c .if3 .taken) in
-    let e = is-easy (a .self) (a .id) (length (a .bytes .now)) (sym (c .before .before .before .before .before .before .before .before .before .before .before .at-ease .ensures) ∙ c .before .before .before .before .before .before .before .before .before .before .if2 .taken) in
-    let y = is-ready (a .self) (length (a .buf .now)) (a .id) (length (a .bytes .now)) (length (a .bytes .now)) e (q .0) in
+    let e = easy-with (a .self) (a .id) (length (a .bytes .now)) (base .size) (sym (c .before .before .before .before .before .before .before .before .before .before .before .at-ease-with .ensures) ∙ c .before .before .before .before .before .before .before .before .before .before .if2 .taken) in
+    let y = is-ready (a .self) (length (a .buf .now)) (a .id) (length (a .bytes .now)) (e .0) (q .0) in
     let h = c .before .before .before .before .before .tagged2 .result in
     let w = c .before .before .before .before .before .before .before .tagged .result in
-    let lh = length-64 h (c .before .before .before .before .before .tagged2 .ok) in
-    let lw = length-64 w (c .before .before .before .before .before .before .before .tagged .ok) in
+    let lh = length-longest base h (c .before .before .before .before .before .tagged2 .ok) in
+    let lw = length-longest base w (c .before .before .before .before .before .before .before .tagged .ok) in
     let d = length-append (shortest h) (shortest w ++ a .bytes .now) in
     let g = length-append (shortest w) (a .bytes .now) in
     let r = y .room in
     straight (rawCall (a .self) (length (a .buf .now)) (a .id) (a .bytes .now) (a .subtype)) (a .self) (a .buf .now) (shortest h ++ (shortest w ++ a .bytes .now)) (a .place) _ _ (a .self)
-    (ready-field (a .self) (length (a .buf .now)) (a .id) (length (a .bytes .now)) y (e .short))
+    (ready-field (a .self) (length (a .buf .now)) (a .id) (length (a .bytes .now)) y (e .1))
     (ap (λ (x : ℕ). shortest h ++ (shortest x ++ a .bytes .now)) (c .before .before .before .before .before .before .before .tagged .ensures ∙ ap (λ (n : ℕ). length (a .bytes .now) * 8 + n) (c .before .before .before .before .before .before .before .before .raw .ensures)) ∙ spelled (a .self) (y .none) h (a .id * 8 + 2) (shortest (length (a .bytes .now) * 8 + fixlenRaw (a .subtype)) ++ a .bytes .now) (c .before .before .before .before .before .tagged2 .ensures))
     (committed-none (a .self) (a .self .depth) (y .none))
     (omega arith)

@@ -1,9 +1,10 @@
 -- `ostream::OStream::write_fixlen_slowly`: the field by the numbers of the state.
 use mathlib.Core.Path.{refl}
+use mathlib.Core.List.{[], _∷_}
 use lib.ListN.{length}
 use Rattle.types.specs.Types.{subtype}
 use Rattle.ostream.specs.Stream.{heldBytes}
-use Rattle.ostream.specs.Calls.{rawCall, fixlenBytes}
+use Rattle.ostream.specs.Calls.{payloadTooLong, rawCall, fixlenBytes}
 use Rattle.ostream.proofs.Called.{field-clears, goes}
 use Rattle.ostream.proofs.Straight.{left-to}
 use borrow.Author.Needs.{needs}
@@ -19,7 +20,7 @@ settle-requires : tie.Need-settle-requires
 settle-requires c κs =
     let a = c .before .before .before .before .before .before .before .before .args in
     let s = c .before .before .before .before .before .anew .result in
-    field-clears s (a .buf .now) (a .id) (length (a .bytes .now)) (fixlenBytes (a .id) (subtype (a .subtype)) (a .bytes .now)) (a .place) _ _ (c .before .before .fixlen-field .ensures)
+    field-clears s (a .buf .now) (a .id) (payloadTooLong (length (a .bytes .now)) ∷ []) (fixlenBytes (a .id) (subtype (a .subtype)) (a .bytes .now)) (a .place) _ _ (c .before .before .fixlen-field .ensures)
 
 returns : tie.Need-returns
 unfolding heldBytes
@@ -27,7 +28,7 @@ returns c =
     let a = c .before .before .before .before .before .before .before .before .before .args in
     let s = c .before .before .before .before .before .before .anew .result in
     left-to (λ s n. rawCall s n (a .id) (a .bytes .now) (a .subtype)) (a .self) s (a .buf .now) (a .buf .now) (a .place) _ _ _ (c .before .before .before .before .before .before .anew .ensures) refl refl
-    (goes s (a .buf .now) (a .id) (length (a .bytes .now)) (fixlenBytes (a .id) (subtype (a .subtype)) (a .bytes .now)) (a .place) _ _ (c .before .before .before .fixlen-field .ensures) _ _ refl refl refl (c .settle .ensures))
+    (goes s (a .buf .now) (a .id) (payloadTooLong (length (a .bytes .now)) ∷ []) (fixlenBytes (a .id) (subtype (a .subtype)) (a .bytes .now)) (a .place) _ _ (c .before .before .before .fixlen-field .ensures) _ _ refl refl refl (c .settle .ensures))
 
 pub write-fixlen-slowly-spec : {M : Type 1} → statement M
 write-fixlen-slowly-spec =

@@ -5,7 +5,7 @@ use borrow.Author.Tests.{lt-ltb, le-ltb, lt-leb}
 use lib.ListN.{length}
 use Rattle.ostream.specs.declared.OStream.{OStream}
 use Rattle.ostream.specs.declared.Answer.the-variants.{Done}
-use Rattle.ostream.specs.Stream.{holding}
+use Rattle.ostream.specs.Stream.{lazyDepth, holding}
 use Rattle.ostream.specs.Calls.{beginCall}
 use Rattle.ostream.proofs.Called.{is-sound, alters}
 use Rattle.ostream.proofs.Straight.{Holds, can-hold}
@@ -33,8 +33,8 @@ returns c =
     let i = is-sound (a .self) (length (a .buf .now)) (h .sound) .inside in
     let z = c .before .before .before .if1 .taken in
     alters (beginCall (a .self) (length (a .buf .now)) (a .id)) (a .self) (a .buf .now) (a .place) _ (holding (a .self) (a .id))
-    (simp (lt-ltb (a .self .npending) 8 n))
-    (simp (lt-ltb (a .self .npending) 8 n))
+    (simp (lt-ltb (a .self .npending) lazyDepth n))
+    (simp (lt-ltb (a .self .npending) lazyDepth n))
     (simp (h .sound, lt-leb _ _ (h .shallow), le-ltb _ _ (h .legal)))
     i
     refl

@@ -5,8 +5,9 @@ use mathlib.Core.List.{_++_}
 use mathlib.Core.Logic.{⊎-elim}
 use native.Mathlib.Omega.{arith}
 use lib.ListN.{length, length-append}
+use Rattle.layout.specs.Limits.{base}
 use Rattle.layout.specs.Varint.{shortest}
-use Rattle.varint.proofs.Shortest.{length-64, length-some}
+use Rattle.varint.proofs.Shortest.{length-longest, length-some}
 use Rattle.straight.proofs.Straight.{went, unmoved}
 use Rattle.ostream.proofs.Called.{committed-none}
 use Rattle.ostream.specs.Calls.{varintCall}
@@ -47,10 +48,10 @@ returns-2 c =
     let f = c .before .before .before .before .before .before .before .before .before .before .before .before .fits in
     let h = c .before .before .before .before .before .tagged .result in
     let w = went _ _ _ _ _ _ (c .before .before .before .before .put-pair .ensures) (c .if3 .taken) in
-    let e = is-easy (a .self) (a .id) 0 (sym (c .before .before .before .before .before .before .before .before .before .at-ease .ensures) ∙ c .before .before .before .before .before .before .before .before .if2 .taken) in
-    let y = is-ready (a .self) (length (a .buf .now)) (a .id) 0 0 e (w .0) in
-    let lh = length-64 h (omega arith) in
-    let lv = length-64 (a .value) (f .value .fits) in
+    let e = is-easy (a .self) (a .id) (sym (c .before .before .before .before .before .before .before .before .before .at-ease .ensures) ∙ c .before .before .before .before .before .before .before .before .if2 .taken) in
+    let y = is-ready (a .self) (length (a .buf .now)) (a .id) 0 e (w .0) in
+    let lh = length-longest base h (omega arith) in
+    let lv = length-longest base (a .value) (f .value .fits) in
     let o = length-append (shortest h) (shortest (a .value)) in
     let r = y .room in
     straight (varintCall (a .self) (length (a .buf .now)) (a .id) (a .wire) (a .value)) (a .self) (a .buf .now) (shortest h ++ shortest (a .value)) (a .place) _ _ (a .self)

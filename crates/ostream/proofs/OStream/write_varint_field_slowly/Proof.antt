@@ -1,7 +1,7 @@
 -- `ostream::OStream::write_varint_field_slowly`: the field by the numbers of the state.
 use Prim.Native.Nat.{_+_, _*_}
 use mathlib.Core.Path.{refl}
-use mathlib.Core.List.{_++_}
+use mathlib.Core.List.{[], _++_}
 use Rattle.layout.specs.Varint.{shortest}
 use Rattle.ostream.specs.Stream.{heldBytes}
 use Rattle.ostream.specs.Calls.{varintCall}
@@ -20,7 +20,7 @@ settle-requires : tie.Need-settle-requires
 settle-requires c κs =
     let a = c .before .before .before .before .before .before .before .args in
     let s = c .before .before .before .before .before .anew .result in
-    field-clears s (a .buf .now) (a .id) 0 (shortest (a .id * 8 + a .wire) ++ shortest (a .value)) (a .place) _ _ (c .before .before .varint-field .ensures)
+    field-clears s (a .buf .now) (a .id) [] (shortest (a .id * 8 + a .wire) ++ shortest (a .value)) (a .place) _ _ (c .before .before .varint-field .ensures)
 
 returns : tie.Need-returns
 unfolding heldBytes
@@ -28,7 +28,7 @@ returns c =
     let a = c .before .before .before .before .before .before .before .before .args in
     let s = c .before .before .before .before .before .before .anew .result in
     left-to (λ s n. varintCall s n (a .id) (a .wire) (a .value)) (a .self) s (a .buf .now) (a .buf .now) (a .place) _ _ _ (c .before .before .before .before .before .before .anew .ensures) refl refl
-    (goes s (a .buf .now) (a .id) 0 (shortest (a .id * 8 + a .wire) ++ shortest (a .value)) (a .place) _ _ (c .before .before .before .varint-field .ensures) _ _ refl refl refl (c .settle .ensures))
+    (goes s (a .buf .now) (a .id) [] (shortest (a .id * 8 + a .wire) ++ shortest (a .value)) (a .place) _ _ (c .before .before .before .varint-field .ensures) _ _ refl refl refl (c .settle .ensures))
 
 pub write-varint-field-slowly-spec : {M : Type 1} → statement M
 write-varint-field-slowly-spec =

@@ -5,8 +5,9 @@ use mathlib.Core.Path.{sym, ap, _∙_}
 use mathlib.Core.List.{_++_}
 use native.Mathlib.Omega.{arith}
 use lib.ListN.{length, length-append}
+use Rattle.layout.specs.Limits.{base}
 use Rattle.layout.specs.Varint.{shortest}
-use Rattle.varint.proofs.Shortest.{length-64}
+use Rattle.varint.proofs.Shortest.{length-longest}
 use Rattle.emit.proofs.Low.{length-low}
 use Rattle.owed.specs.declared.Output.{Output}
 use Rattle.owed.specs.Owed.{outputBytes}
@@ -18,22 +19,22 @@ use Rattle.owed.proofs.Output.len.Lts as lts
 use Rattle.varint.proofs.varint_len.Reads as varint-len-reads
 
 add-result : tie.Need-add-result
-add-result c = let l0 = (let f : Fits w64 (c .before .before .before .self2 .given .0 .0) = search needs in length-64 (c .before .before .before .self2 .given .0 .0) (f .fits)) in let l1 = (let f : Fits w64 (c .before .before .before .self2 .given .0 .1 .0) = search needs in length-64 (c .before .before .before .self2 .given .0 .1 .0) (f .fits)) in let e = c .before .varint-len2 .ensures in let g = c .varint-len3 .ensures in record { fits = omega arith }
+add-result c = let l0 = (let f : Fits w64 (c .before .before .before .self2 .given .0 .0) = search needs in length-longest base (c .before .before .before .self2 .given .0 .0) (f .fits)) in let l1 = (let f : Fits w64 (c .before .before .before .self2 .given .0 .1 .0) = search needs in length-longest base (c .before .before .before .self2 .given .0 .1 .0) (f .fits)) in let e = c .before .varint-len2 .ensures in let g = c .varint-len3 .ensures in record { fits = omega arith }
 
 add-result-2 : tie.Need-add-result-2
-add-result-2 c = let l0 = (let f : Fits w64 (c .before .before .before .self3 .given .0 .0) = search needs in length-64 (c .before .before .before .self3 .given .0 .0) (f .fits)) in let l1 = (let f : Fits w64 (c .before .before .before .self3 .given .0 .1 .0) = search needs in length-64 (c .before .before .before .self3 .given .0 .1 .0) (f .fits)) in let e = c .before .varint-len4 .ensures in let g = c .varint-len5 .ensures in record { fits = omega arith }
+add-result-2 c = let l0 = (let f : Fits w64 (c .before .before .before .self3 .given .0 .0) = search needs in length-longest base (c .before .before .before .self3 .given .0 .0) (f .fits)) in let l1 = (let f : Fits w64 (c .before .before .before .self3 .given .0 .1 .0) = search needs in length-longest base (c .before .before .before .self3 .given .0 .1 .0) (f .fits)) in let e = c .before .varint-len4 .ensures in let g = c .varint-len5 .ensures in record { fits = omega arith }
 
 add-result-3 : tie.Need-add-result-3
-add-result-3 c = let l0 = (let f : Fits w64 (c .before .before .before .before .self3 .given .0 .0) = search needs in length-64 (c .before .before .before .before .self3 .given .0 .0) (f .fits)) in let l1 = (let f : Fits w64 (c .before .before .before .before .self3 .given .0 .1 .0) = search needs in length-64 (c .before .before .before .before .self3 .given .0 .1 .0) (f .fits)) in let l2 = (let f : Fits w64 (c .before .before .before .before .self3 .given .0 .1 .1 .0) = search needs in length-64 (c .before .before .before .before .self3 .given .0 .1 .1 .0) (f .fits)) in let e = c .before .before .varint-len4 .ensures in let g = c .before .varint-len5 .ensures in let h = c .varint-len6 .ensures in record { fits = omega arith }
+add-result-3 c = let l0 = (let f : Fits w64 (c .before .before .before .before .self3 .given .0 .0) = search needs in length-longest base (c .before .before .before .before .self3 .given .0 .0) (f .fits)) in let l1 = (let f : Fits w64 (c .before .before .before .before .self3 .given .0 .1 .0) = search needs in length-longest base (c .before .before .before .before .self3 .given .0 .1 .0) (f .fits)) in let l2 = (let f : Fits w64 (c .before .before .before .before .self3 .given .0 .1 .1 .0) = search needs in length-longest base (c .before .before .before .before .self3 .given .0 .1 .1 .0) (f .fits)) in let e = c .before .before .varint-len4 .ensures in let g = c .before .varint-len5 .ensures in let h = c .varint-len6 .ensures in record { fits = omega arith }
 
 returns-2 : tie.Need-returns-2
-returns-2 c = let l0 = (let f : Fits w64 (c .before .before .self .given .0 .0) = search needs in length-64 (c .before .before .self .given .0 .0) (f .fits)) in let e = c .varint-len .ensures in (e ∙ sym (ap (λ (o : Output). length (outputBytes o)) (c .before .before .self .given .1)), omega arith)
+returns-2 c = let l0 = (let f : Fits w64 (c .before .before .self .given .0 .0) = search needs in length-longest base (c .before .before .self .given .0 .0) (f .fits)) in let e = c .varint-len .ensures in (e ∙ sym (ap (λ (o : Output). length (outputBytes o)) (c .before .before .self .given .1)), omega arith)
 
 returns-3 : tie.Need-returns-3
-returns-3 c = let l0 = (let f : Fits w64 (c .before .before .before .self2 .given .0 .0) = search needs in length-64 (c .before .before .before .self2 .given .0 .0) (f .fits)) in let l1 = (let f : Fits w64 (c .before .before .before .self2 .given .0 .1 .0) = search needs in length-64 (c .before .before .before .self2 .given .0 .1 .0) (f .fits)) in let e = c .before .varint-len2 .ensures in let g = c .varint-len3 .ensures in let q = ap (λ (o : Output). length (outputBytes o)) (c .before .before .before .self2 .given .1) ∙ length-append (shortest (c .before .before .before .self2 .given .0 .0)) (shortest (c .before .before .before .self2 .given .0 .1 .0)) in (omega arith, omega arith)
+returns-3 c = let l0 = (let f : Fits w64 (c .before .before .before .self2 .given .0 .0) = search needs in length-longest base (c .before .before .before .self2 .given .0 .0) (f .fits)) in let l1 = (let f : Fits w64 (c .before .before .before .self2 .given .0 .1 .0) = search needs in length-longest base (c .before .before .before .self2 .given .0 .1 .0) (f .fits)) in let e = c .before .varint-len2 .ensures in let g = c .varint-len3 .ensures in let q = ap (λ (o : Output). length (outputBytes o)) (c .before .before .before .self2 .given .1) ∙ length-append (shortest (c .before .before .before .self2 .given .0 .0)) (shortest (c .before .before .before .self2 .given .0 .1 .0)) in (omega arith, omega arith)
 
 returns-4 : tie.Need-returns-4
-returns-4 c = let l0 = (let f : Fits w64 (c .before .before .before .before .self3 .given .0 .0) = search needs in length-64 (c .before .before .before .before .self3 .given .0 .0) (f .fits)) in let l1 = (let f : Fits w64 (c .before .before .before .before .self3 .given .0 .1 .0) = search needs in length-64 (c .before .before .before .before .self3 .given .0 .1 .0) (f .fits)) in let l2 = (let f : Fits w64 (c .before .before .before .before .self3 .given .0 .1 .1 .0) = search needs in length-64 (c .before .before .before .before .self3 .given .0 .1 .1 .0) (f .fits)) in let e = c .before .before .varint-len4 .ensures in let g = c .before .varint-len5 .ensures in let h = c .varint-len6 .ensures in let q = ap (λ (o : Output). length (outputBytes o)) (c .before .before .before .before .self3 .given .1) ∙ length-append (shortest (c .before .before .before .before .self3 .given .0 .0)) (shortest (c .before .before .before .before .self3 .given .0 .1 .0) ++ shortest (c .before .before .before .before .self3 .given .0 .1 .1 .0)) in let w = length-append (shortest (c .before .before .before .before .self3 .given .0 .1 .0)) (shortest (c .before .before .before .before .self3 .given .0 .1 .1 .0)) in (omega arith, omega arith)
+returns-4 c = let l0 = (let f : Fits w64 (c .before .before .before .before .self3 .given .0 .0) = search needs in length-longest base (c .before .before .before .before .self3 .given .0 .0) (f .fits)) in let l1 = (let f : Fits w64 (c .before .before .before .before .self3 .given .0 .1 .0) = search needs in length-longest base (c .before .before .before .before .self3 .given .0 .1 .0) (f .fits)) in let l2 = (let f : Fits w64 (c .before .before .before .before .self3 .given .0 .1 .1 .0) = search needs in length-longest base (c .before .before .before .before .self3 .given .0 .1 .1 .0) (f .fits)) in let e = c .before .before .varint-len4 .ensures in let g = c .before .varint-len5 .ensures in let h = c .varint-len6 .ensures in let q = ap (λ (o : Output). length (outputBytes o)) (c .before .before .before .before .self3 .given .1) ∙ length-append (shortest (c .before .before .before .before .self3 .given .0 .0)) (shortest (c .before .before .before .before .self3 .given .0 .1 .0) ++ shortest (c .before .before .before .before .self3 .given .0 .1 .1 .0)) in let w = length-append (shortest (c .before .before .before .before .self3 .given .0 .1 .0)) (shortest (c .before .before .before .before .self3 .given .0 .1 .1 .0)) in (omega arith, omega arith)
 
 returns-5 : tie.Need-returns-5
 returns-5 c = (sym (ap (λ (o : Output). length (outputBytes o)) (c .enum-told2 .given .1) ∙ length-low 4 _), omega arith)

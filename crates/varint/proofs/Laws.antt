@@ -4,7 +4,7 @@ use mathlib.Core.Path.{_≡_, refl, sym, ap, _∙_}
 use mathlib.Core.Bool.{Bool, true, false, _&&_}
 use Prim.Native.Nat.{ℕ, _+_, _/_, _*_, _^_, _<_, _≤_}
 use native.Mathlib.Omega.{arith}
-use lib.Dec.{leb, ltb, eqb, lit<, lit≤}
+use lib.Dec.{leb, ltb, eqb, lit<}
 use borrow.Author.Tests.{lt-leb, le-leb, leb-true, ltb-true, ltb-false, lt-ltb, le-ltb}
 use lib.Bits.{bitOr}
 use Rattle.layout.specs.Limits.{Limits, lastPlace, lastBound}

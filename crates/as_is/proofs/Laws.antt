@@ -14,7 +14,7 @@ use Rattle.layout.specs.Field.{each, bytesOf}
 use Rattle.layout.specs.Message.{All, Bytes}
 use Rattle.laws.proofs.Laws.{fit-base}
 use Rattle.machine.specs.Machine.{Phase, idle, firstOr, inUnsigned, inSigned, inFloat}
-use Rattle.machine.specs.Call.{State, reading}
+use Rattle.machine.specs.Calls.{State, reading}
 use Rattle.types.specs.Types.{width, floatType}
 use Rattle.types.specs.declared.FloatType.{FloatType}
 use Rattle.types.specs.declared.FloatType.the-variants as Floats
@@ -55,7 +55,7 @@ pub none-ahead : (s : IStream) (c : List ℕ) → soundStream base s ≡ true �
 none-ahead s c t l = record { few = omega arith; same = none-as-is base (stateOf s) (s .carried .depth); sound = t; live = l }
 
 -- whole fields
-pub fields-ahead : (d e n : ℕ) (c : List ℕ) → e ≤ base .depth → n ≤ length c → own.AsIs base d (take n c) e → Ahead (streamIn (reading d idle)) c n (streamIn (reading e idle))
+pub fields-ahead : (d e n : ℕ) (c : List ℕ) → e ≤ base .depth → n ≤ length c → own.OwnFields base d (take n c) e → Ahead (streamIn (reading d idle)) c n (streamIn (reading e idle))
 fields-ahead d e n c h few a =
     ahead (reading d idle) (reading e idle) c n few
     (subst (λ (bs : List ℕ). AsIs base (reading d idle) d bs (reading e idle) e) (sym (a .bytes)) (λ pos r b f. fields-as-is base fit-base (a .fields) d e pos r b (a .legal) (a .balanced) f))

@@ -6,7 +6,7 @@ ghost use Prim.Native.Nat.{_*_, _≤_, _<_};
 ghost use Rattle.layout.specs.Limits.{base};
 ghost use Rattle.layout.specs.Field.{bytesOf};
 ghost use Rattle.machine.specs.Machine.{inUnsigned, inSigned, inFloat, idle};
-ghost use Rattle.machine.specs.Call.{reading};
+ghost use Rattle.machine.specs.Calls.{reading};
 ghost use Rattle.types.specs.Types.{width};
 ghost use Rattle.phase.proofs.Phases.{Live};
 ghost use Rattle.istream.specs.Stream.{stateOf, streamIn, soundStream};

@@ -7,7 +7,7 @@ use native.Mathlib.Omega.{arith}
 use lib.ListN.{length, drop, length-drop}
 use borrow.Author.Tests.{leb-true, le-leb, eqb-true}
 use Rattle.layout.specs.Limits.{base}
-use Rattle.machine.specs.Call.{State, reading, owing, broke, fresh}
+use Rattle.machine.specs.Calls.{State, reading, owing, broke, fresh}
 use Rattle.types.specs.declared.Error.the-variants.{UnsoundReader, UnsoundWriter, InvalidMsg}
 use Rattle.istream.specs.declared.IStream.{IStream}
 use Rattle.phase.specs.declared.Phase as code
@@ -41,8 +41,8 @@ use Rattle.copier.specs.declared.Copier.{Copier}
 use Rattle.copier.specs.declared.Opening.{Opening}
 use Rattle.copier.specs.declared.Copied as results
 use Rattle.copier.specs.Copier.{copyOf, soundReader, soundWriter}
-use Rattle.copier.specs.Calls.{Said, leftBy, leftIn, untouched, copied, Opens, opensOf, opensIn, startedBy, started, sendsOf, Sent, drained, changed}
-use Rattle.copier.specs.Feeding.{refused, finished, leftWith, Ready}
+use Rattle.copier.specs.Calls.{Said, resultOf, resultIn, untouched, copied, Opens, opensOf, opensIn, startedBy, started, sendsOf, Sent, drained, changed}
+use Rattle.copier.specs.Feeding.{refused, finished, resultWith, Ready}
 use Rattle.copier.proofs.Tests.{sound-whole}
 
 -- ---- a sound copier
@@ -171,25 +171,25 @@ module _ (k : Copier) (c b : List ℕ) (h : k .reader .carried .depth ≤ base .
   sound-too : (t : Bool) → soundStream base (k .reader) ≡ t → soundReader (k .reader) ≡ t
   sound-too t e = reader-sound (k .reader) h ∙ e
 
-  pub feed-unsound : soundStream base (k .reader) ≡ false → leftBy (refused UnsoundReader k) b ≡ copied k c b
+  pub feed-unsound : soundStream base (k .reader) ≡ false → resultOf (refused UnsoundReader k) b ≡ copied k c b
   unfolding copied
   feed-unsound t = sym (unsound-reader _ _ _ (λ n. untouched n k b) _ (sound-too false t))
 
-  pub feed-unfit : soundStream base (k .reader) ≡ true → soundWriter k (length b) ≡ false → leftBy (refused UnsoundWriter k) b ≡ copied k c b
+  pub feed-unfit : soundStream base (k .reader) ≡ true → soundWriter k (length b) ≡ false → resultOf (refused UnsoundWriter k) b ≡ copied k c b
   unfolding copied
   feed-unfit t u = sym (unsound-writer _ _ _ (λ n. untouched n k b) _ (sound-too true t) u)
 
-  pub feed-broken : soundStream base (k .reader) ≡ true → soundWriter k (length b) ≡ true → isBroke (stateOf (k .reader)) ≡ true → leftBy (refused InvalidMsg k) b ≡ copied k c b
+  pub feed-broken : soundStream base (k .reader) ≡ true → soundWriter k (length b) ≡ true → isBroke (stateOf (k .reader)) ≡ true → resultOf (refused InvalidMsg k) b ≡ copied k c b
   unfolding copied
   feed-broken t u e = sym (broken-reader _ _ _ (λ n. untouched n k b) _ (sound-too true t) u e)
 
-  goes-on : soundStream base (k .reader) ≡ true → soundWriter k (length b) ≡ true → isBroke (stateOf (k .reader)) ≡ false → copied k c b ≡ leftIn k (copy base (copyOf k) c b)
+  goes-on : soundStream base (k .reader) ≡ true → soundWriter k (length b) ≡ true → isBroke (stateOf (k .reader)) ≡ false → copied k c b ≡ resultIn k (copy base (copyOf k) c b)
   unfolding copied
   goes-on t u e = none-refused _ _ _ (λ n. untouched n k b) _ (sound-too true t) u e
 
   pub feed-runs : soundStream base (k .reader) ≡ true → soundWriter k (length b) ≡ true → isBroke (stateOf (k .reader)) ≡ false → (t : Stop) (b′ : List ℕ) → Stops (copy base (copyOf k) c b) t b′ → (r : results.Copied) → r ≡ finished (k .writer) t
-      → leftBy r b′ ≡ copied k c b
-  feed-runs t u e s b′ q r i = ap (λ (x : results.Copied). leftBy x b′) i ∙ sym (goes-on t u e ∙ ap (leftWith (k .writer)) q)
+      → resultOf r b′ ≡ copied k c b
+  feed-runs t u e s b′ q r i = ap (λ (x : results.Copied). resultOf x b′) i ∙ sym (goes-on t u e ∙ ap (resultWith (k .writer)) q)
 
 -- ---- the other calls
 

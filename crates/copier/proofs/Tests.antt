@@ -7,7 +7,7 @@ use native.Mathlib.Omega.{arith}
 use types.Run.{OneOf, miss}
 use denote.Enum.Declared.{tagOf}
 use Rattle.layout.specs.Limits.{base}
-use Rattle.machine.specs.Call.{State, reading, owing, broke}
+use Rattle.machine.specs.Calls.{State, reading, owing, broke}
 use Rattle.istream.specs.declared.IStream.{IStream}
 use Rattle.phase.specs.declared.Phase as code
 use Rattle.phase.specs.declared.Phase.the-variants as phases
@@ -22,7 +22,7 @@ use Rattle.owed.proofs.Owed as owing-types
 use Rattle.copier.specs.declared.Copier.{Copier}
 use Rattle.copying.specs.Refusals.{isBroke}
 use Rattle.copying.proofs.Refusals.{with-held, with-unsound, with-owed}
-use Rattle.held.specs.Places.{soundWriter as soundPlaces}
+use Rattle.held.specs.Places.{soundFor}
 use Rattle.ostream.specs.Stream.{soundStream}
 use Rattle.copier.specs.Copier.{copyOf, soundWriter}
 
@@ -107,7 +107,7 @@ sound-whole k e = go (k .reader .phase) e
 
 module _ (k : Copier) (size : ℕ) where
   abbrev Places : Bool
-  Places = soundPlaces (k .writer .offset) (k .writer .depth) 0 (k .writer .pending) size
+  Places = soundFor (k .writer .offset) (k .writer .depth) 0 (k .writer .pending) size
 
   pub id-held : (k .writer .npending ≡ 0 → ⊥) → false ≡ soundWriter k size
   unfolding soundWriter
@@ -116,7 +116,7 @@ module _ (k : Copier) (size : ℕ) where
   -- a writer's own test, where it holds none
   places-is : k .writer .npending ≡ 0 → soundStream (k .writer) size ≡ Places
   unfolding soundStream
-  places-is e = ap (λ (n : ℕ). soundPlaces (k .writer .offset) (k .writer .depth) n (k .writer .pending) size) e
+  places-is e = ap (λ (n : ℕ). soundFor (k .writer .offset) (k .writer .depth) n (k .writer .pending) size) e
 
   pub unrested : k .writer .npending ≡ 0 → Places ≡ false → false ≡ soundWriter k size
   unfolding soundWriter

@@ -5,7 +5,7 @@ use mathlib.Core.List.{List}
 use lib.ListN.{length}
 use Rattle.layout.specs.Limits.{base}
 use Rattle.types.specs.Types.{numberOf}
-use Rattle.machine.specs.Call.{fresh}
+use Rattle.machine.specs.Calls.{fresh}
 use Rattle.istream.specs.Stream.{stateOf, streamIn}
 use Rattle.ostream.specs.declared.OStream.{OStream}
 use Rattle.ostream.specs.declared.Answer as written
@@ -29,26 +29,26 @@ use Rattle.copier.specs.Copier.{copyOf, copierIn, soundReader, soundWrit
 -- ---- feeding
 
 -- What a call uses of the chunk, says and leaves.
-pub record Left : Type 0 where
+pub record Result : Type 0 where
   pub used : ℕ
   pub said : Said
   pub copier : Copier
   pub buf : List ℕ
 
--- the same of the code's result, and of the buffer as the call leaves it
-abbrev pub leftBy : Copied → List ℕ → Left
-leftBy r b = record { used = r .used; said = saidOf (r .answer); copier = r .copier; buf = b }
+-- the code's result and the buffer as the call leaves it, as such a record
+abbrev pub resultOf : Copied → List ℕ → Result
+resultOf r b = record { used = r .used; said = saidOf (r .answer); copier = r .copier; buf = b }
 
 -- "on 1 and 6 nothing is read", and nothing alters
-abbrev pub untouched : ℕ → Copier → List ℕ → Left
+abbrev pub untouched : ℕ → Copier → List ℕ → Result
 untouched n k b = record { used = 0; said = Said.number n; copier = k; buf = b }
 
-abbrev pub leftIn : Copier → copying.Copied → Left
-leftIn k r = record { used = r .used; said = saidIn (r .answer); copier = copierIn (k .writer) (r .copy); buf = r .buf }
+abbrev pub resultIn : Copier → copying.Copied → Result
+resultIn k r = record { used = r .used; said = saidIn (r .answer); copier = copierIn (k .writer) (r .copy); buf = r .buf }
 
 -- The refusals in their order, and else the call. "Each later call, an empty chunk too, gives 2 with nothing read."
-unfoldable pub copied : Copier → List ℕ → List ℕ → Left
-copied k c b = refusing (soundReader (k .reader)) (soundWriter k (length b)) (isBroke (stateOf (k .reader))) (λ n. untouched n k b) (leftIn k (copy base (copyOf k) c b))
+unfoldable pub copied : Copier → List ℕ → List ℕ → Result
+copied k c b = refusing (soundReader (k .reader)) (soundWriter k (length b)) (isBroke (stateOf (k .reader))) (λ n. untouched n k b) (resultIn k (copy base (copyOf k) c b))
 
 -- ---- opening, draining, changing the buffer: a drained writer's, and its refusals alone
 
@@ -100,7 +100,7 @@ sentBy r = record { sends = sendsOf (r .answer); copier = r .copier }
 abbrev pub over : Copier → OStream → Copier
 over k w = record { reader = k .reader; writer = w; owed = k .owed; place = k .place }
 
--- "A drain sends the bytes below the position and lends the buffer anew at offset 0."
+-- "A drain sends the bytes below the position and lends the buffer anew at offset 0".
 unfoldable pub drained : Copier → ℕ → Sent
 drained k size = let r = draining (k .writer) size in record { sends = sendsOf (r .answer); copier = over k (r .stream) }
 

@@ -2,7 +2,7 @@
 use Prim.Native.Nat.{ℕ}
 use mathlib.Core.Bool.{Bool, true, _&&_}
 use Rattle.layout.specs.Limits.{base}
-use Rattle.machine.specs.Call.{reading, owing, broke}
+use Rattle.machine.specs.Calls.{reading, owing, broke}
 use Rattle.istream.specs.declared.IStream.{IStream}
 use Rattle.istream.specs.Stream as reader
 use Rattle.istream.specs.Stream.{stateOf, streamIn}
@@ -27,7 +27,7 @@ copierIn w k = record { reader = streamIn (k .reader); writer = moved w (k .pos)
 
 -- ---- sound
 
--- Number 1. "A broken reader has no number in force."
+-- Number 1. "A broken reader has no number in force".
 abbrev pub soundReader : IStream → Bool
 soundReader s = elim (stateOf s) [ reading d p ↦ reader.soundStream base s | owing d id r ↦ reader.soundStream base s | broke ↦ true ]
 

@@ -13,7 +13,7 @@ use Rattle.turns.specs.Turns.{Ended}
 use Rattle.copier.specs.declared.Copier.{Copier}
 use Rattle.copier.specs.declared.Copied.{Copied}
 use Rattle.copier.specs.Copier.{moved, soundWriter}
-use Rattle.copier.specs.Calls.{Left}
+use Rattle.copier.specs.Calls.{Result}
 
 abbrev pub refused : Error → Copier → Copied
 refused e k = record { used = 0; answer = Refused e; copier = k }
@@ -22,9 +22,9 @@ refused e k = record { used = 0; answer = Refused e; copier = k }
 abbrev pub finished : OStream → Stop → Copied
 finished w s = record { used = s .used; answer = s .answer; copier = record { reader = s .reader; writer = moved w (s .pos) (s .depth); owed = s .owed; place = s .place } }
 
--- the same of what the definition's call leaves
-abbrev pub leftWith : OStream → Ended → Left
-leftWith w r = record { used = r .used; said = r .said; copier = record { reader = r .reader; writer = moved w (r .pos) (r .depth); owed = r .owed; place = r .place }; buf = r .buf }
+-- what the definition's call comes to, with the writer's places
+abbrev pub resultWith : OStream → Ended → Result
+resultWith w r = record { used = r .used; said = r .said; copier = record { reader = r .reader; writer = moved w (r .pos) (r .depth); owed = r .owed; place = r .place }; buf = r .buf }
 
 -- a copier that is sound for a buffer of this size, and whose reader goes on
 abbrev pub Ready : Copier → ℕ → Type 0

@@ -6,13 +6,13 @@ ghost use lib.ListN.{length};
 ghost use Rattle.copying.specs.Owed.{owesNothing};
 ghost use Rattle.copying.specs.Refusals.{isBroke};
 ghost use Rattle.istream.specs.Stream.{stateOf};
-ghost use Rattle.held.specs.Places.{soundWriter as soundPlaces};
+ghost use Rattle.held.specs.Places.{soundFor};
 ghost use Rattle.owed.specs.Owed.{owedOf};
 ghost use Rattle.layout.specs.Limits.{base};
 ghost use Rattle.copying.specs.Copy.{copy};
 ghost use Rattle.turns.specs.Turns.{Stops};
 ghost use Rattle.copier.specs.Copier.{soundWriter, copyOf};
-ghost use Rattle.copier.specs.Calls.{leftBy, copied, opensOf, opensIn, startedBy, started, sentBy, drained, changed};
+ghost use Rattle.copier.specs.Calls.{resultOf, copied, opensOf, opensIn, startedBy, started, sentBy, drained, changed};
 ghost use Rattle.copier.specs.Feeding.{refused, finished, Ready};
 use istream::IStream;
 use ostream::Count;
@@ -84,7 +84,7 @@ fn sum(a: u32, b: u32, c: u32, d: u32) -> u64
 // Whether a writer that holds no id is sound for a buffer of this size. The places are looked at together: one by one they would be a good
 // part of a short call.
 fn is_rested(offset: usize, depth: u16, places: [u32; 8], size: usize) -> bool
-    ensures { λ r. ⌜ r ≡ soundPlaces offset depth 0 places size ⌝ }
+    ensures { λ r. ⌜ r ≡ soundFor offset depth 0 places size ⌝ }
 {
     if size < offset {
         return false;
@@ -196,7 +196,7 @@ impl Copier {
 
     // Reads the chunk event by event and writes each out again, until the buffer is full, the chunk is spent or the message is broken.
     pub fn feed(self, chunk: &[u8], buf: &mut [u8]) -> Copied
-        ensures { λ r. ⌜ leftBy r (now (buf .exit)) ≡ copied self (now (chunk .entry)) (now (buf .entry)) ⌝ }
+        ensures { λ r. ⌜ resultOf r (now (buf .exit)) ≡ copied self (now (chunk .entry)) (now (buf .entry)) ⌝ }
     {
         let reader = self.reader;
         if !reader.sound() {
@@ -212,7 +212,7 @@ impl Copier {
         finish(writer, self.carry(chunk, buf))
     }
 
-    // The same of a sound copier whose reader goes on: what is owed goes out first.
+    // The call of a sound copier whose reader goes on: what is owed goes out first.
     fn carry(self, chunk: &[u8], buf: &mut [u8]) -> Stop
         requires { ⌜ Ready self (length (now buf)) ⌝ }
         ensures { λ r. ⌜ Stops (copy base (copyOf self) (now (chunk .entry)) (now (buf .entry))) r (now (buf .exit)) ⌝ }

@@ -11,7 +11,7 @@ use Rattle.layout.specs.Message.{All, Bytes, complete, verdictOf, eventsOf}
 use Rattle.layout.specs.Copy.{plainCopy}
 use Rattle.laws.specs.Events.{encodeEvents}
 use Rattle.laws.proofs.Laws.{fit-base, complete-iff, copy-bytes, copy-complete, copy-events, copy-again, copy-of-events, exactly-when, shortest-copy}
-use Rattle.machine.specs.Call.{standingOf}
+use Rattle.machine.specs.Calls.{standingOf}
 use Rattle.machine.specs.Run.{join, heardOf}
 use Rattle.machine.proofs.Runs.{joined-injective}
 use Rattle.reading.proofs.Feeds.{feeds-read, feeds-joined, feeds-last}

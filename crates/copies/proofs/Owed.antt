@@ -10,7 +10,7 @@ use Rattle.layout.specs.Limits.{base}
 use Rattle.layout.specs.Field.{Width, fp32, fp64, bytesOf, float, raw, string, blob, unsigneds, signeds, floats}
 use Rattle.layout.specs.Event.{Event, Unsigned, Signed, Float, Piece, Fixlen, Array, Begin, End}
 use Rattle.laws.specs.Events.{eventBytes}
-use Rattle.machine.specs.Call.{State, reading, owing, broke}
+use Rattle.machine.specs.Calls.{State, reading, owing, broke}
 use Rattle.copying.specs.Owed.{Owed, nothing, owes, rest, legal, level, agrees, soundOwed}
 use Rattle.copying.proofs.Sound.{both}
 use Rattle.copier.specs.Copier.{owedOf, owe, owedIn, placeIn}

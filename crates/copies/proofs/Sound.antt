@@ -12,9 +12,9 @@ use lib.ListN.{length}
 use Rattle.layout.specs.Limits.{base}
 use Rattle.layout.specs.Message.{Bytes}
 use Rattle.machine.specs.Machine.{inHeader, inUnsigned, inSigned, inWord, inUnsignedCount, inSignedCount, inFloatCount, inArrayWord, inFloat, inPayload}
-use Rattle.machine.specs.Call.{State, reading, owing, broke, fresh}
-use Rattle.machine.specs.Run.{placeOf}
-use Rattle.machine.proofs.Calls.{FairPlace}
+use Rattle.machine.specs.Calls.{State, reading, owing, broke, fresh}
+use Rattle.machine.specs.Run.{spotOf}
+use Rattle.machine.proofs.Calls.{FairSpot}
 use Rattle.istream.specs.declared.IStream.{IStream}
 use Rattle.istream.specs.Stream as reader
 use Rattle.istream.specs.Stream.{stateOf, streamIn}
@@ -26,8 +26,8 @@ use Rattle.ostream.specs.declared.Counted.{Counted}
 use Rattle.ostream.specs.declared.Written.{Written}
 use Rattle.ostream.specs.Stream as writer
 use Rattle.ostream.specs.Stream.{at, opened}
-use Rattle.ostream.proofs.Called as writers
-use Rattle.ostream.proofs.Straight.{quiet}
+use Rattle.ostream.proofs.Calls as writers
+use Rattle.ostream.proofs.AtOnce.{quiet}
 use Rattle.ostream.proofs.Buffers.{sound-at, opened-sound, unheld-clean, drained-is, drain-refused, fits, open-taken, open-refused, change-refused, change-unsound, change-taken}
 use Rattle.copying.specs.Owed.{agrees, soundOwed}
 use Rattle.copying.specs.Copy as copying
@@ -41,7 +41,7 @@ use Rattle.copying.proofs.Reader.{copy-reader}
 use Rattle.reading.proofs.Feeds.{call-sound}
 use Rattle.copier.specs.declared.Copier.{Copier}
 use Rattle.copier.specs.Copier.{owedOf, owedIn, placeIn, copyOf, moved, copierIn, soundReader, soundWriter, soundCopier}
-use Rattle.copier.specs.Calls.{Said, full, verdict, Left, untouched, saidIn, leftIn, copied, Opens, taken, Started, opensIn, freshOver, started, Sends, bytes, sendsOf, Sent, over, drained, changed}
+use Rattle.copier.specs.Calls.{Said, full, verdict, Result, untouched, saidIn, resultIn, copied, Opens, taken, Started, opensIn, freshOver, started, Sends, bytes, sendsOf, Sent, over, drained, changed}
 use Rattle.copier.specs.Calls as calls
 use Rattle.copies.specs.Desk.{saidNumber, sendsNumber, Stray, feeds, drains, changes, opens, handedBack, refusedWith}
 use Rattle.copies.proofs.Owed.{owed-back}
@@ -92,7 +92,7 @@ make k size r w n o = record { tested = r; tests = with-owed base (writer.soundS
 -- ---- feeding
 
 -- what the layout's limits ask of a reader's state, of a sound one
-fair : (st : State) → SoundState base st → InForce base st × FairPlace (placeOf st)
+fair : (st : State) → SoundState base st → InForce base st × FairSpot (spotOf st)
 fair (reading d (inHeader zero v)) (l, s) = ((l, tt), omega (arith, s .small))
 fair (reading d (inHeader (suc k) v)) (l, s) = ((l, tt), tt)
 fair (reading d (inUnsigned id left k v)) (l, (i, (c, s))) = ((l, (i, c)), tt)
@@ -132,7 +132,7 @@ pub on-broken : (k : Copier) (c b : List ℕ) → Sound k (length b) → stateOf
 unfolding copied
 on-broken k c b s e = broken-reader _ _ _ (λ n. untouched n k b) _ (s .tested) (s .tests) (ap isBroke e)
 
-pub on-live : (k : Copier) (c b : List ℕ) → Sound k (length b) → Live (stateOf (k .reader)) → copied k c b ≡ leftIn k (copy base (copyOf k) c b)
+pub on-live : (k : Copier) (c b : List ℕ) → Sound k (length b) → Live (stateOf (k .reader)) → copied k c b ≡ resultIn k (copy base (copyOf k) c b)
 unfolding copied
 on-live k c b s l = none-refused _ _ _ (λ n. untouched n k b) _ (s .tested) (s .tests) (go (stateOf (k .reader)) l)
   where
@@ -142,7 +142,7 @@ on-live k c b s l = none-refused _ _ _ (λ n. untouched n k b) _ (s .tested) (s 
     go broke l = absurd l
 
 -- Every feed hands back a sound copier, and a buffer of the same length.
-abbrev Stays : ℕ → Left → Type 0
+abbrev Stays : ℕ → Result → Type 0
 Stays size r = Sound (r .copier) size × (length (r .buf) ≡ size)
 
 live-stays : (k : Copier) (c b : List ℕ) → Bytes c → Sound k (length b) → Live (stateOf (k .reader)) → Stays (length b) (copied k c b)
@@ -187,7 +187,7 @@ unfolding changed
 change-not k old new offset l s =
     ap (λ (r : Counted). record { sends = sendsOf (r .answer); copier = over k (r .stream) }) (change-unsound (k .writer) old new offset true (fits new offset true l) s)
 
--- the same copier, at another position of another buffer
+-- a sound copier is sound at another position of another buffer
 pub moved-sound : (k : Copier) (size p q : ℕ) → Sound k size → p ≤ q → Sound (over k (at (k .writer) p)) q
 moved-sound k size p q s l = make (over k (at (k .writer) p)) q (s .tested) (sound-at (k .writer) size p q (s .writer) l) (s .unheld) (s .owed)
 
@@ -216,7 +216,7 @@ fresh-sound : (size offset : ℕ) → offset ≤ size → Sound (freshOver (open
 unfolding opened soundOwed agrees
 fresh-sound size offset l = make (freshOver (opened offset)) size (is-reader fresh (readers.is-sound base (streamIn fresh) (readers.fresh-sound base))) (opened-sound offset size l) refl refl
 
--- "A fresh copier is sound"; where its opening is refused, for any buffer, since it stands at 0.
+-- A fresh copier is sound; where its opening is refused, for any buffer, since it stands at 0.
 pub started-sound : (size offset : ℕ) → soundCopier (started size offset .copier) size ≡ true
 started-sound size offset = go (leb size offset) refl
   where
@@ -237,8 +237,8 @@ on-unfit : (k : Copier) (c b : List ℕ) → soundReader (k .reader) ≡ true �
 unfolding copied
 on-unfit k c b e f = unsound-writer _ _ _ (λ n. untouched n k b) _ e f
 
-by-tests : (k : Copier) (c b : List ℕ) (P : Left → Type 0) → P (untouched 1 k b) → P (untouched 6 k b) → P (untouched 2 k b)
-    → (Sound k (length b) → P (leftIn k (copy base (copyOf k) c b))) → P (copied k c b)
+by-tests : (k : Copier) (c b : List ℕ) (P : Result → Type 0) → P (untouched 1 k b) → P (untouched 6 k b) → P (untouched 2 k b)
+    → (Sound k (length b) → P (resultIn k (copy base (copyOf k) c b))) → P (copied k c b)
 by-tests k c b P one six two live = go (soundReader (k .reader)) refl (soundWriter k (length b)) refl
   where
     go : (t : Bool) → soundReader (k .reader) ≡ t → (u : Bool) → soundWriter k (length b) ≡ u → P (copied k c b)
@@ -253,7 +253,7 @@ by-tests k c b P one six two live = go (soundReader (k .reader)) refl (soundWrit
         by-state (reading d p) q s = subst P (sym (on-live k c b s (subst Live (sym q) tt))) (live s)
         by-state (owing d id r) q s = subst P (sym (on-live k c b s (subst Live (sym q) tt))) (live s)
 
-abbrev Refuses : Copier → List ℕ → Left → Type 0
+abbrev Refuses : Copier → List ℕ → Result → Type 0
 Refuses k b r = (n : ℕ) → r .said ≡ calls.Said.number n → ((n ≡ 1) ⊎ ((n ≡ 6) ⊎ (n ≡ 2))) × ((n ≡ 1) ⊎ (n ≡ 6) → r ≡ untouched n k b)
 
 same-number : {m n : ℕ} → calls.Said.number m ≡ calls.Said.number n → m ≡ n
@@ -263,17 +263,18 @@ two-is : {A : Type 0} (n : ℕ) → 2 ≡ n → (n ≡ 1) ⊎ (n ≡ 6) → A
 two-is n e (inl f) = absurd (omega arith)
 two-is n e (inr f) = absurd (omega arith)
 
-refuses-live : (k : Copier) (c b : List ℕ) → Sound k (length b) → Refuses k b (leftIn k (copy base (copyOf k) c b))
+refuses-live : (k : Copier) (c b : List ℕ) → Sound k (length b) → Refuses k b (resultIn k (copy base (copyOf k) c b))
 refuses-live k c b s n = go (copy base (copyOf k) c b .answer) (copy-sound base (copyOf k) c b (counted-sound k (length b) s) (inside k (length b) s) .ends)
   where
-    go : (a : copying.Answer) → (a ≡ copying.unfinished → ⊥) → saidIn a ≡ calls.Said.number n
-        → ((n ≡ 1) ⊎ ((n ≡ 6) ⊎ (n ≡ 2))) × ((n ≡ 1) ⊎ (n ≡ 6) → leftIn k (copy base (copyOf k) c b) ≡ untouched n k b)
+    go : (a : copying.Said) → (a ≡ copying.unfinished → ⊥) → saidIn a ≡ calls.Said.number n
+        → ((n ≡ 1) ⊎ ((n ≡ 6) ⊎ (n ≡ 2))) × ((n ≡ 1) ⊎ (n ≡ 6) → resultIn k (copy base (copyOf k) c b) ≡ untouched n k b)
     go copying.full u e = let z : _≡_ {A = ℕ} 0 1 = cc in absurd (omega arith)
     go (copying.verdict v) u e = let z : _≡_ {A = ℕ} 0 1 = cc in absurd (omega arith)
     go copying.invalid u e = let m = same-number e in (inr (inr (sym m)), λ f. two-is n m f)
     go copying.unfinished u e = absurd (u refl)
 
--- "The copier gives 1, then 6, then 2, and no others; on 1 and 6 nothing is read", and nothing alters. A call never runs out of turns.
+-- "The copier gives 1, then 6 (also where its own conditions above fail), then 2, and no others; on 1 and 6 nothing is read", and nothing
+-- alters. A call never runs out of turns.
 pub refusals : (k : Copier) (c b : List ℕ) (n : ℕ) → copied k c b .said ≡ calls.Said.number n
     → ((n ≡ 1) ⊎ ((n ≡ 6) ⊎ (n ≡ 2))) × ((n ≡ 1) ⊎ (n ≡ 6) → copied k c b ≡ untouched n k b)
 refusals k c b =
@@ -295,7 +296,7 @@ neither n l (inr e) = absurd (omega arith)
 feed-back : (k : Copier) (c b : List ℕ) → FiveOrSix (saidNumber (copied k c b .said)) → copied k c b .copier ≡ k
 feed-back k c b = by-tests k c b (λ r. FiveOrSix (saidNumber (r .said)) → r .copier ≡ k) (λ f. refl) (λ f. refl) (λ f. refl) (λ s. go (copy base (copyOf k) c b .answer))
   where
-    go : (a : copying.Answer) → FiveOrSix (saidNumber (saidIn a)) → copierIn (k .writer) (copy base (copyOf k) c b .copy) ≡ k
+    go : (a : copying.Said) → FiveOrSix (saidNumber (saidIn a)) → copierIn (k .writer) (copy base (copyOf k) c b .copy) ≡ k
     go copying.full f = neither 0 (omega arith) f
     go (copying.verdict v) f = neither 0 (omega arith) f
     go copying.invalid f = neither 2 (omega arith) f

@@ -9,8 +9,8 @@ use Rattle.layout.specs.Varint.{push, shortestIn, shortest}
 use Rattle.layout.specs.Field.{lowBytes}
 use Rattle.layout.specs.Message.{complete, incomplete}
 use Rattle.laws.specs.Events.{eventBytes}
-use Rattle.machine.specs.Machine.{atHeader, atWord, atUnsignedCount, atSignedCount, atFloatCount, atArrayWord, atUnsigned, atSigned, within, atFloat, atByte, step, ending, judge}
-use Rattle.machine.specs.Call.{broke, scanned, scan, call}
+use Rattle.machine.specs.Machine.{atHeader, atWord, atUnsignedCount, atSignedCount, atFloatCount, atArrayWord, atUnsigned, atSigned, within, atFloat, atByte, step, ending, verdictAfter}
+use Rattle.machine.specs.Calls.{broke, scanned, scan, call}
 use Rattle.machine.specs.Run.{Heard, status}
 use Rattle.emit.specs.Put.{over, put, reached}
 use Rattle.varint.specs.Varint.{soundAcc}
@@ -67,7 +67,7 @@ pub worked : row schedule (start (0xEE ∷ []) chunks)
       drains = 3;
       numbers = 6 ∷ 6 ∷ 6 ∷ 5 ∷ 5 ∷ 5 ∷ [];
     }
-unfolding acts act numbers feeding copied refusing soundWriter soundWith started drained changed opening draining changing writer.opened writer.soundStream writer.every reader.soundStream soundAcc soundOwed agrees level legal copy copies heard handed stuck rest further depthBy depthOnce dueIn eventBytes over put reached call scan scanned step within atHeader atWord atUnsignedCount atSignedCount atFloatCount atArrayWord atUnsigned atSigned atFloat atByte ending judge push shortest shortestIn lowBytes
+unfolding acts act numbers feeding copied refusing soundWriter soundWith started drained changed opening draining changing writer.opened writer.soundStream writer.every reader.soundStream soundAcc soundOwed agrees level legal copy copies heard handed stuck rest further depthBy depthOnce dueIn eventBytes over put reached call scan scanned step within atHeader atWord atUnsignedCount atSignedCount atFloatCount atArrayWord atUnsigned atSigned atFloat atByte ending verdictAfter push shortest shortestIn lowBytes
 worked = refl
 
 -- a copier with nothing owed, its writer at this position
@@ -91,7 +91,7 @@ holding =
       place = 0;
     }
 
--- "The copier gives 1, then 6, then 2", over a buffer of one byte: an unsound reader and a broken one, with the writer beyond the buffer and
+-- The copier gives 1, then 6, then 2, over a buffer of one byte: an unsound reader and a broken one, with the writer beyond the buffer and
 -- within it; and 6 for an id held
 pub worked-refusals : refused (at wild 2) ∷ refused (at wild 0) ∷ refused (at (streamIn broke) 2) ∷ refused (at (streamIn broke) 0) ∷ refused holding ∷ []
     ≡ 1 ∷ 1 ∷ 6 ∷ 2 ∷ 6 ∷ []

@@ -10,8 +10,8 @@ use Rattle.layout.specs.Limits.{base}
 use Rattle.layout.specs.Event.{Event, joined}
 use Rattle.layout.specs.Message.{Bytes, Complete, complete, eventsOf}
 use Rattle.layout.specs.Copy.{plainCopy}
-use Rattle.machine.specs.Call.{fresh, standing}
-use Rattle.machine.specs.Call as calls
+use Rattle.machine.specs.Calls.{fresh, standing}
+use Rattle.machine.specs.Calls as calls
 use Rattle.machine.specs.Run.{join, verdictsOf, status, heardAll, lastHeard}
 use Rattle.istream.specs.Stream.{stateOf, streamIn}
 use Rattle.reading.specs.Feeds.{feedAll}
@@ -67,7 +67,7 @@ pub record Demand : Type 0 where
   pub says : (T : List ℕ) → Whole T → (r : Run T) → after r .heard ≡ heardAll (verdictsOf base [] (r .chunks))
   -- "Then the bytes sent, the manifest M, equal the plain copy of T that 01 defines, so they are the same for all cuts, buffers and drains."
   pub copies : (T : List ℕ) → Whole T → (r : Run T) → output r ≡ plainCopy base T
-  -- "T and M, in whatever chunks, are read as complete with the same events;"
+  -- "T and M, in whatever chunks, are read as complete with the same events (payload pieces joined, floats compared by bits);"
   pub reads : (T : List ℕ) → Whole T → (r : Run T) (cs : List (List ℕ)) → (join cs ≡ T) ⊎ (join cs ≡ output r) → ReadAs cs (events T)
   -- "M's own manifest is M;"
   pub again : (T : List ℕ) → Whole T → (r : Run T) (s : Run (output r)) → output s ≡ output r

@@ -1,23 +1,23 @@
 // The reference reader, the Rust's istream.rs: a machine on bytes whose state is taken and handed back by value.
 // A call reads on to the next event and stops there, or gives the verdict once the chunk is spent. No byte is copied or held: a piece of
 // a payload is its bounds in the chunk.
-// The state and the calls that users make are here; what a call does where nothing stands whole in the chunk is in `plain`.
-mod plain;
+// The state and the calls that users make are here; what a call does where nothing stands whole in the chunk is in `slowly`.
+mod slowly;
 
 ghost use mathlib.Core.Path.{_≡_};
 ghost use Rattle.layout.specs.Limits.{base};
-ghost use Rattle.machine.specs.Call.{fresh};
+ghost use Rattle.machine.specs.Calls.{fresh};
 ghost use Rattle.istream.specs.Stream.{streamIn, soundStream, statusOf, fedAt, fedOf, takenOf};
-use crate::plain::again;
-use crate::plain::payload;
-use at_once::Quick;
-use at_once::at_once;
+use crate::slowly::feed_out_of_line;
+use crate::slowly::payload;
 use event::Event;
 use phase::Carried;
 use phase::Phase;
 use phase::idle;
 use phase::sound;
 use phase::sound_payload;
+use read_at_once::Once;
+use read_at_once::at_once;
 use types::Error;
 
 // What is under way, and what goes along with it.
@@ -125,8 +125,8 @@ impl IStream {
         }
         let other = self.phase;
         let q = at_once(carried, other, chunk);
-        let Quick::Done(p, k, e, n) = q else {
-            return again(self, chunk);
+        let Once::Done(p, k, e, n) = q else {
+            return feed_out_of_line(self, chunk);
         };
         answered(n, Answer::Event(e), p, k)
     }

@@ -17,9 +17,9 @@ use Rattle.layout.specs.Field.{T-unsigned, T-signed, T-fixlen, T-unsigneds, T-s
 use Rattle.layout.specs.Event.{Event, Unsigned, Signed, Float, Piece, Fixlen, Array, Begin, End}
 use Rattle.machine.specs.Machine.{Phase, inHeader, inUnsigned, inSigned, inWord, inUnsignedCount, inSignedCount, inFloatCount, inArrayWord, inFloat, inPayload}
 use Rattle.machine.specs.Machine.{Stepped, on, bad, atWire, atHeader, atPayload, atSubtype, atWord, atUnsignedCount, atSignedCount, atFloatCount, atElement, atArrayWord, atUnsigned, atSigned, atFloat, within, step}
-use Rattle.machine.specs.Call.{State, reading, owing, broke, Answer, event, verdict, invalid, Called, paceOf, byte, raisedState, scanned, scan, call}
-use Rattle.machine.specs.Run.{placeOf}
-use Rattle.machine.proofs.Calls.{FairPlace}
+use Rattle.machine.specs.Calls.{State, reading, owing, broke, Said, event, verdict, invalid, Called, paceOf, byte, raisedState, scanned, scan, call}
+use Rattle.machine.specs.Run.{spotOf}
+use Rattle.machine.proofs.Calls.{FairSpot}
 use Rattle.istream.specs.declared.IStream.{IStream}
 use Rattle.phase.specs.declared.Phase as code
 use Rattle.phase.specs.declared.Phase.the-variants as phases
@@ -99,7 +99,7 @@ level-step L d (inPayload id r total o) b i = let z : _≡_ {A = ℕ} 0 1 = cc i
 -- ---- a call
 
 -- at an event: the writer's depth after it is the reader's, it is written as what is owed of it, and the reader goes on
-abbrev pub AtEvent : ℕ → Answer → State → Type 0
+abbrev pub AtEvent : ℕ → Said → State → Type 0
 AtEvent d (event e) s = (depthBy d e ≡ streamIn s .carried .depth) × (Spelt e × Live s)
 AtEvent d (verdict v) s = Unit {0}
 AtEvent d invalid s = Unit {0}
@@ -167,7 +167,7 @@ steady s t l h = go (s .carried .depth) (s .phase) (is-sound base s t) l h
     go d phases.Broken s l h = absurd l
 
 -- a sound state is within its payload or float
-pub fair : (st : State) → SoundState base st → FairPlace (placeOf st)
+pub fair : (st : State) → SoundState base st → FairSpot (spotOf st)
 fair (reading d (inHeader zero v)) (n, s) = let h = s .small in omega arith
 fair (reading d (inHeader (suc k) v)) s = tt
 fair (reading d (inUnsigned id left k v)) s = tt

@@ -12,11 +12,11 @@ use borrow.Author.Tests.{ltb-true, ltb-false, lt-ltb, le-ltb}
 use Rattle.layout.specs.Limits.{base, pick}
 use Rattle.layout.specs.Event.{Piece}
 use Rattle.layout.specs.Message.{incomplete}
-use Rattle.machine.specs.Machine.{inPayload, judge, ending}
-use Rattle.machine.specs.Call.{State, reading, Called, piece, scan, call}
+use Rattle.machine.specs.Machine.{inPayload, verdictAfter, ending}
+use Rattle.machine.specs.Calls.{State, reading, Called, piece, scan, call}
 use Rattle.machine.specs.Machine.{idle}
-use Rattle.machine.specs.Run.{placeOf}
-use Rattle.machine.proofs.Calls.{FairPlace}
+use Rattle.machine.specs.Run.{spotOf}
+use Rattle.machine.proofs.Calls.{FairSpot}
 use Rattle.types.specs.Types.{rawSort}
 use Rattle.types.specs.declared.RawType.{RawType}
 use Rattle.varint.proofs.Laws.{sound-start}
@@ -61,7 +61,7 @@ module _ (d id : ℕ) (r : RawType) (total o pos : ℕ) (b : List ℕ) (h : pos 
 
   -- "an empty chunk"
   no-bytes : o < total → Turned at pos [] b (turns.Stop (pause d 0 (Status Incomplete) at pos)) b
-  unfolding stuck heard call scan judge ending
+  unfolding stuck heard call scan verdictAfter ending
   no-bytes f =
       let k = standing at pos in
       let room = length b - pos in
@@ -111,7 +111,7 @@ module _ (d id : ℕ) (r : RawType) (total o pos : ℕ) (b : List ℕ) (h : pos 
     some-go =
         let c = x ∷ xs in
         let k = standing at pos in
-        let f : FairPlace (placeOf stands) = fair stands s in
+        let f : FairSpot (spotOf stands) = fair stands s in
         let ev = Piece id (rawSort r) total o (take part (take (suc m) c)) in
         let q = subst (λ (y : Called). copy base k c b ≡ heard k c b y (λ e. copy base (gone k (y .state) (owes (dueIn stands) e 0)) (drop (y .read) c) b)) gives (copy-turn base k c b f refl free) in
         let hd = subst (λ (y : Called). Heard base stands c y) gives (turn-heard base stands (length b - pos) c f free) in

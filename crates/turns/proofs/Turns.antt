@@ -12,11 +12,11 @@ use borrow.Author.Tests.{leb-true, leb-false}
 use Rattle.layout.specs.Limits.{base, pick}
 use Rattle.layout.specs.Event.{Event}
 use Rattle.layout.specs.Message.{Verdict, complete, incomplete}
-use Rattle.machine.specs.Machine.{Phase, inHeader, inUnsigned, inSigned, inWord, inUnsignedCount, inSignedCount, inFloatCount, inArrayWord, inFloat, inPayload, judge, ending}
-use Rattle.machine.specs.Call as calls
-use Rattle.machine.specs.Call.{State, reading, owing, broke, Called, event, verdict, invalid, verdictAt, Pace, byte, bulk, call}
-use Rattle.machine.specs.Run.{placeOf}
-use Rattle.machine.proofs.Calls.{FairPlace, weight, light, Judged, Closes}
+use Rattle.machine.specs.Machine.{Phase, inHeader, inUnsigned, inSigned, inWord, inUnsignedCount, inSignedCount, inFloatCount, inArrayWord, inFloat, inPayload, verdictAfter, ending}
+use Rattle.machine.specs.Calls as calls
+use Rattle.machine.specs.Calls.{State, reading, owing, broke, Called, event, verdict, invalid, verdictAt, Pace, byte, bulk, call}
+use Rattle.machine.specs.Run.{spotOf}
+use Rattle.machine.proofs.Calls.{FairSpot, weight, light, Judged, Closes}
 use Rattle.event.specs.Event.{declared}
 use Rattle.event.proofs.Laws.{declared-back}
 use Rattle.istream.specs.declared.IStream.{IStream}
@@ -72,7 +72,7 @@ said-pick true = refl
 said-pick false = refl
 
 said-at : (d : ℕ) (p : Phase) → Said.verdict (verdictAt d p) ≡ saidOf (Status (statusIn (verdictAt d p)))
-unfolding judge ending
+unfolding verdictAfter ending
 said-at d (inHeader zero v) = said-pick (eqb d 0)
 said-at d (inHeader (suc k) v) = refl
 said-at d (inUnsigned id left k v) = refl
@@ -164,7 +164,7 @@ module _ (s : IStream) (pos : ℕ) (c b : List ℕ) (h : pos ≤ length b) where
       subst (λ (x : Owed). Turned s pos c b (eventTurn (s .carried .depth) x n (streamIn st) pos b) (eventBuf x pos b)) (sym i)
       (by-room (leb (length (outputBytes (outputOf (owe (dueIn (stateOf s)) e)))) (length b - pos)) n e st refl q few cl ae ss)
 
-  by-answer : (n : ℕ) (a : calls.Answer) (st : State)
+  by-answer : (n : ℕ) (a : calls.Said) (st : State)
       → copy base (standing s pos) c b ≡ heard (standing s pos) c b (record { read = n; answer = a; state = st }) (λ e. copy base (gone (standing s pos) st (owes (dueIn (stateOf s)) e 0)) (drop n c) b)
       → n ≤ length c → Closes a (stateOf s) st n (length c) → Ranged c n a → AtEvent (s .carried .depth) a st → SoundState base st
       → let f = fedIn (record { read = n; answer = a; state = st }) in Turned s pos c b (heardTurn (s .carried .depth) (dueIn (stateOf s)) f pos b) (heardBuf (dueIn (stateOf s)) f pos b)
@@ -201,7 +201,7 @@ module _ (s : IStream) (pos : ℕ) (c b : List ℕ) (h : pos ≤ length b) where
       let st = stateOf s in
       let room = length b - pos in
       let i : handed st room c ≡ c = still-handed st room c a in
-      let f : FairPlace (placeOf st) = fair st (is-sound base s t) in
+      let f : FairSpot (spotOf st) = fair st (is-sound base s t) in
       let k = standing s pos in
       let q = subst (λ (x : List ℕ). copy base k c b ≡ heard k c b (call base st x) (λ e. copy base (gone k (call base st x .state) (owes (dueIn st) e 0)) (drop (call base st x .read) c) b)) i (copy-turn base k c b f refl (not-stuck st room c a)) in
       let hd = subst (λ (x : List ℕ). Heard base st c (call base st x)) i (turn-heard base st room c f (not-stuck st room c a)) in

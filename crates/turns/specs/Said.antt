@@ -20,7 +20,7 @@ saidOf (Status Incomplete) = verdict incomplete
 saidOf (Refused e) = number (numberOf e)
 
 -- no refusal has the number 0: a call never runs out of turns
-abbrev pub saidIn : copying.Answer → Said
+abbrev pub saidIn : copying.Said → Said
 saidIn copying.full = full
 saidIn (copying.verdict v) = verdict v
 saidIn copying.invalid = number 2

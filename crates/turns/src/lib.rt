@@ -131,8 +131,7 @@ fn cut(n: usize, len: usize) -> Answer
     Answer::Status(Status::Incomplete)
 }
 
-// A payload's bytes go out straight away, as many as there is room for. The next phase is made here and not by the reader's `feed`, which
-// then has one place of call, and is inlined there.
+// A payload's bytes go out at once, as many as there is room for; the next phase is made here (docs/PERFORMANCE.md).
 fn piece(
     reader: IStream,
     id: u32,
@@ -179,11 +178,17 @@ fn one_turn(reader: IStream, pos: usize, rest: &[u8], buf: &mut [u8]) -> Turn
         let end = put_rest(buf, pos, &rest[..n], 0);
         return Turn::On(next, n, end);
     }
-    heard(reader.carried.depth, due(reader), reader.feed(rest), pos, buf)
+    heard(
+        reader.carried.depth,
+        due(reader),
+        reader.feed(rest),
+        pos,
+        buf,
+    )
 }
 
 impl Stop {
-    // The same, so many bytes of the chunk later.
+    // A stop, so many bytes of the chunk later.
     fn later(self, used: usize) -> Stop
         requires { ⌜ used + self .used < 18446744073709551616 ⌝ }
         ensures { λ r. ⌜ r ≡ later used self ⌝ }

@@ -7,7 +7,7 @@ use mathlib.Core.List.{List, [], _∷_}
 use lib.Dec.{eqb}
 use lib.ListN.{length, getD}
 use borrow.Author.Tests.{eqb-true, eqb-false, lt-leb, le-leb}
-use Rattle.held.specs.Places.{every, soundWriter as soundFor}
+use Rattle.held.specs.Places.{every, soundFor}
 use Rattle.held.proofs.Places.{both}
 
 abbrev pub sumOf : List ℕ → ℕ

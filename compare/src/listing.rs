@@ -1,4 +1,4 @@
-//! The program `events` beside the Rust: the Rust's events of a ticket and its verdict, written in 01's lines, and what the program
+//! The program `list_events` beside the Rust: the Rust's events of a ticket and its verdict, written in 01's lines, and what the program
 //! prints for the same bytes. A driver of its own, since it needs the programs and no archive.
 #![allow(dead_code)]
 
@@ -14,10 +14,10 @@ use std::io::{Read, Write};
 use std::process::{Command, Stdio};
 
 const HELP: &str = "\
-compare/run DIR listing SEED SIZE     all tickets of up to 2 bytes, the corpus, SIZE random and 200 long ones, a run of `events` each;
-                                      all tickets of 3 bytes in one run of `listings`
+compare/run DIR listing SEED SIZE     all tickets of up to 2 bytes, the corpus, SIZE random and 200 long ones, a run of `list_events` each;
+                                      all tickets of 3 bytes in one run of `listing_vectors`
 compare/run DIR listing faults SEED SIZE   plants each fault in the Rust's lines, until it is found
-compare/run DIR listing sample SEED FOLDER writes FOLDER/stdin and FOLDER/stdout, the tickets and lists of the crate `listings`";
+compare/run DIR listing sample SEED FOLDER writes FOLDER/stdin and FOLDER/stdout, the tickets and lists of the crate `listing_vectors`";
 
 const FAULTS: [&str; 12] = [
     "none",
@@ -122,16 +122,16 @@ struct Programs {
 }
 
 impl Programs {
-    /// What `events` prints for a ticket; nothing where it says anything on standard error.
+    /// What `list_events` prints for a ticket; nothing where it says anything on standard error.
     fn events(&self, ticket: &[u8]) -> Vec<u8> {
         let path = format!("{}/ticket", self.work);
         std::fs::write(&path, ticket).expect("the work folder can be written");
         let input = std::fs::File::open(&path).expect("the ticket can be read");
-        let run = Command::new(format!("{}/events", self.bin)).stdin(input).output().expect("the program runs");
+        let run = Command::new(format!("{}/list_events", self.bin)).stdin(input).output().expect("the program runs");
         if run.stderr.is_empty() { run.stdout } else { Vec::new() }
     }
 
-    /// Whether `events` prints what the Rust says; where not, both are shown.
+    /// Whether `list_events` prints what the Rust says; where not, both are shown.
     fn same(&self, ticket: &[u8], fault: usize) -> bool {
         let (said, printed) = (rust(ticket, fault), self.events(ticket));
         if said != printed && fault == 0 {
@@ -192,9 +192,9 @@ fn all(programs: &Programs, seed: u64, size: u64) -> i32 {
     (differences != 0 || !in_one.1) as i32
 }
 
-/// All tickets of 3 bytes to one run of `listings`, each cut at another place; how many were listed alike, and whether all were.
+/// All tickets of 3 bytes to one run of `listing_vectors`, each cut at another place; how many were listed alike, and whether all were.
 fn in_one_run(programs: &Programs) -> (u64, bool) {
-    let mut run = Command::new(format!("{}/listings", programs.bin)).stdin(Stdio::piped()).stdout(Stdio::piped()).spawn().expect("the program runs");
+    let mut run = Command::new(format!("{}/listing_vectors", programs.bin)).stdin(Stdio::piped()).stdout(Stdio::piped()).spawn().expect("the program runs");
     let mut input = std::io::BufWriter::with_capacity(1 << 16, run.stdin.take().expect("its input"));
     let mut output = std::io::BufReader::with_capacity(1 << 16, run.stdout.take().expect("its output"));
     let feeder = std::thread::spawn(move || {

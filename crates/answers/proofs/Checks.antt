@@ -7,7 +7,7 @@ use native.Mathlib.Omega.{arith}
 use borrow.Author.Tests.{ltb-false, not-false}
 use Rattle.layout.specs.Limits.{pick}
 use Rattle.answers.specs.declared.Check.{Check}
-use Rattle.answers.specs.Judged.{Test, Verdict, accepted, refusedWith, judged, checkOf}
+use Rattle.answers.specs.Judged.{Test, Judgement, accepted, refusedWith, judged, checkOf}
 use Rattle.answers.specs.Tests.{unsoundWriter, idTooLarge, tooLong}
 
 pub passed : (t : Test) (ts : List Test) → judged (t ∷ ts) ≡ accepted → (t .fails ≡ false) × (judged ts ≡ accepted)
@@ -17,11 +17,11 @@ passed t ts e = go (t .fails) refl e
     go true p e = let z : _≡_ {A = ℕ} 0 1 = cc in absurd (omega arith)
     go false p e = (p, e)
 
-pub check-passes : (v : Verdict) (r : Check) → r ≡ checkOf v → not (r .ok) ≡ false → v ≡ accepted
+pub check-passes : (v : Judgement) (r : Check) → r ≡ checkOf v → not (r .ok) ≡ false → v ≡ accepted
 check-passes accepted r e h = refl
 check-passes (refusedWith x) r e h = let z : true ≡ false = sym (ap (λ (c : Check). not (c .ok)) e) ∙ h in let y : _≡_ {A = ℕ} 0 1 = cc in absurd (omega arith)
 
-pub check-fails : (v : Verdict) (r : Check) → r ≡ checkOf v → not (r .ok) ≡ true → v ≡ refusedWith (r .error)
+pub check-fails : (v : Judgement) (r : Check) → r ≡ checkOf v → not (r .ok) ≡ true → v ≡ refusedWith (r .error)
 check-fails accepted r e h = let z : false ≡ true = sym (ap (λ (c : Check). not (c .ok)) e) ∙ h in let y : _≡_ {A = ℕ} 0 1 = cc in absurd (omega arith)
 check-fails (refusedWith x) r e h = ap (λ (c : Check). refusedWith (c .error)) (sym e)
 

@@ -11,16 +11,16 @@ pub record Test : Type 0 where
   pub fails : Bool
   pub error : Error
 
-pub data Verdict : Type 0 where
-  accepted : Verdict
-  refusedWith : Error → Verdict
+pub data Judgement : Type 0 where
+  accepted : Judgement
+  refusedWith : Error → Judgement
 
 -- "Refused, in checking order": the first test that fails
-abbrev pub judged : List Test → Verdict
+abbrev pub judged : List Test → Judgement
 judged [] = accepted
 judged (t ∷ ts) = pick (t .fails) (refusedWith (t .error)) (judged ts)
 
 -- how the code says what they come to (where all pass, the error says nothing)
-abbrev pub checkOf : Verdict → Check
+abbrev pub checkOf : Judgement → Check
 checkOf accepted = record { ok = true; error = refusal 11 }
 checkOf (refusedWith e) = record { ok = false; error = e }

@@ -8,11 +8,11 @@ use Rattle.types.specs.declared.FixlenType.{FixlenType}
 use Rattle.types.specs.Types.{subtype, refusal}
 use Rattle.answers.specs.Judged.{Test}
 
--- "Number 5: an opening offset exceeds the buffer, or a writer to be drained would have no byte free."
+-- "Number 5: an opening offset exceeds the buffer, or a writer to be drained would have no byte free".
 abbrev pub badBuffer : ℕ → ℕ → Bool → Test
 badBuffer size offset drained = record { fails = pick drained (leb size offset) (ltb size offset); error = refusal 5 }
 
--- "Number 6: the writer state isn't sound for the lent buffer."
+-- "Number 6: the writer state isn't sound for the lent buffer".
 abbrev pub unsoundWriter : Bool → Test
 unsoundWriter sound = record { fails = not sound; error = refusal 6 }
 
@@ -36,7 +36,7 @@ outermost depth = record { fails = eqb depth 0; error = refusal 8 }
 abbrev pub idTooLarge : ℕ → Test
 idTooLarge id = record { fails = ltb (base .id) id; error = refusal 9 }
 
--- "Number 10: a payload or array is longer than 2,147,483,647." A length has its limit, and a count has another.
+-- "Number 10: a payload or array is longer than 2,147,483,647". A length has its limit, and a count has another.
 abbrev pub tooLong : ℕ → ℕ → Test
 tooLong most n = record { fails = ltb most n; error = refusal 10 }
 

@@ -13,8 +13,8 @@ use Rattle.layout.specs.Field.{each}
 use Rattle.layout.specs.Limits.{base, pick}
 use Rattle.emit.specs.declared.Cursor.{Cursor}
 use Rattle.emit.proofs.Segments.{Emitted, joined}
-use Rattle.elements.specs.Standing.{Standing, elementsMost}
-use Rattle.elements.proofs.Onward.{counted-up}
+use Rattle.elements.specs.OutAfter.{OutAfter, elementsMost}
+use Rattle.elements.proofs.Resumed.{counted-up}
 use Rattle.answers.specs.declared.Outcome.{Outcome}
 use Rattle.answers.specs.declared.Outcome.the-variants.{Through}
 use Rattle.answers.specs.Outcome.{reaches}
@@ -62,7 +62,7 @@ module _ (held : ℕ) (places : List ℕ) (header : ℕ) {A : Type 0} (f : A →
 
   -- by its elements' count
   pub counted-out : (most whole part r : ℕ) (x : Outcome) → length l ≤ base .count → most ≡ far place (length b - pos)
-      → Standing f l most whole part → r ≡ pick (ltb whole (length l)) (most + 1) (most - part) → x ≡ reaches pos (length b) (length (headOf held places header (length l)) + r) place
+      → OutAfter f l most whole part → r ≡ pick (ltb whole (length l)) (most + 1) (most - part) → x ≡ reaches pos (length b) (length (headOf held places header (length l)) + r) place
       → Ended pos b (headersOf held places ++ o) place x b2
   counted-out most whole part r x k m s n t =
       ended-as pos b _ _ place x b2 spelled (ended pos b _ place c2 b2 output _ x (sym (length-append (headOf held places header (length l)) (each f l))) (t ∙ as-far pos (length b) place _ (length (each f l)) r (length l) most m k (counted-up f l most whole part r s n)))

@@ -14,6 +14,6 @@ use Rattle.copying.proofs.OneEvent.{AsIs}
 -- from the reader s, where nothing is owed: wherever there is room for the first n bytes of c, they go out, and s′ reads on
 pub record Ahead (s : IStream) (c : List ℕ) (n : ℕ) (s′ : IStream) : Type 0 where
   pub few : n ≤ length c
-  pub same : AsIs base (stateOf s) (s .depth) (take n c) (stateOf s′) (s′ .depth)
-  pub sound : soundStream s′ ≡ true
+  pub same : AsIs base (stateOf s) (s .carried .depth) (take n c) (stateOf s′) (s′ .carried .depth)
+  pub sound : soundStream base s′ ≡ true
   pub live : Live (stateOf s′)

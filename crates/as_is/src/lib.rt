@@ -6,7 +6,7 @@ ghost use Prim.Native.Nat.{_*_, _≤_, _<_};
 ghost use Rattle.layout.specs.Limits.{base};
 ghost use Rattle.layout.specs.Field.{bytesOf};
 ghost use Rattle.machine.specs.Machine.{inUnsigned, inSigned, inFloat, idle};
-ghost use Rattle.machine.specs.Call.{reading};
+ghost use Rattle.machine.specs.Calls.{reading};
 ghost use Rattle.types.specs.Types.{width};
 ghost use Rattle.phase.proofs.Phases.{Live};
 ghost use Rattle.istream.specs.Stream.{stateOf, streamIn, soundStream};
@@ -14,6 +14,7 @@ ghost use Rattle.as_is.specs.Ahead.{Ahead};
 use istream::IStream;
 use own::elements;
 use own::fields;
+use phase::Carried;
 use phase::Phase;
 use phase::floats;
 use phase::idle;
@@ -33,41 +34,41 @@ fn none(reader: IStream) -> Block
     Block { len: 0, reader }
 }
 
-fn whole_fields(depth: u8, bytes: &[u8]) -> Block
-    ensures { λ r. ⌜ Ahead (streamIn (reading depth idle)) (now (bytes .entry)) (r .len) (r .reader) ⌝ }
+fn whole_fields(carried: Carried, bytes: &[u8]) -> Block
+    ensures { λ r. ⌜ Ahead (streamIn (reading (carried .depth) idle)) (now (bytes .entry)) (r .len) (r .reader) ⌝ }
 {
-    let run = fields(bytes, depth);
+    let run = fields(bytes, carried.depth);
     let phase = idle();
     Block {
         len: run.len,
         reader: IStream {
             phase,
-            depth: run.depth,
+            carried: Carried { depth: run.depth },
         },
     }
 }
 
-fn unsigned_elements(depth: u8, id: u32, left: u32, bytes: &[u8]) -> Block
+fn unsigned_elements(carried: Carried, id: u32, left: u32, bytes: &[u8]) -> Block
     requires { ⌜ (id ≤ base .id) × ((left ≤ base .count) × (0 < left)) ⌝ }
-    ensures { λ r. ⌜ Ahead (streamIn (reading depth (inUnsigned id left 0 0))) (now (bytes .entry)) (r .len) (r .reader) ⌝ }
+    ensures { λ r. ⌜ Ahead (streamIn (reading (carried .depth) (inUnsigned id left 0 0))) (now (bytes .entry)) (r .len) (r .reader) ⌝ }
 {
     let row = elements(bytes, left);
     let phase = unsigneds(id, left - row.count);
     Block {
         len: row.len,
-        reader: IStream { phase, depth },
+        reader: IStream { phase, carried },
     }
 }
 
-fn signed_elements(depth: u8, id: u32, left: u32, bytes: &[u8]) -> Block
+fn signed_elements(carried: Carried, id: u32, left: u32, bytes: &[u8]) -> Block
     requires { ⌜ (id ≤ base .id) × ((left ≤ base .count) × (0 < left)) ⌝ }
-    ensures { λ r. ⌜ Ahead (streamIn (reading depth (inSigned id left 0 0))) (now (bytes .entry)) (r .len) (r .reader) ⌝ }
+    ensures { λ r. ⌜ Ahead (streamIn (reading (carried .depth) (inSigned id left 0 0))) (now (bytes .entry)) (r .len) (r .reader) ⌝ }
 {
     let row = elements(bytes, left);
     let phase = signeds(id, left - row.count);
     Block {
         len: row.len,
-        reader: IStream { phase, depth },
+        reader: IStream { phase, carried },
     }
 }
 
@@ -83,36 +84,36 @@ fn some_floats(len: usize, w: FloatType, left: u32) -> u32
     }
 }
 
-fn float_elements(depth: u8, id: u32, w: FloatType, left: u32, bytes: &[u8]) -> Block
+fn float_elements(carried: Carried, id: u32, w: FloatType, left: u32, bytes: &[u8]) -> Block
     requires { ⌜ (id ≤ base .id) × ((left ≤ base .count) × (0 < left)) ⌝ }
-    ensures { λ r. ⌜ Ahead (streamIn (reading depth (inFloat id (width w) left 0 0))) (now (bytes .entry)) (r .len) (r .reader) ⌝ }
+    ensures { λ r. ⌜ Ahead (streamIn (reading (carried .depth) (inFloat id (width w) left 0 0))) (now (bytes .entry)) (r .len) (r .reader) ⌝ }
 {
     let n = some_floats(bytes.len(), w, left);
     let phase = floats(id, w, left - n);
     Block {
         len: n as usize * w.bytes() as usize,
-        reader: IStream { phase, depth },
+        reader: IStream { phase, carried },
     }
 }
 
 // From any sound reader; none where it stands within a varint, a float or a payload.
 pub fn as_is(reader: IStream, bytes: &[u8]) -> Block
-    requires { ⌜ (soundStream reader ≡ true) × Live (stateOf reader) ⌝ }
+    requires { ⌜ (soundStream base reader ≡ true) × Live (stateOf reader) ⌝ }
     ensures { λ r. ⌜ Ahead reader (now (bytes .entry)) (r .len) (r .reader) ⌝ }
 {
     let phase = reader.phase;
-    let depth = reader.depth;
+    let carried = reader.carried;
     match phase {
         Phase::Header(a) => {
             if a.taken == 0 {
-                return whole_fields(depth, bytes);
+                return whole_fields(carried, bytes);
             }
             none(reader)
         }
         Phase::Unsigned(id, left, a) => {
             if a.taken == 0 {
                 if 0 < left {
-                    return unsigned_elements(depth, id, left, bytes);
+                    return unsigned_elements(carried, id, left, bytes);
                 }
             }
             none(reader)
@@ -120,7 +121,7 @@ pub fn as_is(reader: IStream, bytes: &[u8]) -> Block
         Phase::Signed(id, left, a) => {
             if a.taken == 0 {
                 if 0 < left {
-                    return signed_elements(depth, id, left, bytes);
+                    return signed_elements(carried, id, left, bytes);
                 }
             }
             none(reader)
@@ -128,7 +129,7 @@ pub fn as_is(reader: IStream, bytes: &[u8]) -> Block
         Phase::Float(id, w, left, k, _) => {
             if k == 0 {
                 if 0 < left {
-                    return float_elements(depth, id, w, left, bytes);
+                    return float_elements(carried, id, w, left, bytes);
                 }
             }
             none(reader)

@@ -45,8 +45,8 @@ pub fn drain(s: OStream, sent: usize, buf: &[u8], out: &mut [u8]) -> Run {
     }
 }
 
-// A state made anew from its fields, so that only the rare way, through calls that are not inlined, keeps it in memory.
-pub fn anew(s: OStream) -> OStream {
+// A state rebuilt from its fields, for the rare way (docs/PERFORMANCE.md).
+pub fn rebuilt(s: OStream) -> OStream {
     let pending = s.pending;
     OStream {
         offset: s.offset,
@@ -152,20 +152,20 @@ pub struct Round {
 // A drain, and the call again.
 pub fn turn(t: Round, c: Call, data: &[u8], buf: &mut [u8], out: &mut [u8]) -> Round {
     let s = t.stream;
-    let d = drain(anew(s), t.sent, buf, out);
+    let d = drain(rebuilt(s), t.sent, buf, out);
     let left = d.stream;
-    let w = one(anew(left), c, data, buf, t.place);
+    let w = one(rebuilt(left), c, data, buf, t.place);
     let answer = w.answer;
     let next = w.stream;
     match answer {
         Answer::Full(n) => Round {
-            stream: anew(next),
+            stream: rebuilt(next),
             sent: d.sent,
             place: n,
             open: true,
         },
         _ => Round {
-            stream: anew(next),
+            stream: rebuilt(next),
             sent: d.sent,
             place: 0,
             open: false,

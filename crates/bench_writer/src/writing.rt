@@ -1,11 +1,11 @@
 // A loop for each kind of message over the writer's calls, through a buffer that is drained into `out` whenever it is full and at the end.
 use bench_calls::Run;
-use bench_calls::anew;
 use bench_calls::array;
 use bench_calls::drain;
 use bench_calls::first;
 use bench_calls::level;
 use bench_calls::long;
+use bench_calls::rebuilt;
 use bench_calls::rest;
 use bench_calls::setting;
 use bench_calls::small;
@@ -24,8 +24,8 @@ fn smalls(n: usize, data: &[u8], buf: &mut [u8], out: &mut [u8]) -> Run {
         let answer = w.answer;
         s = w.stream;
         if let Answer::Full(place) = answer {
-            let e = rest(anew(s), sent, place, which(0, i, 0), data, buf, out);
-            s = anew(e.stream);
+            let e = rest(rebuilt(s), sent, place, which(0, i, 0), data, buf, out);
+            s = rebuilt(e.stream);
             sent = e.sent;
         }
         i += 1;
@@ -42,8 +42,8 @@ fn longs(n: usize, data: &[u8], buf: &mut [u8], out: &mut [u8]) -> Run {
         let answer = w.answer;
         s = w.stream;
         if let Answer::Full(place) = answer {
-            let e = rest(anew(s), sent, place, which(1, i, 0), data, buf, out);
-            s = anew(e.stream);
+            let e = rest(rebuilt(s), sent, place, which(1, i, 0), data, buf, out);
+            s = rebuilt(e.stream);
             sent = e.sent;
         }
         i += 1;
@@ -60,8 +60,8 @@ fn strings(n: usize, data: &[u8], buf: &mut [u8], out: &mut [u8]) -> Run {
         let answer = w.answer;
         s = w.stream;
         if let Answer::Full(place) = answer {
-            let e = rest(anew(s), sent, place, which(2, i, 0), data, buf, out);
-            s = anew(e.stream);
+            let e = rest(rebuilt(s), sent, place, which(2, i, 0), data, buf, out);
+            s = rebuilt(e.stream);
             sent = e.sent;
         }
         i += 1;
@@ -90,8 +90,8 @@ fn arrays(n: usize, data: &[u8], buf: &mut [u8], out: &mut [u8]) -> Run {
         let answer = w.answer;
         s = w.stream;
         if let Answer::Full(place) = answer {
-            let e = rest(anew(s), sent, place, which(4, i, 0), data, buf, out);
-            s = anew(e.stream);
+            let e = rest(rebuilt(s), sent, place, which(4, i, 0), data, buf, out);
+            s = rebuilt(e.stream);
             sent = e.sent;
         }
         i += 1;
@@ -106,8 +106,8 @@ fn open_outer(r: Run, i: usize, data: &[u8], buf: &mut [u8], out: &mut [u8]) -> 
     let answer = w.answer;
     s = w.stream;
     if let Answer::Full(place) = answer {
-        let e = rest(anew(s), sent, place, which(5, i, 0), data, buf, out);
-        s = anew(e.stream);
+        let e = rest(rebuilt(s), sent, place, which(5, i, 0), data, buf, out);
+        s = rebuilt(e.stream);
         sent = e.sent;
     }
     Run { stream: s, sent }
@@ -120,8 +120,8 @@ fn open_inner(r: Run, i: usize, data: &[u8], buf: &mut [u8], out: &mut [u8]) -> 
     let answer = w.answer;
     s = w.stream;
     if let Answer::Full(place) = answer {
-        let e = rest(anew(s), sent, place, which(5, i, 1), data, buf, out);
-        s = anew(e.stream);
+        let e = rest(rebuilt(s), sent, place, which(5, i, 1), data, buf, out);
+        s = rebuilt(e.stream);
         sent = e.sent;
     }
     Run { stream: s, sent }
@@ -134,8 +134,8 @@ fn fill(r: Run, i: usize, data: &[u8], buf: &mut [u8], out: &mut [u8]) -> Run {
     let answer = w.answer;
     s = w.stream;
     if let Answer::Full(place) = answer {
-        let e = rest(anew(s), sent, place, which(5, i, 2), data, buf, out);
-        s = anew(e.stream);
+        let e = rest(rebuilt(s), sent, place, which(5, i, 2), data, buf, out);
+        s = rebuilt(e.stream);
         sent = e.sent;
     }
     Run { stream: s, sent }
@@ -148,8 +148,8 @@ fn close(r: Run, i: usize, step: usize, data: &[u8], buf: &mut [u8], out: &mut [
     let answer = w.answer;
     s = w.stream;
     if let Answer::Full(place) = answer {
-        let e = rest(anew(s), sent, place, which(5, i, step), data, buf, out);
-        s = anew(e.stream);
+        let e = rest(rebuilt(s), sent, place, which(5, i, step), data, buf, out);
+        s = rebuilt(e.stream);
         sent = e.sent;
     }
     Run { stream: s, sent }
@@ -188,8 +188,8 @@ fn head(r: Run, i: usize, data: &[u8], buf: &mut [u8], out: &mut [u8]) -> Run {
     let answer = w.answer;
     s = w.stream;
     if let Answer::Full(place) = answer {
-        let e = rest(anew(s), sent, place, which(6, i, 0), data, buf, out);
-        s = anew(e.stream);
+        let e = rest(rebuilt(s), sent, place, which(6, i, 0), data, buf, out);
+        s = rebuilt(e.stream);
         sent = e.sent;
     }
     Run { stream: s, sent }
@@ -204,8 +204,8 @@ fn settings(from: Run, i: usize, data: &[u8], buf: &mut [u8], out: &mut [u8]) ->
         let answer = w.answer;
         s = w.stream;
         if let Answer::Full(place) = answer {
-            let e = rest(anew(s), sent, place, which(6, i, k), data, buf, out);
-            s = anew(e.stream);
+            let e = rest(rebuilt(s), sent, place, which(6, i, k), data, buf, out);
+            s = rebuilt(e.stream);
             sent = e.sent;
         }
         k += 1;
@@ -220,8 +220,8 @@ fn caption(r: Run, i: usize, data: &[u8], buf: &mut [u8], out: &mut [u8]) -> Run
     let answer = w.answer;
     s = w.stream;
     if let Answer::Full(place) = answer {
-        let e = rest(anew(s), sent, place, which(6, i, 31), data, buf, out);
-        s = anew(e.stream);
+        let e = rest(rebuilt(s), sent, place, which(6, i, 31), data, buf, out);
+        s = rebuilt(e.stream);
         sent = e.sent;
     }
     Run { stream: s, sent }
@@ -234,8 +234,8 @@ fn weight(r: Run, i: usize, data: &[u8], buf: &mut [u8], out: &mut [u8]) -> Run 
     let answer = w.answer;
     s = w.stream;
     if let Answer::Full(place) = answer {
-        let e = rest(anew(s), sent, place, which(6, i, 32), data, buf, out);
-        s = anew(e.stream);
+        let e = rest(rebuilt(s), sent, place, which(6, i, 32), data, buf, out);
+        s = rebuilt(e.stream);
         sent = e.sent;
     }
     Run { stream: s, sent }
@@ -248,8 +248,8 @@ fn foot(r: Run, i: usize, data: &[u8], buf: &mut [u8], out: &mut [u8]) -> Run {
     let answer = w.answer;
     s = w.stream;
     if let Answer::Full(place) = answer {
-        let e = rest(anew(s), sent, place, which(6, i, 33), data, buf, out);
-        s = anew(e.stream);
+        let e = rest(rebuilt(s), sent, place, which(6, i, 33), data, buf, out);
+        s = rebuilt(e.stream);
         sent = e.sent;
     }
     Run { stream: s, sent }

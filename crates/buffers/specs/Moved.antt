@@ -2,19 +2,19 @@
 use mathlib.Core.Bool.{Bool}
 use mathlib.Core.List.{List, [], _∷_}
 use Prim.Native.Nat.{ℕ}
-use Rattle.answers.specs.Judged.{Test, Verdict, accepted, refusedWith, judged}
+use Rattle.answers.specs.Judged.{Test, Judgement, accepted, refusedWith, judged}
 use Rattle.answers.specs.Tests.{badBuffer, unsoundWriter}
-use Rattle.held.specs.Places.{soundWriter}
+use Rattle.held.specs.Places.{soundFor}
 use Rattle.buffers.specs.declared.Moved.{Moved}
 use Rattle.buffers.specs.declared.Moved.the-variants.{To, Refused}
 
-abbrev pub movedBy : Verdict → ℕ → ℕ → Moved
+abbrev pub movedBy : Judgement → ℕ → ℕ → Moved
 movedBy accepted pos next = To pos next
 movedBy (refusedWith e) pos next = Refused e
 
 -- A drain: "the bytes below the position" are sent, "after which writing starts at 0".
 abbrev pub drainedTo : ℕ → ℕ → ℕ → List ℕ → ℕ → Moved
-drainedTo pos depth held places size = movedBy (judged (unsoundWriter (soundWriter pos depth held places size) ∷ [])) pos 0
+drainedTo pos depth held places size = movedBy (judged (unsoundWriter (soundFor pos depth held places size) ∷ [])) pos 0
 
 abbrev pub changeTests : Bool → ℕ → ℕ → Bool → List Test
 changeTests sound new offset drained = badBuffer new offset drained ∷ unsoundWriter sound ∷ []
@@ -22,4 +22,4 @@ changeTests sound new offset drained = badBuffer new offset drained ∷ unsoundW
 -- A change "sets the position to the new offset, and answers the old position"; "Number 5 judges the new buffer there, then number 6 the
 -- state by the old one."
 abbrev pub changedTo : ℕ → ℕ → ℕ → List ℕ → ℕ → ℕ → ℕ → Bool → Moved
-changedTo pos depth held places old new offset drained = movedBy (judged (changeTests (soundWriter pos depth held places old) new offset drained)) pos offset
+changedTo pos depth held places old new offset drained = movedBy (judged (changeTests (soundFor pos depth held places old) new offset drained)) pos offset

@@ -23,7 +23,7 @@ pub fn drain(pos: usize, depth: u16, held: u16, places: [u32; LAZY_SEQ_DEPTH], s
     }
 }
 
-// The same for a change to another buffer, from the offset on.
+// The bytes below the position are sent, and writing goes on in another buffer, from the offset on.
 pub fn change(
     pos: usize,
     depth: u16,

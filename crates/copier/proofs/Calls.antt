@@ -4,11 +4,10 @@ use mathlib.Core.Bool.{Bool, true, false, _&&_}
 use mathlib.Core.List.{List}
 use Prim.Native.Nat.{ℕ, _+_, _-_, _<_, _≤_}
 use native.Mathlib.Omega.{arith}
-use lib.Dec.{eqb}
 use lib.ListN.{length, drop, length-drop}
 use borrow.Author.Tests.{leb-true, le-leb, eqb-true}
 use Rattle.layout.specs.Limits.{base}
-use Rattle.machine.specs.Call.{State, reading, owing, broke, fresh}
+use Rattle.machine.specs.Calls.{State, reading, owing, broke, fresh}
 use Rattle.types.specs.declared.Error.the-variants.{UnsoundReader, UnsoundWriter, InvalidMsg}
 use Rattle.istream.specs.declared.IStream.{IStream}
 use Rattle.phase.specs.declared.Phase as code
@@ -25,22 +24,25 @@ use Rattle.ostream.specs.declared.Written.{Written}
 use Rattle.ostream.specs.Stream as writer
 use Rattle.ostream.specs.Buffer.{opening, draining, changing}
 use Rattle.copying.specs.Owed as copying
-use Rattle.copying.specs.Owed.{nothing, owes, rest, further, depthBy, depthOnce, agrees, soundOwed}
-use Rattle.copying.specs.Copy.{full, Copied, settled, filled, copy}
+use Rattle.copying.specs.Owed.{nothing, owes, rest, further, depthBy, depthOnce, agrees}
+use Rattle.copying.specs.Copy.{full, settled, filled, copy}
+use Rattle.copying.specs.Refusals.{isBroke}
 use Rattle.copying.proofs.Turns.{copy-full, copy-settles}
+use Rattle.copying.proofs.Refusals.{with-parts, unsound-reader, unsound-writer, broken-reader, none-refused}
+use Rattle.turns.specs.declared.Answer.the-variants.{Full}
+use Rattle.turns.specs.declared.Stop.{Stop}
+use Rattle.turns.specs.Turns.{endedIn, Stops, Ran}
 use Rattle.owed.specs.declared.Owed.{Owed}
 use Rattle.owed.specs.declared.Owed.the-variants as owed
 use Rattle.owed.specs.declared.Output.{Output}
 use Rattle.owed.specs.Owed.{owedOf, owedIn, placeIn, outputOf, outputBytes, levelOf, legalOf, placeIsIn}
 use Rattle.owed.proofs.Laws.{owed-back, spelled, sound-parts}
 use Rattle.copier.specs.declared.Copier.{Copier}
-use Rattle.copier.specs.declared.Answer.the-variants.{Full}
 use Rattle.copier.specs.declared.Opening.{Opening}
-use Rattle.copier.specs.declared.Stop.{Stop}
 use Rattle.copier.specs.declared.Copied as results
 use Rattle.copier.specs.Copier.{copyOf, soundReader, soundWriter}
-use Rattle.copier.specs.Calls.{Said, leftBy, leftIn, untouched, carried, copied, Opens, opensOf, opensIn, startedBy, started, sendsOf, Sent, drained, changed}
-use Rattle.copier.specs.Turns.{isBroke, refused, leftAs, Stops, Ran, Ready, finished}
+use Rattle.copier.specs.Calls.{Said, resultOf, resultIn, untouched, copied, Opens, opensOf, opensIn, startedBy, started, sendsOf, Sent, drained, changed}
+use Rattle.copier.specs.Feeding.{refused, finished, resultWith, Ready}
 use Rattle.copier.proofs.Tests.{sound-whole}
 
 -- ---- a sound copier
@@ -57,11 +59,11 @@ live-if broke e = let z : _≡_ {A = ℕ} 0 1 = cc in absurd (omega arith)
 
 pub ready-within : (k : Copier) (size : ℕ) → soundWriter k size ≡ true → k .writer .offset ≤ size
 unfolding soundWriter writer.soundStream
-ready-within k size e = leb-true _ _ (both _ _ (both (writer.soundStream (k .writer) size) _ e .0) .0)
+ready-within k size e = leb-true _ _ (both _ _ (with-parts base (writer.soundStream (k .writer) size) (k .writer .npending) (copyOf k) e .0) .0)
 
-ready-agrees : (k : Copier) (size : ℕ) → Live (stateOf (k .reader)) → soundWriter k size ≡ true → agrees base (k .reader .depth) (k .writer .depth) (owedOf (k .owed) (k .place)) ≡ true
+ready-agrees : (k : Copier) (size : ℕ) → Live (stateOf (k .reader)) → soundWriter k size ≡ true → agrees base (k .reader .carried .depth) (k .writer .depth) (owedOf (k .owed) (k .place)) ≡ true
 unfolding soundWriter
-ready-agrees k size l e = sym (sound-whole k (live-not-broke (stateOf (k .reader)) l)) ∙ both (eqb (k .writer .npending) 0) (soundOwed base (stateOf (k .reader)) (k .writer .depth) (owedOf (k .owed) (k .place))) (both (writer.soundStream (k .writer) size) (eqb (k .writer .npending) 0 && soundOwed base (stateOf (k .reader)) (k .writer .depth) (owedOf (k .owed) (k .place))) e .1) .1
+ready-agrees k size l e = sym (sound-whole k (live-not-broke (stateOf (k .reader)) l)) ∙ with-parts base (writer.soundStream (k .writer) size) (k .writer .npending) (copyOf k) e .2
 
 -- "depths equal once any owed event is written"
 level-once : (r w : ℕ) (o : Owed) (place : ℕ) → levelOf r w o ≡ true → depthOnce w (owedOf o place) ≡ r
@@ -79,9 +81,9 @@ level-once r w (owed.Array id k n) place e = sym (eqb-true r w e)
 level-once r w (owed.Begin id) place e = let h : r ≡ w + 1 = eqb-true r (w + 1) e in omega arith
 level-once r w owed.End place e = let h : r + 1 ≡ w = eqb-true (r + 1) w e in omega arith
 
-ready-depth : (k : Copier) (size : ℕ) → Live (stateOf (k .reader)) → soundWriter k size ≡ true → depthOnce (k .writer .depth) (owedOf (k .owed) (k .place)) ≡ k .reader .depth
+ready-depth : (k : Copier) (size : ℕ) → Live (stateOf (k .reader)) → soundWriter k size ≡ true → depthOnce (k .writer .depth) (owedOf (k .owed) (k .place)) ≡ k .reader .carried .depth
 ready-depth k size l e =
-    level-once (k .reader .depth) (k .writer .depth) (k .owed) (k .place) (both (levelOf (k .reader .depth) (k .writer .depth) (k .owed)) (legalOf (k .owed) && placeIsIn (k .owed) (k .place)) (sym (sound-parts (k .reader .depth) (k .writer .depth) (k .owed) (k .place)) ∙ ready-agrees k size l e) .0)
+    level-once (k .reader .carried .depth) (k .writer .depth) (k .owed) (k .place) (both (levelOf (k .reader .carried .depth) (k .writer .depth) (k .owed)) (legalOf (k .owed) && placeIsIn (k .owed) (k .place)) (sym (sound-parts (k .reader .carried .depth) (k .writer .depth) (k .owed) (k .place)) ∙ ready-agrees k size l e) .0)
 
 -- ---- what is owed goes out
 
@@ -121,37 +123,37 @@ module _ (k : Copier) (c b : List ℕ) (end len : ℕ) (b′ : List ℕ) (x : Ou
 
   pub carry-full : Live (stateOf (k .reader)) → length b - k .writer .offset + k .place < len
       → Stops (copy base (copyOf k) c b) (record { used = 0; answer = Full; reader = k .reader; depth = k .writer .depth; pos = end; owed = k .owed; place = k .place + (end - k .writer .offset) }) b′
-  carry-full lv h w =
+  carry-full lv h =
       let f : length b - k .writer .offset < length (rest (owedOf (k .owed) (k .place))) = omega (arith, long) in
       let q = copy-full base (copyOf k) c b f ∙ ap (λ (n : ℕ). record { used = 0; answer = full; copy = filled (copyOf k) n; buf = put b (k .writer .offset) (rest (owedOf (k .owed) (k .place))) }) ends ∙ ap (λ (y : List ℕ). record { used = 0; answer = full; copy = filled (copyOf k) end; buf = y }) puts in
-      let r = stream-back (k .reader .depth) (k .reader .phase) lv in
+      let r = stream-back (k .reader .carried .depth) (k .reader .phase) lv in
       let o = further-back (owedOf (k .owed) (k .place)) (end - k .writer .offset) ∙ owed-back (k .owed) (k .place) in
       let m = further-place (k .owed) (k .place) (end - k .writer .offset) (omega arith) in
-      ap (leftAs w) q ∙ (λ i. record { used = 0; said = Said.full; copier = record { reader = r i; writer = record { offset = end; depth = k .writer .depth; pending = w .pending; npending = w .npending }; owed = o i; place = m i }; buf = b′ })
+      ap endedIn q ∙ (λ i. record { used = 0; said = Said.full; reader = r i; depth = k .writer .depth; pos = end; owed = o i; place = m i; buf = b′ })
 
   pub carry-runs : Ready k (length b) → len ≤ length b - k .writer .offset + k .place → (t : Stop) (b″ : List ℕ) → Ran (k .reader) end c b′ t b″ → Stops (copy base (copyOf k) c b) t b″
-  carry-runs (s, (lv, g)) h t b″ ran w =
+  carry-runs (s, (lv, g)) h t b″ ran =
       let f : length (rest (owedOf (k .owed) (k .place))) ≤ length b - k .writer .offset = omega (arith, long) in
       let d = ready-depth k (length b) lv g in
       let q =
       copy-settles base (copyOf k) c b (ready-within k (length b) g) f ∙ ap (λ (n : ℕ). copy base (settled (copyOf k) n) c (put b (k .writer .offset) (rest (owedOf (k .owed) (k .place))))) ends
       ∙ ap (λ (y : List ℕ). copy base (settled (copyOf k) end) c y) puts
       ∙ ap (λ (n : ℕ). copy base (record { reader = stateOf (k .reader); depth = n; pos = end; owed = nothing }) c b′) d in
-      ap (leftAs w) q ∙ ran w
+      ap endedIn q ∙ ran
 
 pub ends-within : (b : List ℕ) (pos end : ℕ) (b′ l : List ℕ) → pos ≤ length b → (end ≡ reached b pos l) × (b′ ≡ put b pos l) → end ≤ length b′
 ends-within b pos end b′ l h (p, q) = subst (λ (y : List ℕ). end ≤ length y) (sym q) (subst (λ (n : ℕ). n ≤ length (put b pos l)) (sym p) (subst (λ (n : ℕ). reached b pos l ≤ n) (sym (length-put b pos l h)) (reached-le b pos l h)))
 
 -- ---- the refusals
 
-reader-sound : (s : IStream) → s .depth < 256 → soundReader s ≡ soundStream s
+reader-sound : (s : IStream) → s .carried .depth ≤ base .depth → soundReader s ≡ soundStream base s
 unfolding soundStream
 reader-sound s h = go (s .phase) refl
   where
     by : code.Phase → Bool
-    by p = elim (stateAt (s .depth) p) [ reading d q ↦ soundStream s | owing d id r ↦ soundStream s | broke ↦ true ]
+    by p = elim (stateAt (s .carried .depth) p) [ reading d q ↦ soundStream base s | owing d id r ↦ soundStream base s | broke ↦ true ]
 
-    go : (p : code.Phase) → s .phase ≡ p → by (s .phase) ≡ soundStream s
+    go : (p : code.Phase) → s .phase ≡ p → by (s .phase) ≡ soundStream base s
     go (phases.Header a) e = ap by e
     go (phases.Unsigned id left a) e = ap by e
     go (phases.Signed id left a) e = ap by e
@@ -163,37 +165,31 @@ reader-sound s h = go (s .phase) refl
     go (phases.Float id w left k v) e = ap by e
     go (phases.Payload id r total o) e = ap by e
     go (phases.Empty id r) e = ap by e
-    go phases.Broken e = ap by e ∙ sym (simp (e, le-leb (s .depth) 255 (omega arith)))
+    go phases.Broken e = ap by e ∙ sym (simp (e, le-leb (s .carried .depth) (base .depth) h))
 
-module _ (k : Copier) (c b : List ℕ) (h : k .reader .depth < 256) where
-  pub feed-unsound : soundStream (k .reader) ≡ false → leftBy (refused UnsoundReader k) b ≡ copied k c b
+module _ (k : Copier) (c b : List ℕ) (h : k .reader .carried .depth ≤ base .depth) where
+  sound-too : (t : Bool) → soundStream base (k .reader) ≡ t → soundReader (k .reader) ≡ t
+  sound-too t e = reader-sound (k .reader) h ∙ e
+
+  pub feed-unsound : soundStream base (k .reader) ≡ false → resultOf (refused UnsoundReader k) b ≡ copied k c b
   unfolding copied
-  feed-unsound t = sym (simp (reader-sound (k .reader) h ∙ t))
+  feed-unsound t = sym (unsound-reader _ _ _ (λ n. untouched n k b) _ (sound-too false t))
 
-  pub feed-unfit : soundStream (k .reader) ≡ true → soundWriter k (length b) ≡ false → leftBy (refused UnsoundWriter k) b ≡ copied k c b
+  pub feed-unfit : soundStream base (k .reader) ≡ true → soundWriter k (length b) ≡ false → resultOf (refused UnsoundWriter k) b ≡ copied k c b
   unfolding copied
-  feed-unfit t u = sym (simp (reader-sound (k .reader) h ∙ t, u))
+  feed-unfit t u = sym (unsound-writer _ _ _ (λ n. untouched n k b) _ (sound-too true t) u)
 
-  goes-on : soundStream (k .reader) ≡ true → soundWriter k (length b) ≡ true → copied k c b ≡ carried (stateOf (k .reader)) k c b
+  pub feed-broken : soundStream base (k .reader) ≡ true → soundWriter k (length b) ≡ true → isBroke (stateOf (k .reader)) ≡ true → resultOf (refused InvalidMsg k) b ≡ copied k c b
   unfolding copied
-  goes-on t u = simp (reader-sound (k .reader) h ∙ t, u)
+  feed-broken t u e = sym (broken-reader _ _ _ (λ n. untouched n k b) _ (sound-too true t) u e)
 
-  pub feed-broken : soundStream (k .reader) ≡ true → soundWriter k (length b) ≡ true → isBroke (stateOf (k .reader)) ≡ true → leftBy (refused InvalidMsg k) b ≡ copied k c b
-  feed-broken t u e = sym (goes-on t u ∙ go (stateOf (k .reader)) e)
-    where
-      go : (st : State) → isBroke st ≡ true → carried st k c b ≡ untouched 2 k b
-      go (reading d p) e = let z : _≡_ {A = ℕ} 0 1 = cc in absurd (omega arith)
-      go (owing d id r) e = let z : _≡_ {A = ℕ} 0 1 = cc in absurd (omega arith)
-      go broke e = refl
+  goes-on : soundStream base (k .reader) ≡ true → soundWriter k (length b) ≡ true → isBroke (stateOf (k .reader)) ≡ false → copied k c b ≡ resultIn k (copy base (copyOf k) c b)
+  unfolding copied
+  goes-on t u e = none-refused _ _ _ (λ n. untouched n k b) _ (sound-too true t) u e
 
-  pub feed-runs : soundStream (k .reader) ≡ true → soundWriter k (length b) ≡ true → isBroke (stateOf (k .reader)) ≡ false → (t : Stop) (b′ : List ℕ) → Stops (copy base (copyOf k) c b) t b′ → (r : results.Copied) → r ≡ finished (k .writer) t
-      → leftBy r b′ ≡ copied k c b
-  feed-runs t u e s b′ q r i = ap (λ (x : results.Copied). leftBy x b′) i ∙ sym (goes-on t u ∙ go (stateOf (k .reader)) e ∙ q (k .writer))
-    where
-      go : (st : State) → isBroke st ≡ false → carried st k c b ≡ leftIn k (copy base (copyOf k) c b)
-      go (reading d p) e = refl
-      go (owing d id r) e = refl
-      go broke e = let z : _≡_ {A = ℕ} 0 1 = cc in absurd (omega arith)
+  pub feed-runs : soundStream base (k .reader) ≡ true → soundWriter k (length b) ≡ true → isBroke (stateOf (k .reader)) ≡ false → (t : Stop) (b′ : List ℕ) → Stops (copy base (copyOf k) c b) t b′ → (r : results.Copied) → r ≡ finished (k .writer) t
+      → resultOf r b′ ≡ copied k c b
+  feed-runs t u e s b′ q r i = ap (λ (x : results.Copied). resultOf x b′) i ∙ sym (goes-on t u e ∙ ap (resultWith (k .writer)) q)
 
 -- ---- the other calls
 

@@ -1,6 +1,4 @@
--- What the copier's code goes by: the reader's events (Events), one event of the loop (Turns), a whole call (Calls).
-pub mod Events
-pub mod Turns
+-- What the copier's code goes by: its tests (Rested, Tests), and a whole call (Calls).
+pub mod Rested
 pub mod Tests
 pub mod Calls
-pub mod Rested

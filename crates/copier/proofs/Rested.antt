@@ -7,11 +7,8 @@ use mathlib.Core.List.{List, [], _∷_}
 use lib.Dec.{eqb}
 use lib.ListN.{length, getD}
 use borrow.Author.Tests.{eqb-true, eqb-false, lt-leb, le-leb}
-use Rattle.held.specs.Places.{every}
-use Rattle.held.specs.Places.{soundWriter as soundPlaces}
+use Rattle.held.specs.Places.{every, soundWriter as soundFor}
 use Rattle.held.proofs.Places.{both}
-use Rattle.ostream.specs.declared.OStream.{OStream}
-use Rattle.ostream.specs.Stream.{soundStream}
 
 abbrev pub sumOf : List ℕ → ℕ
 sumOf l = getD l 0 0 + getD l 1 0 + getD l 2 0 + getD l 3 0 + (getD l 4 0 + getD l 5 0 + getD l 6 0 + getD l 7 0)
@@ -54,29 +51,20 @@ some-used l h = go (Zeros l) refl
 
 -- the tests of a writer that holds none, one after another
 module _ (offset depth : ℕ) (l : List ℕ) (size : ℕ) where
-  pub beyond-buffer : size < offset → false ≡ soundPlaces offset depth 0 l size
+  pub beyond-buffer : size < offset → false ≡ soundFor offset depth 0 l size
   beyond-buffer h = simp (lt-leb offset size h)
 
-  pub too-deep : offset ≤ size → 255 < depth → false ≡ soundPlaces offset depth 0 l size
+  pub too-deep : offset ≤ size → 255 < depth → false ≡ soundFor offset depth 0 l size
   too-deep a h = simp (le-leb offset size a, le-leb 0 depth (omega arith), lt-leb depth 255 h)
 
-  pub rested : (t : Bool) → offset ≤ size → depth ≤ 255 → Zeros l ≡ t → soundPlaces offset depth 0 l size ≡ t
+  pub rested : (t : Bool) → offset ≤ size → depth ≤ 255 → Zeros l ≡ t → soundFor offset depth 0 l size ≡ t
   unfolding every
   rested t a d e = simp (le-leb offset size a, le-leb 0 depth (omega arith), le-leb depth 255 d) e
 
   -- the last one: the sum of all places
-  pub all-rested : (x : ℕ) → length l ≡ 8 → offset ≤ size → depth ≤ 255 → x ≡ sumOf l → eqb x 0 ≡ soundPlaces offset depth 0 l size
+  pub all-rested : (x : ℕ) → length l ≡ 8 → offset ≤ size → depth ≤ 255 → x ≡ sumOf l → eqb x 0 ≡ soundFor offset depth 0 l size
   all-rested x n a d e = go (eqb x 0) refl
     where
-      go : (t : Bool) → eqb x 0 ≡ t → t ≡ soundPlaces offset depth 0 l size
+      go : (t : Bool) → eqb x 0 ≡ t → t ≡ soundFor offset depth 0 l size
       go true z = sym (rested true a d (none-used l n (sym e ∙ eqb-true x 0 z)))
       go false z = sym (rested false a d (some-used l (λ y. eqb-false x 0 z (e ∙ y))))
-
--- a writer's own test
-pub no-id-held : (w : OStream) (size : ℕ) → w .npending ≡ 0 → soundStream w size ≡ soundPlaces (w .offset) (w .depth) 0 (w .pending) size
-unfolding soundStream
-no-id-held w size e = ap (λ (n : ℕ). soundPlaces (w .offset) (w .depth) n (w .pending) size) e
-
-pub and-false : (a b : Bool) → b ≡ false → false ≡ (a && b)
-and-false true b e = sym e
-and-false false b e = refl

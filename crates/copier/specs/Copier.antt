@@ -1,16 +1,15 @@
 -- The copier's state as that of `copying` and back, and which states are sound.
 use Prim.Native.Nat.{ℕ}
 use mathlib.Core.Bool.{Bool, true, _&&_}
-use lib.Dec.{eqb}
 use Rattle.layout.specs.Limits.{base}
-use Rattle.machine.specs.Call.{reading, owing, broke}
+use Rattle.machine.specs.Calls.{reading, owing, broke}
 use Rattle.istream.specs.declared.IStream.{IStream}
 use Rattle.istream.specs.Stream as reader
 use Rattle.istream.specs.Stream.{stateOf, streamIn}
 use Rattle.ostream.specs.declared.OStream.{OStream}
 use Rattle.ostream.specs.Stream as writer
-use Rattle.copying.specs.Owed.{soundOwed}
 use Rattle.copying.specs.Copy.{Copy}
+use Rattle.copying.specs.Refusals.{soundWith}
 pub use Rattle.owed.specs.Owed.{owedOf, owe, owedIn, placeIn}
 use Rattle.copier.specs.declared.Copier.{Copier}
 
@@ -28,15 +27,13 @@ copierIn w k = record { reader = streamIn (k .reader); writer = moved w (k .pos)
 
 -- ---- sound
 
--- Number 1. "A broken reader has no number in force."
+-- Number 1. "A broken reader has no number in force".
 abbrev pub soundReader : IStream → Bool
-soundReader s = elim (stateOf s) [ reading d p ↦ reader.soundStream s | owing d id r ↦ reader.soundStream s | broke ↦ true ]
+soundReader s = elim (stateOf s) [ reading d p ↦ reader.soundStream base s | owing d id r ↦ reader.soundStream base s | broke ↦ true ]
 
--- Number 6, for a buffer of this length: "Copier: both, no id held, depths equal once any owed event is written; that event's id,
--- subtype, kind, length and count as the layout allows, its place below its output's length."
+-- Number 6, for a buffer of this length.
 unfoldable pub soundWriter : Copier → ℕ → Bool
-soundWriter k size =
-    writer.soundStream (k .writer) size && (eqb (k .writer .npending) 0 && soundOwed base (stateOf (k .reader)) (k .writer .depth) (owedOf (k .owed) (k .place)))
+soundWriter k size = soundWith base (writer.soundStream (k .writer) size) (k .writer .npending) (copyOf k)
 
 abbrev pub soundCopier : Copier → ℕ → Bool
 soundCopier k size = soundReader (k .reader) && soundWriter k size

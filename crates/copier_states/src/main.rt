@@ -10,6 +10,7 @@ use istream::Status;
 use ostream::Count;
 use ostream::OStream;
 use owed::Owed;
+use phase::Carried;
 use phase::Phase;
 use types::ArrayKind;
 use types::RawType;
@@ -60,7 +61,10 @@ fn writer(offset: usize, depth: u16, id: u32, held: u16) -> OStream {
 
 fn state(phase: Phase, depth: u8, writer: OStream, owed: Owed, place: u8) -> Copier {
     Copier {
-        reader: IStream { phase, depth },
+        reader: IStream {
+            phase,
+            carried: Carried { depth },
+        },
         writer,
         owed,
         place,
@@ -132,7 +136,7 @@ fn unaltered(a: Copier, b: Copier) -> bool {
     let pa = ra.phase;
     let pb = rb.phase;
     same_phase(pa, pb)
-        && ra.depth == rb.depth
+        && ra.carried.depth == rb.carried.depth
         && same_writer(wa, wb)
         && same_owed(oa, ob)
         && a.place == b.place
@@ -147,7 +151,7 @@ fn tell_state(before: Copier, after: Copier) {
     let r = after.reader;
     let w = after.writer;
     number(w.offset as u64);
-    number(r.depth as u64);
+    number(r.carried.depth as u64);
     number(w.depth as u64);
     number(after.place as u64);
 }

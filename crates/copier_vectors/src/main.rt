@@ -138,7 +138,7 @@ fn short(run: Run, other: &mut [u8]) -> Run {
     }
 }
 
-// The same, where there is a byte below the position.
+// These two refused calls, where there is a byte below the position.
 fn elsewhere(run: Run, other: &mut [u8], pos: usize) -> Run {
     if pos == 0 {
         return run;
@@ -199,7 +199,7 @@ fn call(run: Run, chunk: &[u8], used: usize, buf: &mut [u8]) -> Heard {
     }
 }
 
-// The same, and at "full" the drain. The bytes used of the chunk are counted from its first.
+// A call, and at "full" the drain. The bytes used of the chunk are counted from its first.
 fn turn(run: Run, chunk: &[u8], used: usize, buf: &mut [u8], want: &[u8], extra: u32) -> Heard {
     let h = call(run, chunk, used, buf);
     let next = if h.said == FULL {
@@ -270,7 +270,7 @@ fn part(run: Run, chunk: &[u8], to: usize, buf: &mut [u8], want: &[u8], plan: Pl
     }
 }
 
-// The same, after what the schedule puts before it.
+// Such a chunk, after what the schedule puts before it.
 fn preceded(run: Run, chunk: &[u8], to: usize, buf: &mut [u8], want: &[u8], plan: Plan) -> Run {
     let ready = between(run, buf, want, plan.extra);
     if plan.extra % 2 == 0 {

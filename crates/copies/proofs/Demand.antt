@@ -11,7 +11,7 @@ use Rattle.layout.specs.Message.{All, Bytes, complete, verdictOf, eventsOf}
 use Rattle.layout.specs.Copy.{plainCopy}
 use Rattle.laws.specs.Events.{encodeEvents}
 use Rattle.laws.proofs.Laws.{fit-base, complete-iff, copy-bytes, copy-complete, copy-events, copy-again, copy-of-events, exactly-when, shortest-copy}
-use Rattle.machine.specs.Call.{standingOf}
+use Rattle.machine.specs.Calls.{standingOf}
 use Rattle.machine.specs.Run.{join, heardOf}
 use Rattle.machine.proofs.Runs.{joined-injective}
 use Rattle.reading.proofs.Feeds.{feeds-read, feeds-joined, feeds-last}
@@ -60,9 +60,9 @@ read-as T w cs e =
     let b = chunk-bytes T cs (w .0) e in
     let v : verdictOf base (join cs) ≡ complete = ap (verdictOf base) e ∙ verdict T w in
     record {
-      events = feeds-joined cs b ∙ ap events e;
-      said = feeds-last cs b ∙ ap heardOf v;
-      stands = feeds-read cs b .2 ∙ ap standingOf v;
+      events = feeds-joined base cs b ∙ ap events e;
+      said = feeds-last base cs b ∙ ap heardOf v;
+      stands = feeds-read base cs b .2 ∙ ap standingOf v;
     }
 
 -- Runs there are: for every list of chunks and every buffer of one byte or more.

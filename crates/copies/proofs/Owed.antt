@@ -1,7 +1,7 @@
 -- What is owed, through the copier's struct and back: the same bytes, the same depth, as sound as before.
 use Prim.Native.Nat.{ℕ, zero, suc}
 use mathlib.Core.Path.{_≡_, refl, sym, ap, _∙_}
-use mathlib.Core.Bool.{Bool, true, false, _&&_}
+use mathlib.Core.Bool.{Bool, true, _&&_}
 use native.Mathlib.Omega.{arith}
 use lib.Dec.{leb, ltb, eqb}
 use borrow.Author.Tests.{eqb-true}
@@ -10,13 +10,10 @@ use Rattle.layout.specs.Limits.{base}
 use Rattle.layout.specs.Field.{Width, fp32, fp64, bytesOf, float, raw, string, blob, unsigneds, signeds, floats}
 use Rattle.layout.specs.Event.{Event, Unsigned, Signed, Float, Piece, Fixlen, Array, Begin, End}
 use Rattle.laws.specs.Events.{eventBytes}
-use Rattle.machine.specs.Call.{State, reading, owing, broke}
+use Rattle.machine.specs.Calls.{State, reading, owing, broke}
 use Rattle.copying.specs.Owed.{Owed, nothing, owes, rest, legal, level, agrees, soundOwed}
+use Rattle.copying.proofs.Sound.{both}
 use Rattle.copier.specs.Copier.{owedOf, owe, owedIn, placeIn}
-
-both : (x y : Bool) → (x && y) ≡ true → (x ≡ true) × (y ≡ true)
-both true y e = (refl, e)
-both false y e = let z : _≡_ {A = ℕ} 0 1 = cc in absurd (omega arith)
 
 three : {x y z : Bool} → x ≡ true → y ≡ true → z ≡ true → (x && (y && z)) ≡ true
 three e f g = simp (e, f, g)

@@ -13,7 +13,7 @@ use lib.Seq.{take-length}
 use Rattle.layout.specs.Limits.{base, pick}
 use Rattle.layout.specs.Message.{All, Bytes, Verdict, brokenAt, verdictOf}
 use Rattle.laws.specs.Events.{encodeEvents}
-use Rattle.machine.specs.Call.{State, reading, owing, broke, verdictAt}
+use Rattle.machine.specs.Calls.{State, reading, owing, broke, verdictAt}
 use Rattle.machine.specs.Run.{Follows, join, verdictsOf, Heard, status, refused, heardOf, heardAll}
 use Rattle.machine.proofs.Calls.{fresh-follows}
 use Rattle.machine.proofs.Prefix.{broken-stays}
@@ -22,7 +22,7 @@ use Rattle.istream.specs.Stream.{stateOf}
 use Rattle.phase.proofs.Phases.{Live}
 use Rattle.istream.proofs.Calls.{state-of-stream}
 use Rattle.ostream.specs.Stream.{at, opened}
-use Rattle.ostream.proofs.Called as writers
+use Rattle.ostream.proofs.Calls as writers
 use Rattle.reading.proofs.Feeds.{bytes-drop}
 use Rattle.copying.specs.Owed.{Owed, nothing, owes, rest, soundOwed}
 use Rattle.copying.specs.Copy as copying
@@ -32,7 +32,7 @@ use Rattle.copying.proofs.Keeps.{copy-keeps}
 use Rattle.copying.proofs.Sound.{sound-plain, copy-sound}
 use Rattle.copier.specs.declared.Copier.{Copier}
 use Rattle.copier.specs.Copier.{copyOf, copierIn}
-use Rattle.copier.specs.Calls.{Said, full, verdict, Left, untouched, saidIn, copied, freshOver, bytes, Sent, over, changed}
+use Rattle.copier.specs.Calls.{Said, full, verdict, Result, untouched, saidIn, copied, freshOver, bytes, Sent, over, changed}
 use Rattle.copier.specs.Calls as calls
 use Rattle.copies.specs.Desk.{told, Desk, Stray, Act, feed, drain, change, stray, ended, filled, fed, feeding, none, counts, holding, sending, act, acts, MayStand, Allowed}
 use Rattle.copies.specs.Stands.{out, whole, Stands}
@@ -186,7 +186,7 @@ module _ (reserved : List ℕ) (cs : List (List ℕ)) (d : Desk) (c : List ℕ) 
   again : stateOf (k .reader) ≡ broke → Fine reserved cs (ended d later (untouched 2 k b))
   again h =
       let g : Follows base (s .read) (s .keeps .events) broke = subst (Follows base (s .read) (s .keeps .events)) h (s .keeps .follows) in
-      let v : verdictOf base (s .read) ≡ brokenAt (length (s .read)) = verdict-broken base (s .read) (g .place) in
+      let v : verdictOf base (s .read) ≡ brokenAt (length (s .read)) = verdict-broken base (s .read) (g .spot) in
       let z : d .read + 0 ≡ length (s .read) = omega (arith, s .count) in
       let w = broken-stays base (s .read) (s .unread ++ c) (length (s .read)) v in
       ends 0 (calls.Said.number 2) k b (s .read) (s .unread ++ c) (append-assoc (s .read) (s .unread) c) (λ n. absurd (n h)) z (s .keeps)
@@ -233,7 +233,7 @@ module _ (reserved : List ℕ) (cs : List (List ℕ)) (d : Desk) (c : List ℕ) 
   at-end v z (n, o, (dep, p, w, t)) =
       let i : take (r .used) c ≡ c = ap (λ (m : ℕ). take m c) n ∙ take-length c in
       let g = subst (Follows base (s .read ++ take (r .used) c) (called .keeps .events)) w (called .keeps .follows) in
-      let x : verdictOf base (s .read ++ take (r .used) c) ≡ verdictAt dep p = verdict-at base (s .read ++ take (r .used) c) dep p (g .place) in
+      let x : verdictOf base (s .read ++ take (r .used) c) ≡ verdictAt dep p = verdict-at base (s .read ++ take (r .used) c) dep p (g .spot) in
       ends (r .used) (verdict v) k′ (r .buf) (s .read ++ take (r .used) c) []
       (ap (λ (l : List ℕ). (s .read ++ l) ++ c) z ∙ ap (λ (l : List ℕ). l ++ c) (append-nil (s .read)) ∙ ap (λ (l : List ℕ). s .read ++ l) (sym i) ∙ sym (append-nil _))
       (λ m. refl) counted-on keeps-on
@@ -245,14 +245,14 @@ module _ (reserved : List ℕ) (cs : List (List ℕ)) (d : Desk) (c : List ℕ) 
       → Fine reserved cs (ended d later (record { used = r .used; said = calls.Said.number 2; copier = k′; buf = r .buf }))
   at-two z (o, w) =
       let g = subst (Follows base (s .read ++ take (r .used) c) (called .keeps .events)) w (called .keeps .follows) in
-      let v : verdictOf base (s .read ++ take (r .used) c) ≡ brokenAt (length (s .read ++ take (r .used) c)) = verdict-broken base (s .read ++ take (r .used) c) (g .place) in
+      let v : verdictOf base (s .read ++ take (r .used) c) ≡ brokenAt (length (s .read ++ take (r .used) c)) = verdict-broken base (s .read ++ take (r .used) c) (g .spot) in
       let x = broken-stays base (s .read ++ take (r .used) c) (drop (r .used) c) (length (s .read ++ take (r .used) c)) v in
       ends (r .used) (calls.Said.number 2) k′ (r .buf) (s .read ++ take (r .used) c) (drop (r .used) c)
       (ap (λ (l : List ℕ). (s .read ++ l) ++ c) z ∙ ap (λ (l : List ℕ). l ++ c) (append-nil (s .read)) ∙ ap (λ (l : List ℕ). s .read ++ l) (sym (take-append-drop (r .used) c)) ∙ sym (append-assoc (s .read) (take (r .used) c) (drop (r .used) c)))
       (λ m. absurd (m (state-of-stream (r .copy .reader) ∙ w))) counted-on keeps-on (ap (refused 2) counted-on ∙ ap heardOf (sym (x .0)))
       sound-on (called .size) (none-owed o) (called .ahead)
 
-  by-answer : (a : copying.Answer) → s .unread ≡ [] → Final a (r .copy) (r .used) c (length b)
+  by-answer : (a : copying.Said) → s .unread ≡ [] → Final a (r .copy) (r .used) c (length b)
       → Fine reserved cs (fed d c later (saidIn a) (record { used = r .used; said = saidIn a; copier = k′; buf = r .buf }))
   by-answer copying.full z h = fills (r .used) k′ (r .buf) (called .few) z keeps-on sound-on (called .size) (called .ahead) (h .0 ∙ sym (called .size))
   by-answer (copying.verdict v) z h = at-end v z h
@@ -261,16 +261,16 @@ module _ (reserved : List ℕ) (cs : List (List ℕ)) (d : Desk) (c : List ℕ) 
 
   -- what a feed comes to
   by-feed : (P : Desk → Type 0) → (stateOf (k .reader) ≡ broke → P (ended d later (untouched 2 k b)))
-      → ((a : copying.Answer) → (stateOf (k .reader) ≡ broke → ⊥) → Final a (r .copy) (r .used) c (length b)
+      → ((a : copying.Said) → (stateOf (k .reader) ≡ broke → ⊥) → Final a (r .copy) (r .used) c (length b)
       → P (fed d c later (saidIn a) (record { used = r .used; said = saidIn a; copier = k′; buf = r .buf })))
       → P (fed d c later (copied k c b .said) (copied k c b))
   by-feed P two on = go (stateOf (k .reader)) refl
     where
       reads : Live (stateOf (k .reader)) → (stateOf (k .reader) ≡ broke → ⊥) → P (fed d c later (copied k c b .said) (copied k c b))
-      reads l n = subst (λ (x : Left). P (fed d c later (x .said) x)) (sym (on-live k c b (f .sound) l)) (on (r .answer) n (called .final))
+      reads l n = subst (λ (x : Result). P (fed d c later (x .said) x)) (sym (on-live k c b (f .sound) l)) (on (r .answer) n (called .final))
 
       go : (st : State) → stateOf (k .reader) ≡ st → P (fed d c later (copied k c b .said) (copied k c b))
-      go broke h = subst (λ (x : Left). P (fed d c later (x .said) x)) (sym (on-broken k c b (f .sound) h)) (two h)
+      go broke h = subst (λ (x : Result). P (fed d c later (x .said) x)) (sym (on-broken k c b (f .sound) h)) (two h)
       go (reading dep p) h = reads (subst Live (sym h) tt) (λ x. let z : reading dep p ≡ broke = sym h ∙ x in let w : _≡_ {A = ℕ} 0 1 = cc in omega arith)
       go (owing dep id w) h = reads (subst Live (sym h) tt) (λ x. let z : owing dep id w ≡ broke = sym h ∙ x in let v : _≡_ {A = ℕ} 0 1 = cc in omega arith)
 
@@ -284,7 +284,7 @@ module _ (reserved : List ℕ) (cs : List (List ℕ)) (d : Desk) (c : List ℕ) 
       let a = called .ahead in
       omega (arith, called .size, out-length (d .sent) b (k .writer .offset) (inside k (length b) (f .sound)), out-length (d .sent) (r .buf) (r .copy .pos) (omega (arith, called .size)))
 
-  move : (a : copying.Answer) → Final a (r .copy) (r .used) c (length b) → Moves (fed d c later (saidIn a) (record { used = r .used; said = saidIn a; copier = k′; buf = r .buf }))
+  move : (a : copying.Said) → Final a (r .copy) (r .used) c (length b) → Moves (fed d c later (saidIn a) (record { used = r .used; said = saidIn a; copier = k′; buf = r .buf }))
   move copying.full h =
       (moved-on, inr (refl, refl, out-length (d .sent) (r .buf) (r .copy .pos) (omega (arith, called .size, h .0)) ∙ ap (λ (n : ℕ). length (d .sent) + n) (h .0)))
   move (copying.verdict v) h = (moved-on, inl refl)
@@ -295,7 +295,7 @@ module _ (reserved : List ℕ) (cs : List (List ℕ)) (d : Desk) (c : List ℕ) 
   feed-moves = by-feed Moves (λ h. (omega arith, inl refl)) (λ a n h. move a h)
 
   -- the buffer stays as long as it was
-  size-by : (a : copying.Answer) → Final a (r .copy) (r .used) c (length b) → length (fed d c later (saidIn a) (record { used = r .used; said = saidIn a; copier = k′; buf = r .buf }) .buf) ≡ length b
+  size-by : (a : copying.Said) → Final a (r .copy) (r .used) c (length b) → length (fed d c later (saidIn a) (record { used = r .used; said = saidIn a; copier = k′; buf = r .buf }) .buf) ≡ length b
   size-by copying.full h = called .size
   size-by (copying.verdict v) h = called .size
   size-by copying.invalid h = called .size

@@ -11,7 +11,7 @@ use Rattle.layout.specs.Event.{Event, bytewise}
 use Rattle.layout.specs.Message.{All, Bytes, verdictOf, brokenAt, eventsOf}
 use Rattle.laws.specs.Events.{eventBytes, dueAfterAll, encodeEvents}
 use Rattle.laws.proofs.Copying.{encode-append, bytewise-bytes}
-use Rattle.machine.specs.Call.{State, reading, owing, broke}
+use Rattle.machine.specs.Calls.{State, reading, owing, broke}
 use Rattle.machine.specs.Run.{due, Follows, join, verdictsOf, heardAll}
 use Rattle.machine.proofs.Bridge.{events-walk}
 use Rattle.machine.proofs.Prefix.{broken-stays}
@@ -87,7 +87,7 @@ all-events reserved cs d s n e =
 broken-events : (reserved : List ℕ) (cs : List (List ℕ)) (d : Desk) → (s : Stands reserved cs d) → stateOf (d .copier .reader) ≡ broke → eventsOf base (join cs) ≡ eventsOf base (s .read)
 broken-events reserved cs d s e =
     let g : Follows base (s .read) (s .keeps .events) broke = subst (Follows base (s .read) (s .keeps .events)) e (s .keeps .follows) in
-    let v : verdictOf base (s .read) ≡ brokenAt (length (s .read)) = verdict-broken base (s .read) (g .place) in
+    let v : verdictOf base (s .read) ≡ brokenAt (length (s .read)) = verdict-broken base (s .read) (g .spot) in
     ap (eventsOf base) (all-bytes reserved cs d s ∙ append-assoc (s .read) (s .unread) (join (d .chunks)))
     ∙ broken-stays base (s .read) (s .unread ++ join (d .chunks)) (length (s .read)) v .1
 

@@ -4,17 +4,17 @@ use Prim.Native.Nat.{ℕ, zero, suc, _≤_, _<_}
 use native.Mathlib.Omega.{arith}
 use mathlib.Core.Path.{_≡_, refl, sym, ap, _∙_, subst}
 use mathlib.Core.Logic.{_⊎_, inl, inr}
-use mathlib.Core.Bool.{Bool, true, false, _&&_}
+use mathlib.Core.Bool.{Bool, true, false}
 use mathlib.Core.List.{List}
-use lib.Dec.{leb, eqb}
-use borrow.Author.Tests.{eqb-true, eq-eqb, leb-true, leb-false, le-leb}
+use lib.Dec.{leb}
+use borrow.Author.Tests.{leb-true, leb-false, le-leb}
 use lib.ListN.{length}
-use Rattle.layout.specs.Limits.{base, pick}
+use Rattle.layout.specs.Limits.{base}
 use Rattle.layout.specs.Message.{Bytes}
 use Rattle.machine.specs.Machine.{inHeader, inUnsigned, inSigned, inWord, inUnsignedCount, inSignedCount, inFloatCount, inArrayWord, inFloat, inPayload}
-use Rattle.machine.specs.Call.{State, reading, owing, broke, fresh}
-use Rattle.machine.specs.Run.{placeOf}
-use Rattle.machine.proofs.Calls.{FairPlace}
+use Rattle.machine.specs.Calls.{State, reading, owing, broke, fresh}
+use Rattle.machine.specs.Run.{spotOf}
+use Rattle.machine.proofs.Calls.{FairSpot}
 use Rattle.istream.specs.declared.IStream.{IStream}
 use Rattle.istream.specs.Stream as reader
 use Rattle.istream.specs.Stream.{stateOf, streamIn}
@@ -26,62 +26,59 @@ use Rattle.ostream.specs.declared.Counted.{Counted}
 use Rattle.ostream.specs.declared.Written.{Written}
 use Rattle.ostream.specs.Stream as writer
 use Rattle.ostream.specs.Stream.{at, opened}
-use Rattle.ostream.proofs.Called as writers
-use Rattle.ostream.proofs.Straight.{quiet}
+use Rattle.ostream.proofs.Calls as writers
+use Rattle.ostream.proofs.AtOnce.{quiet}
 use Rattle.ostream.proofs.Buffers.{sound-at, opened-sound, unheld-clean, drained-is, drain-refused, fits, open-taken, open-refused, change-refused, change-unsound, change-taken}
 use Rattle.copying.specs.Owed.{agrees, soundOwed}
 use Rattle.copying.specs.Copy as copying
 use Rattle.copying.specs.Copy.{Copied, copy}
 use Rattle.copying.proofs.Sound as counted
-use Rattle.copying.proofs.Sound.{Sounds, copy-sound}
+use Rattle.copying.proofs.Sound.{both, Sounds, copy-sound}
+use Rattle.copying.specs.Refusals.{isBroke}
+use Rattle.copying.proofs.Refusals.{with-parts, with-owed, unsound-reader, unsound-writer, broken-reader, none-refused}
 use Rattle.copying.proofs.Allowed.{InForce}
 use Rattle.copying.proofs.Reader.{copy-reader}
 use Rattle.reading.proofs.Feeds.{call-sound}
 use Rattle.copier.specs.declared.Copier.{Copier}
 use Rattle.copier.specs.Copier.{owedOf, owedIn, placeIn, copyOf, moved, copierIn, soundReader, soundWriter, soundCopier}
-use Rattle.copier.specs.Calls.{Said, full, verdict, Left, untouched, saidIn, leftIn, carried, copied, Opens, taken, Started, opensIn, freshOver, started, Sends, bytes, sendsOf, Sent, over, drained, changed}
+use Rattle.copier.specs.Calls.{Said, full, verdict, Result, untouched, saidIn, resultIn, copied, Opens, taken, Started, opensIn, freshOver, started, Sends, bytes, sendsOf, Sent, over, drained, changed}
 use Rattle.copier.specs.Calls as calls
 use Rattle.copies.specs.Desk.{saidNumber, sendsNumber, Stray, feeds, drains, changes, opens, handedBack, refusedWith}
 use Rattle.copies.proofs.Owed.{owed-back}
-
-both : (x y : Bool) → (x && y) ≡ true → (x ≡ true) × (y ≡ true)
-both true y e = (refl, e)
-both false y e = let z : _≡_ {A = ℕ} 0 1 = cc in absurd (omega arith)
 
 -- ---- what the tests say
 
 pub record Sound (k : Copier) (size : ℕ) : Type 0 where
   pub tested : soundReader (k .reader) ≡ true
   pub tests : soundWriter k size ≡ true
-  pub reader : SoundState (stateOf (k .reader))
+  pub reader : SoundState base (stateOf (k .reader))
   pub writer : writer.soundStream (k .writer) size ≡ true
   pub unheld : k .writer .npending ≡ 0
   pub owed : soundOwed base (stateOf (k .reader)) (k .writer .depth) (owedOf (k .owed) (k .place)) ≡ true
 
-reader-is : (s : IStream) → soundReader s ≡ true → SoundState (stateOf s)
+reader-is : (s : IStream) → soundReader s ≡ true → SoundState base (stateOf s)
 reader-is s h = go (stateOf s) refl h
   where
-    go : (st : State) → stateOf s ≡ st → _≡_ {A = Bool} (elim st [ reading d p ↦ reader.soundStream s | owing d id r ↦ reader.soundStream s | broke ↦ true ]) true → SoundState st
-    go (reading d p) e t = subst SoundState e (readers.is-sound s t)
-    go (owing d id r) e t = subst SoundState e (readers.is-sound s t)
+    go : (st : State) → stateOf s ≡ st → _≡_ {A = Bool} (elim st [ reading d p ↦ reader.soundStream base s | owing d id r ↦ reader.soundStream base s | broke ↦ true ]) true → SoundState base st
+    go (reading d p) e t = subst (SoundState base) e (readers.is-sound base s t)
+    go (owing d id r) e t = subst (SoundState base) e (readers.is-sound base s t)
     go broke e t = tt
 
-is-reader : (st : State) → SoundState st → soundReader (streamIn st) ≡ true
+is-reader : (st : State) → SoundState base st → soundReader (streamIn st) ≡ true
 is-reader st h =
-    ap (λ (x : State). elim x as (λ y. Bool) [ reading d p ↦ reader.soundStream (streamIn st) | owing d id r ↦ reader.soundStream (streamIn st) | broke ↦ true ]) (state-of-stream st) ∙ go st h
+    ap (λ (x : State). elim x as (λ y. Bool) [ reading d p ↦ reader.soundStream base (streamIn st) | owing d id r ↦ reader.soundStream base (streamIn st) | broke ↦ true ]) (state-of-stream st) ∙ go st h
   where
-    go : (x : State) → SoundState x → _≡_ {A = Bool} (elim x as (λ y. Bool) [ reading d p ↦ reader.soundStream (streamIn x) | owing d id r ↦ reader.soundStream (streamIn x) | broke ↦ true ]) true
-    go (reading d p) h = readers.sound-is (reading d p) h
-    go (owing d id r) h = readers.sound-is (owing d id r) h
+    go : (x : State) → SoundState base x → _≡_ {A = Bool} (elim x as (λ y. Bool) [ reading d p ↦ reader.soundStream base (streamIn x) | owing d id r ↦ reader.soundStream base (streamIn x) | broke ↦ true ]) true
+    go (reading d p) h = readers.sound-is base (reading d p) h
+    go (owing d id r) h = readers.sound-is base (owing d id r) h
     go broke h = refl
 
 pub is-sound : (k : Copier) (size : ℕ) → soundCopier k size ≡ true → Sound k size
 unfolding soundWriter
 is-sound k size h =
     let a = both (soundReader (k .reader)) (soundWriter k size) h in
-    let b = both (writer.soundStream (k .writer) size) _ (a .1) in
-    let c = both (eqb (k .writer .npending) 0) _ (b .1) in
-    record { tested = a .0; tests = a .1; reader = reader-is (k .reader) (a .0); writer = b .0; unheld = eqb-true _ _ (c .0); owed = c .1 }
+    let p = with-parts base (writer.soundStream (k .writer) size) (k .writer .npending) (copyOf k) (a .1) in
+    record { tested = a .0; tests = a .1; reader = reader-is (k .reader) (a .0); writer = p .0; unheld = p .1; owed = p .2 }
 
 pub sound-is : (k : Copier) (size : ℕ) → Sound k size → soundCopier k size ≡ true
 sound-is k size h = simp (h .tested, h .tests)
@@ -90,12 +87,12 @@ sound-is k size h = simp (h .tested, h .tests)
 pub make : (k : Copier) (size : ℕ) → soundReader (k .reader) ≡ true → writer.soundStream (k .writer) size ≡ true → k .writer .npending ≡ 0
     → soundOwed base (stateOf (k .reader)) (k .writer .depth) (owedOf (k .owed) (k .place)) ≡ true → Sound k size
 unfolding soundWriter
-make k size r w n o = record { tested = r; tests = simp (w, eq-eqb _ _ n, o); reader = reader-is (k .reader) r; writer = w; unheld = n; owed = o }
+make k size r w n o = record { tested = r; tests = with-owed base (writer.soundStream (k .writer) size) (k .writer .npending) (copyOf k) w n ∙ o; reader = reader-is (k .reader) r; writer = w; unheld = n; owed = o }
 
 -- ---- feeding
 
 -- what the layout's limits ask of a reader's state, of a sound one
-fair : (st : State) → SoundState st → InForce base st × FairPlace (placeOf st)
+fair : (st : State) → SoundState base st → InForce base st × FairSpot (spotOf st)
 fair (reading d (inHeader zero v)) (l, s) = ((l, tt), omega (arith, s .small))
 fair (reading d (inHeader (suc k) v)) (l, s) = ((l, tt), tt)
 fair (reading d (inUnsigned id left k v)) (l, (i, (c, s))) = ((l, (i, c)), tt)
@@ -123,7 +120,7 @@ pub carried-sound : (k : Copier) (c b : List ℕ) → Bytes c → Sound k (lengt
 carried-sound k c b h s =
     let r : Copied = copy base (copyOf k) c b in
     let q : Sounds base (copyOf k) c b r = copy-sound base (copyOf k) c b (counted-sound k (length b) s) (inside k (length b) s) in
-    let t : SoundState (r .copy .reader) = copy-reader base SoundState (λ n. n < 256) (λ st d b h. call-sound st d h b) (copyOf k) c b h (s .reader) in
+    let t : SoundState base (r .copy .reader) = copy-reader base (SoundState base) (λ n. n < 256) (λ st d b h. call-sound base st d h b) (copyOf k) c b h (s .reader) in
     make (copierIn (k .writer) (r .copy)) (length b) (is-reader (r .copy .reader) t)
     (quiet (moved (k .writer) (r .copy .pos) (r .copy .depth)) (length b) (q .within) (s .unheld) (q .sound .depth) (unheld-clean (k .writer) (length b) (s .writer) (s .unheld)))
     (s .unheld)
@@ -133,19 +130,19 @@ carried-sound k c b h s =
 -- a call on a sound copier: on the reader that stands broken, and on any other
 pub on-broken : (k : Copier) (c b : List ℕ) → Sound k (length b) → stateOf (k .reader) ≡ broke → copied k c b ≡ untouched 2 k b
 unfolding copied
-on-broken k c b s e = simp (s .tested, s .tests) (ap (λ (st : State). carried st k c b) e)
+on-broken k c b s e = broken-reader _ _ _ (λ n. untouched n k b) _ (s .tested) (s .tests) (ap isBroke e)
 
-pub on-live : (k : Copier) (c b : List ℕ) → Sound k (length b) → Live (stateOf (k .reader)) → copied k c b ≡ leftIn k (copy base (copyOf k) c b)
+pub on-live : (k : Copier) (c b : List ℕ) → Sound k (length b) → Live (stateOf (k .reader)) → copied k c b ≡ resultIn k (copy base (copyOf k) c b)
 unfolding copied
-on-live k c b s l = simp (s .tested, s .tests) (go (stateOf (k .reader)) l)
+on-live k c b s l = none-refused _ _ _ (λ n. untouched n k b) _ (s .tested) (s .tests) (go (stateOf (k .reader)) l)
   where
-    go : (st : State) → Live st → carried st k c b ≡ leftIn k (copy base (copyOf k) c b)
+    go : (st : State) → Live st → isBroke st ≡ false
     go (reading d p) l = refl
     go (owing d id r) l = refl
     go broke l = absurd l
 
 -- Every feed hands back a sound copier, and a buffer of the same length.
-abbrev Stays : ℕ → Left → Type 0
+abbrev Stays : ℕ → Result → Type 0
 Stays size r = Sound (r .copier) size × (length (r .buf) ≡ size)
 
 live-stays : (k : Copier) (c b : List ℕ) → Bytes c → Sound k (length b) → Live (stateOf (k .reader)) → Stays (length b) (copied k c b)
@@ -190,7 +187,7 @@ unfolding changed
 change-not k old new offset l s =
     ap (λ (r : Counted). record { sends = sendsOf (r .answer); copier = over k (r .stream) }) (change-unsound (k .writer) old new offset true (fits new offset true l) s)
 
--- the same copier, at another position of another buffer
+-- a sound copier is sound at another position of another buffer
 pub moved-sound : (k : Copier) (size p q : ℕ) → Sound k size → p ≤ q → Sound (over k (at (k .writer) p)) q
 moved-sound k size p q s l = make (over k (at (k .writer) p)) q (s .tested) (sound-at (k .writer) size p q (s .writer) l) (s .unheld) (s .owed)
 
@@ -217,9 +214,9 @@ start-unfit size offset l = ap (λ (r : Written). record { opens = opensIn (r .a
 
 fresh-sound : (size offset : ℕ) → offset ≤ size → Sound (freshOver (opened offset)) size
 unfolding opened soundOwed agrees
-fresh-sound size offset l = make (freshOver (opened offset)) size (is-reader fresh (readers.is-sound (streamIn fresh) readers.fresh-sound)) (opened-sound offset size l) refl refl
+fresh-sound size offset l = make (freshOver (opened offset)) size (is-reader fresh (readers.is-sound base (streamIn fresh) (readers.fresh-sound base))) (opened-sound offset size l) refl refl
 
--- "A fresh copier is sound"; where its opening is refused, for any buffer, since it stands at 0.
+-- A fresh copier is sound; where its opening is refused, for any buffer, since it stands at 0.
 pub started-sound : (size offset : ℕ) → soundCopier (started size offset .copier) size ≡ true
 started-sound size offset = go (leb size offset) refl
   where
@@ -232,20 +229,21 @@ started-sound size offset = go (leb size offset) refl
 -- ---- refusals
 
 -- what a feed comes to, by its tests, for any state whatever
-copied-by : (k : Copier) (c b : List ℕ) (t u : Bool) → soundReader (k .reader) ≡ t → soundWriter k (length b) ≡ u
-    → copied k c b ≡ pick t (pick u (carried (stateOf (k .reader)) k c b) (untouched 6 k b)) (untouched 1 k b)
+on-unsound : (k : Copier) (c b : List ℕ) → soundReader (k .reader) ≡ false → copied k c b ≡ untouched 1 k b
 unfolding copied
-copied-by k c b t u e f =
-    ap (λ (x : Bool). pick x (pick (soundWriter k (length b)) (carried (stateOf (k .reader)) k c b) (untouched 6 k b)) (untouched 1 k b)) e
-    ∙ ap (λ (x : Bool). pick t (pick x (carried (stateOf (k .reader)) k c b) (untouched 6 k b)) (untouched 1 k b)) f
+on-unsound k c b e = unsound-reader _ _ _ (λ n. untouched n k b) _ e
 
-by-tests : (k : Copier) (c b : List ℕ) (P : Left → Type 0) → P (untouched 1 k b) → P (untouched 6 k b) → P (untouched 2 k b)
-    → (Sound k (length b) → P (leftIn k (copy base (copyOf k) c b))) → P (copied k c b)
+on-unfit : (k : Copier) (c b : List ℕ) → soundReader (k .reader) ≡ true → soundWriter k (length b) ≡ false → copied k c b ≡ untouched 6 k b
+unfolding copied
+on-unfit k c b e f = unsound-writer _ _ _ (λ n. untouched n k b) _ e f
+
+by-tests : (k : Copier) (c b : List ℕ) (P : Result → Type 0) → P (untouched 1 k b) → P (untouched 6 k b) → P (untouched 2 k b)
+    → (Sound k (length b) → P (resultIn k (copy base (copyOf k) c b))) → P (copied k c b)
 by-tests k c b P one six two live = go (soundReader (k .reader)) refl (soundWriter k (length b)) refl
   where
     go : (t : Bool) → soundReader (k .reader) ≡ t → (u : Bool) → soundWriter k (length b) ≡ u → P (copied k c b)
-    go false e u f = subst P (sym (copied-by k c b false u e f)) one
-    go true e false f = subst P (sym (copied-by k c b true false e f)) six
+    go false e u f = subst P (sym (on-unsound k c b e)) one
+    go true e false f = subst P (sym (on-unfit k c b e f)) six
     go true e true f =
         let s : Sound k (length b) = is-sound k (length b) (simp (e, f)) in
         by-state (stateOf (k .reader)) refl s
@@ -255,7 +253,7 @@ by-tests k c b P one six two live = go (soundReader (k .reader)) refl (soundWrit
         by-state (reading d p) q s = subst P (sym (on-live k c b s (subst Live (sym q) tt))) (live s)
         by-state (owing d id r) q s = subst P (sym (on-live k c b s (subst Live (sym q) tt))) (live s)
 
-abbrev Refuses : Copier → List ℕ → Left → Type 0
+abbrev Refuses : Copier → List ℕ → Result → Type 0
 Refuses k b r = (n : ℕ) → r .said ≡ calls.Said.number n → ((n ≡ 1) ⊎ ((n ≡ 6) ⊎ (n ≡ 2))) × ((n ≡ 1) ⊎ (n ≡ 6) → r ≡ untouched n k b)
 
 same-number : {m n : ℕ} → calls.Said.number m ≡ calls.Said.number n → m ≡ n
@@ -265,17 +263,18 @@ two-is : {A : Type 0} (n : ℕ) → 2 ≡ n → (n ≡ 1) ⊎ (n ≡ 6) → A
 two-is n e (inl f) = absurd (omega arith)
 two-is n e (inr f) = absurd (omega arith)
 
-refuses-live : (k : Copier) (c b : List ℕ) → Sound k (length b) → Refuses k b (leftIn k (copy base (copyOf k) c b))
+refuses-live : (k : Copier) (c b : List ℕ) → Sound k (length b) → Refuses k b (resultIn k (copy base (copyOf k) c b))
 refuses-live k c b s n = go (copy base (copyOf k) c b .answer) (copy-sound base (copyOf k) c b (counted-sound k (length b) s) (inside k (length b) s) .ends)
   where
-    go : (a : copying.Answer) → (a ≡ copying.unfinished → ⊥) → saidIn a ≡ calls.Said.number n
-        → ((n ≡ 1) ⊎ ((n ≡ 6) ⊎ (n ≡ 2))) × ((n ≡ 1) ⊎ (n ≡ 6) → leftIn k (copy base (copyOf k) c b) ≡ untouched n k b)
+    go : (a : copying.Said) → (a ≡ copying.unfinished → ⊥) → saidIn a ≡ calls.Said.number n
+        → ((n ≡ 1) ⊎ ((n ≡ 6) ⊎ (n ≡ 2))) × ((n ≡ 1) ⊎ (n ≡ 6) → resultIn k (copy base (copyOf k) c b) ≡ untouched n k b)
     go copying.full u e = let z : _≡_ {A = ℕ} 0 1 = cc in absurd (omega arith)
     go (copying.verdict v) u e = let z : _≡_ {A = ℕ} 0 1 = cc in absurd (omega arith)
     go copying.invalid u e = let m = same-number e in (inr (inr (sym m)), λ f. two-is n m f)
     go copying.unfinished u e = absurd (u refl)
 
--- "The copier gives 1, then 6, then 2, and no others; on 1 and 6 nothing is read", and nothing alters. A call never runs out of turns.
+-- "The copier gives 1, then 6 (also where its own conditions above fail), then 2, and no others; on 1 and 6 nothing is read", and nothing
+-- alters. A call never runs out of turns.
 pub refusals : (k : Copier) (c b : List ℕ) (n : ℕ) → copied k c b .said ≡ calls.Said.number n
     → ((n ≡ 1) ⊎ ((n ≡ 6) ⊎ (n ≡ 2))) × ((n ≡ 1) ⊎ (n ≡ 6) → copied k c b ≡ untouched n k b)
 refusals k c b =
@@ -297,7 +296,7 @@ neither n l (inr e) = absurd (omega arith)
 feed-back : (k : Copier) (c b : List ℕ) → FiveOrSix (saidNumber (copied k c b .said)) → copied k c b .copier ≡ k
 feed-back k c b = by-tests k c b (λ r. FiveOrSix (saidNumber (r .said)) → r .copier ≡ k) (λ f. refl) (λ f. refl) (λ f. refl) (λ s. go (copy base (copyOf k) c b .answer))
   where
-    go : (a : copying.Answer) → FiveOrSix (saidNumber (saidIn a)) → copierIn (k .writer) (copy base (copyOf k) c b .copy) ≡ k
+    go : (a : copying.Said) → FiveOrSix (saidNumber (saidIn a)) → copierIn (k .writer) (copy base (copyOf k) c b .copy) ≡ k
     go copying.full f = neither 0 (omega arith) f
     go (copying.verdict v) f = neither 0 (omega arith) f
     go copying.invalid f = neither 2 (omega arith) f

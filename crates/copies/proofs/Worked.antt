@@ -9,12 +9,13 @@ use Rattle.layout.specs.Varint.{push, shortestIn, shortest}
 use Rattle.layout.specs.Field.{lowBytes}
 use Rattle.layout.specs.Message.{complete, incomplete}
 use Rattle.laws.specs.Events.{eventBytes}
-use Rattle.machine.specs.Machine.{atHeader, atWord, atUnsignedCount, atSignedCount, atFloatCount, atArrayWord, atUnsigned, atSigned, within, atFloat, atByte, step, ending, judge}
-use Rattle.machine.specs.Call.{broke, scanned, scan, call}
+use Rattle.machine.specs.Machine.{atHeader, atWord, atUnsignedCount, atSignedCount, atFloatCount, atArrayWord, atUnsigned, atSigned, within, atFloat, atByte, step, ending, verdictAfter}
+use Rattle.machine.specs.Calls.{broke, scanned, scan, call}
 use Rattle.machine.specs.Run.{Heard, status}
 use Rattle.emit.specs.Put.{over, put, reached}
 use Rattle.varint.specs.Varint.{soundAcc}
 use Rattle.phase.specs.declared.Phase.the-variants.{Header}
+use Rattle.phase.specs.Phases.{carriedAt}
 use Rattle.istream.specs.declared.IStream.{IStream}
 use Rattle.istream.specs.Stream as reader
 use Rattle.istream.specs.Stream.{streamIn}
@@ -22,6 +23,7 @@ use Rattle.ostream.specs.Stream as writer
 use Rattle.ostream.specs.Buffer.{opening, draining, changing}
 use Rattle.copying.specs.Owed.{rest, further, depthBy, depthOnce, dueIn, legal, level, agrees, soundOwed}
 use Rattle.copying.specs.Copy.{handed, stuck, heard, copies, copy}
+use Rattle.copying.specs.Refusals.{soundWith, refusing}
 use Rattle.owed.specs.declared.Owed.the-variants.{Nothing}
 use Rattle.copier.specs.declared.Copier.{Copier}
 use Rattle.copier.specs.Copier.{soundWriter}
@@ -65,7 +67,7 @@ pub worked : row schedule (start (0xEE ∷ []) chunks)
       drains = 3;
       numbers = 6 ∷ 6 ∷ 6 ∷ 5 ∷ 5 ∷ 5 ∷ [];
     }
-unfolding acts act numbers feeding copied soundWriter started drained changed opening draining changing writer.opened writer.soundStream writer.every reader.soundStream soundAcc soundOwed agrees level legal copy copies heard handed stuck rest further depthBy depthOnce dueIn eventBytes over put reached call scan scanned step within atHeader atWord atUnsignedCount atSignedCount atFloatCount atArrayWord atUnsigned atSigned atFloat atByte ending judge push shortest shortestIn lowBytes
+unfolding acts act numbers feeding copied refusing soundWriter soundWith started drained changed opening draining changing writer.opened writer.soundStream writer.every reader.soundStream soundAcc soundOwed agrees level legal copy copies heard handed stuck rest further depthBy depthOnce dueIn eventBytes over put reached call scan scanned step within atHeader atWord atUnsignedCount atSignedCount atFloatCount atArrayWord atUnsigned atSigned atFloat atByte ending verdictAfter push shortest shortestIn lowBytes
 worked = refl
 
 -- a copier with nothing owed, its writer at this position
@@ -74,7 +76,7 @@ at s n = record { reader = s; writer = writer.opened n; owed = Nothing; place = 
 
 -- a reader with a header of ten bytes taken
 abbrev wild : IStream
-wild = record { phase = Header (record { value = 0; taken = 10 }); depth = 0 }
+wild = record { phase = Header (record { value = 0; taken = 10 }); carried = carriedAt 0 }
 
 abbrev refused : Copier → ℕ
 refused k = saidNumber (copied k (0x08 ∷ []) (0xEE ∷ []) .said)
@@ -83,17 +85,17 @@ refused k = saidNumber (copied k (0x08 ∷ []) (0xEE ∷ []) .said)
 abbrev holding : Copier
 holding =
     record {
-      reader = record { phase = Header (record { value = 0; taken = 0 }); depth = 1 };
+      reader = record { phase = Header (record { value = 0; taken = 0 }); carried = carriedAt 1 };
       writer = record { offset = 0; depth = 1; pending = 5 ∷ replicate 7 0; npending = 1 };
       owed = Nothing;
       place = 0;
     }
 
--- "The copier gives 1, then 6, then 2", over a buffer of one byte: an unsound reader and a broken one, with the writer beyond the buffer and
+-- The copier gives 1, then 6, then 2, over a buffer of one byte: an unsound reader and a broken one, with the writer beyond the buffer and
 -- within it; and 6 for an id held
 pub worked-refusals : refused (at wild 2) ∷ refused (at wild 0) ∷ refused (at (streamIn broke) 2) ∷ refused (at (streamIn broke) 0) ∷ refused holding ∷ []
     ≡ 1 ∷ 1 ∷ 6 ∷ 2 ∷ 6 ∷ []
-unfolding copied soundWriter writer.opened writer.soundStream writer.every reader.soundStream soundAcc soundOwed
+unfolding copied refusing soundWriter soundWith writer.opened writer.soundStream writer.every reader.soundStream soundAcc soundOwed
 worked-refusals = refl
 
 -- it is the id alone: the writer by itself is sound

@@ -10,8 +10,8 @@ use Rattle.layout.specs.Limits.{base}
 use Rattle.layout.specs.Event.{Event, joined}
 use Rattle.layout.specs.Message.{Bytes, Complete, complete, eventsOf}
 use Rattle.layout.specs.Copy.{plainCopy}
-use Rattle.machine.specs.Call.{fresh, standing}
-use Rattle.machine.specs.Call as calls
+use Rattle.machine.specs.Calls.{fresh, standing}
+use Rattle.machine.specs.Calls as calls
 use Rattle.machine.specs.Run.{join, verdictsOf, status, heardAll, lastHeard}
 use Rattle.istream.specs.Stream.{stateOf, streamIn}
 use Rattle.reading.specs.Feeds.{feedAll}
@@ -50,9 +50,9 @@ output r = act drain (after r) .sent
 
 -- Chunks that the reader's own calls read as complete, with these events, pieces joined; no chunk at all too.
 pub record ReadAs (cs : List (List ℕ)) (es : List Event) : Type 0 where
-  pub events : joined (feedAll (streamIn fresh) 0 cs .events) ≡ es
-  pub said : lastHeard (status complete) (feedAll (streamIn fresh) 0 cs .verdicts) ≡ status complete
-  pub stands : standing (stateOf (feedAll (streamIn fresh) 0 cs .stream)) ≡ calls.Standing.complete
+  pub events : joined (feedAll base (streamIn fresh) 0 cs .events) ≡ es
+  pub said : lastHeard (status complete) (feedAll base (streamIn fresh) 0 cs .verdicts) ≡ status complete
+  pub stands : standing (stateOf (feedAll base (streamIn fresh) 0 cs .stream)) ≡ calls.Standing.complete
 
 pub record Demand : Type 0 where
   -- the opening is not refused
@@ -67,7 +67,7 @@ pub record Demand : Type 0 where
   pub says : (T : List ℕ) → Whole T → (r : Run T) → after r .heard ≡ heardAll (verdictsOf base [] (r .chunks))
   -- "Then the bytes sent, the manifest M, equal the plain copy of T that 01 defines, so they are the same for all cuts, buffers and drains."
   pub copies : (T : List ℕ) → Whole T → (r : Run T) → output r ≡ plainCopy base T
-  -- "T and M, in whatever chunks, are read as complete with the same events;"
+  -- "T and M, in whatever chunks, are read as complete with the same events (payload pieces joined, floats compared by bits);"
   pub reads : (T : List ℕ) → Whole T → (r : Run T) (cs : List (List ℕ)) → (join cs ≡ T) ⊎ (join cs ≡ output r) → ReadAs cs (events T)
   -- "M's own manifest is M;"
   pub again : (T : List ℕ) → Whole T → (r : Run T) (s : Run (output r)) → output s ≡ output r

@@ -10,7 +10,7 @@ use lib.ListN.{length, take, drop}
 use Rattle.layout.specs.Limits.{pick}
 use Rattle.machine.specs.Run.{Heard, status, refused, nothing}
 use Rattle.copier.specs.declared.Copier.{Copier}
-use Rattle.copier.specs.Calls.{Said, full, verdict, Left, copied, Opens, taken, started, Sends, bytes, drained, changed}
+use Rattle.copier.specs.Calls.{Said, full, verdict, Result, copied, Opens, taken, started, Sends, bytes, drained, changed}
 use Rattle.copier.specs.Calls as calls
 
 -- ---- the desk
@@ -37,7 +37,7 @@ pub record Desk : Type 0 where
 abbrev pub openedAt : ℕ → List ℕ → List (List ℕ) → Desk
 openedAt offset b cs = record { copier = started (length b) offset .copier; buf = b; sent = []; chunks = cs; read = 0; heard = []; full = false; drains = 0 }
 
--- "A fresh copier, opened at offset 0."
+-- "A fresh copier, opened at offset 0".
 abbrev pub start : List ℕ → List (List ℕ) → Desk
 start b cs = openedAt 0 b cs
 
@@ -57,7 +57,7 @@ pub data Act : Type 0 where
   stray : Stray → Act
 
 -- "After "full" come a drain and the chunk's rest, even an empty one, until a verdict." A refusal ends the chunk too.
-abbrev pub ended : Desk → List (List ℕ) → Left → Desk
+abbrev pub ended : Desk → List (List ℕ) → Result → Desk
 ended d cs r =
     record {
       copier = r .copier;
@@ -70,7 +70,7 @@ ended d cs r =
       drains = d .drains;
     }
 
-abbrev pub filled : Desk → List ℕ → List (List ℕ) → Left → Desk
+abbrev pub filled : Desk → List ℕ → List (List ℕ) → Result → Desk
 filled d c cs r =
     record {
       copier = r .copier;
@@ -83,7 +83,7 @@ filled d c cs r =
       drains = d .drains;
     }
 
-abbrev pub fed : Desk → List ℕ → List (List ℕ) → Said → Left → Desk
+abbrev pub fed : Desk → List ℕ → List (List ℕ) → Said → Result → Desk
 fed d c cs full r = filled d c cs r
 fed d c cs (verdict v) r = ended d cs r
 fed d c cs (calls.Said.number n) r = ended d cs r

@@ -7,7 +7,7 @@ use lib.ListN.{length, take}
 use Rattle.layout.specs.Limits.{base, pick}
 use Rattle.layout.specs.Message.{eventsOf}
 use Rattle.laws.specs.Events.{encodeEvents}
-use Rattle.machine.specs.Call.{broke}
+use Rattle.machine.specs.Calls.{broke}
 use Rattle.machine.specs.Run.{join, verdictsOf, heardAll}
 use Rattle.istream.specs.Stream.{stateOf}
 use Rattle.copying.specs.Owed.{rest}

@@ -16,10 +16,10 @@ use Rattle.layout.specs.Event.{Event, Unsigned, Signed, Float, Piece, Fixlen, A
 use Rattle.machine.specs.Machine.{Phase, inHeader, inUnsigned, inSigned, inWord, inUnsignedCount, inSignedCount, inFloatCount, inArrayWord, inFloat, inPayload}
 use Rattle.machine.specs.Machine.{idle, Stepped, on, bad, nextOr, atWire, atHeader, atPayload, atSubtype, atWord, atUnsignedCount, atSignedCount, atFloatCount}
 use Rattle.machine.specs.Machine.{atElement, atArrayWord, atUnsigned, atSigned, within, atFloat, step}
-use Rattle.machine.specs.Call.{State, reading, owing, broke, byte, paceOf, Called, raisedState, scan, scanned, call}
-use Rattle.machine.specs.Call as calls
+use Rattle.machine.specs.Calls.{State, reading, owing, broke, byte, paceOf, Called, raisedState, scan, scanned, call}
+use Rattle.machine.specs.Calls as calls
 use Rattle.copying.specs.Owed.{legal, level}
-use Rattle.copying.specs.Copy.{Answer, verdict, invalid}
+use Rattle.copying.specs.Copy.{Said, verdict, invalid}
 use Rattle.copying.specs.Run.{NotPiece}
 use Rattle.copying.proofs.Pieces.{NoneFirst, none-step, byte-scan}
 
@@ -165,7 +165,7 @@ Stood L d (owing d′ id r) = ⊥
 Stood L d broke = ⊥
 
 -- what a call at depth d comes to
-abbrev pub SoundCall : Limits → ℕ → calls.Answer → State → Type 0
+abbrev pub SoundCall : Limits → ℕ → calls.Said → State → Type 0
 SoundCall L d (calls.event e) s = Gave L d e s
 SoundCall L d (calls.verdict v) s = Stood L d s
 SoundCall L d calls.invalid s = s ≡ broke

@@ -10,9 +10,9 @@ use Rattle.layout.specs.Event.{Event, bytewise}
 use Rattle.layout.specs.Message.{eventsOf}
 use Rattle.laws.specs.Events.{dueAfterAll, encodeEvents}
 use Rattle.laws.proofs.Copying.{encode-append, bytewise-bytes}
-use Rattle.machine.specs.Machine.{idle, Place, walk, walkOn}
-use Rattle.machine.specs.Call.{State}
-use Rattle.machine.specs.Run.{due, placeOf, Follows}
+use Rattle.machine.specs.Machine.{idle, Spot, walk, walkOn}
+use Rattle.machine.specs.Calls.{State}
+use Rattle.machine.specs.Run.{due, spotOf, Follows}
 use Rattle.machine.proofs.Bridge.{events-walk}
 use Rattle.machine.proofs.Prefix.{events-append}
 use Rattle.copying.specs.Owed.{rest}
@@ -21,14 +21,14 @@ use Rattle.copying.specs.Run.{Keeps}
 
 -- the events still to come: the one due, and those of the bytes xs from where a state stands
 unfoldable pub later : Limits → State → List ℕ → List Event
-later L s xs = due s ++ walkOn L (placeOf s) xs .events
+later L s xs = due s ++ walkOn L (spotOf s) xs .events
 
 pub events-later : (L : Limits) (bs xs : List ℕ) (es : List Event) (s : State) → Follows L bs es s → eventsOf L (bs ++ xs) ≡ bytewise es ++ later L s xs
 unfolding later
 events-later L bs xs es s f =
-    events-append L bs xs ∙ ap (λ (l : List Event). l ++ walkOn L (walk L 0 idle bs .place) xs .events) (events-walk L bs ∙ f .events)
-    ∙ ap (λ (p : Place). (bytewise es ++ due s) ++ walkOn L p xs .events) (f .place)
-    ∙ append-assoc (bytewise es) (due s) (walkOn L (placeOf s) xs .events)
+    events-append L bs xs ∙ ap (λ (l : List Event). l ++ walkOn L (walk L 0 idle bs .spot) xs .events) (events-walk L bs ∙ f .events)
+    ∙ ap (λ (p : Spot). (bytewise es ++ due s) ++ walkOn L p xs .events) (f .spot)
+    ∙ append-assoc (bytewise es) (due s) (walkOn L (spotOf s) xs .events)
 
 -- the first of two lists of events has no more bytes than both
 first-fewer : (es fs : List Event) → length (encodeEvents 0 es) ≤ length (encodeEvents 0 (es ++ fs))

@@ -14,9 +14,9 @@ use Rattle.layout.specs.Event.{Event, Unsigned, Signed, Float, Piece, Fixlen, A
 use Rattle.laws.specs.Events.{dueAfter, dueAfterAll}
 use Rattle.machine.specs.Machine.{Phase, inHeader, inUnsigned, inSigned, inWord, inUnsignedCount, inSignedCount, inFloatCount, inArrayWord, inFloat, inPayload}
 use Rattle.machine.specs.Machine.{idle, Stepped, on, bad, nextOr, atWire, atHeader, atPayload, atSubtype, atWord, atUnsignedCount, atSignedCount, atFloatCount}
-use Rattle.machine.specs.Machine.{atElement, atArrayWord, atUnsigned, atSigned, within, atFloat, atByte, step, Place, at, brokenBefore, Walk, onward, walk}
-use Rattle.machine.specs.Call.{State, reading, owing, broke}
-use Rattle.machine.specs.Run.{due, placeOf, Follows}
+use Rattle.machine.specs.Machine.{atElement, atArrayWord, atUnsigned, atSigned, within, atFloat, atByte, step, Spot, at, brokenBefore, Walk, onward, walk}
+use Rattle.machine.specs.Calls.{State, reading, owing, broke}
+use Rattle.machine.specs.Run.{due, spotOf, Follows}
 use Rattle.copying.specs.Owed.{leftIn, dueIn}
 
 -- ---- events in two parts, and pieces cut into bytes
@@ -129,28 +129,28 @@ due-step L d (inPayload id r total o) b = go (ltb (suc o) total)
 
 -- ---- a byte string
 
-abbrev DuePlace : ℕ → Place → Type 0
-DuePlace n (at d p) = n ≡ leftIn p
-DuePlace n (brokenBefore rest) = Unit {0}
+abbrev DueSpot : ℕ → Spot → Type 0
+DueSpot n (at d p) = n ≡ leftIn p
+DueSpot n (brokenBefore rest) = Unit {0}
 
-due-onward : (n : ℕ) (s : Stepped) (bs : List ℕ) (f : ℕ → Phase → Walk) → DueStep n s → ((d : ℕ) (p : Phase) → DuePlace (dueAfterAll (leftIn p) (f d p .events)) (f d p .place))
-    → DuePlace (dueAfterAll n (onward s bs f .events)) (onward s bs f .place)
+due-onward : (n : ℕ) (s : Stepped) (bs : List ℕ) (f : ℕ → Phase → Walk) → DueStep n s → ((d : ℕ) (p : Phase) → DueSpot (dueAfterAll (leftIn p) (f d p .events)) (f d p .spot))
+    → DueSpot (dueAfterAll n (onward s bs f .events)) (onward s bs f .spot)
 unfolding onward
 due-onward n (on es d p) bs f h g =
-    subst (λ (m : ℕ). DuePlace m (f d p .place)) (sym (due-append n es (f d p .events) ∙ ap (λ (m : ℕ). dueAfterAll m (f d p .events)) h)) (g d p)
+    subst (λ (m : ℕ). DueSpot m (f d p .spot)) (sym (due-append n es (f d p .events) ∙ ap (λ (m : ℕ). dueAfterAll m (f d p .events)) h)) (g d p)
 due-onward n bad bs f h g = tt
 
-walked-due : (L : Limits) (d : ℕ) (p : Phase) (bs : List ℕ) → DuePlace (dueAfterAll (leftIn p) (walk L d p bs .events)) (walk L d p bs .place)
+walked-due : (L : Limits) (d : ℕ) (p : Phase) (bs : List ℕ) → DueSpot (dueAfterAll (leftIn p) (walk L d p bs .events)) (walk L d p bs .spot)
 unfolding walk dueAfterAll
 walked-due L d p [] = refl
 walked-due L d p (b ∷ bs) = due-onward (leftIn p) (step L d p b) bs _ (due-step L d p b) (λ d′ p′. walked-due L d′ p′ bs)
 
 -- with the event still due, a piece, those of a reader's events
-given-due : (L : Limits) (bs : List ℕ) (es : List Event) (s : State) → Follows L bs es s → DuePlace (dueAfterAll (dueAfterAll 0 es) (due s)) (placeOf s)
+given-due : (L : Limits) (bs : List ℕ) (es : List Event) (s : State) → Follows L bs es s → DueSpot (dueAfterAll (dueAfterAll 0 es) (due s)) (spotOf s)
 given-due L bs es s f =
-    subst (λ (n : ℕ). DuePlace n (placeOf s))
+    subst (λ (n : ℕ). DueSpot n (spotOf s))
     (ap (dueAfterAll 0) (f .events) ∙ due-append 0 (bytewise es) (due s) ∙ ap (λ (n : ℕ). dueAfterAll n (due s)) (due-bytewise 0 es))
-    (subst (DuePlace (dueAfterAll 0 (walk L 0 idle bs .events))) (f .place) (walked-due L 0 idle bs))
+    (subst (DueSpot (dueAfterAll 0 (walk L 0 idle bs .events))) (f .spot) (walked-due L 0 idle bs))
 
 -- The elements due after the events that a reader has given are those that its state counts; a broken one gives no more events.
 pub walk-due : (L : Limits) (bs : List ℕ) (es : List Event) (s : State) → Follows L bs es s → (s ≡ broke → ⊥) → dueAfterAll 0 es ≡ dueIn s

@@ -10,22 +10,22 @@ use mathlib.Core.List.{List, [], _∷_, _++_, append-assoc, append-nil}
 use lib.Dec.{leb}
 use borrow.Author.Tests.{leb-true, leb-false}
 use lib.ListN.{length, take, drop, length-append, length-take, length-drop, take-append-drop, drop-of-length-le}
-use lib.Seq.{length-take-le, take-add, take-all, take-at, drop-at, drop-drop}
+use lib.Seq.{length-take-le, take-add, take-all, take-take, take-at, drop-at, drop-drop}
 use Rattle.layout.specs.Limits.{Limits}
 use Rattle.layout.specs.Event.{Event}
 use Rattle.laws.specs.Events.{eventBytes, dueAfterAll, encodeEvents}
 use Rattle.laws.proofs.Copying.{encode-append}
 use Rattle.machine.specs.Machine.{idle}
-use Rattle.machine.specs.Call.{State, reading, owing, broke, Pace, byte, bulk, paceOf, call}
-use Rattle.machine.specs.Call as calls
-use Rattle.machine.specs.Run.{given, placeOf, Follows}
-use Rattle.machine.proofs.Calls.{FairPlace, fair-walk, weight, Closes, call-follows}
+use Rattle.machine.specs.Calls.{State, reading, owing, broke, Pace, byte, bulk, paceOf, call}
+use Rattle.machine.specs.Calls as calls
+use Rattle.machine.specs.Run.{given, spotOf, Follows}
+use Rattle.machine.proofs.Calls.{FairSpot, fair-walk, weight, Closes, call-follows}
 use Rattle.emit.specs.Put.{over, put, reached}
 use Rattle.emit.proofs.Writes.{put-is, reached-is, take-over, length-put, reached-le}
 use Rattle.copying.specs.Owed.{Owed, nothing, owes, rest, further, dueIn}
-use Rattle.copying.specs.Copy.{Copy, Answer, full, verdict, invalid, unfinished, Copied, after, settled, filled, gone, handed, stuck, heard, fits, allOf, copies, turnsFor, copy}
+use Rattle.copying.specs.Copy.{Copy, Said, full, verdict, invalid, unfinished, Copied, after, settled, filled, gone, handed, stuck, heard, fits, allOf, copies, turnsFor, copy}
 use Rattle.copying.specs.Run.{Keeps, InPayload, Bulk, Final, NoPiece, Kept}
-use Rattle.copying.proofs.Turns.{goes, goes-on, turn-full, turn-goes, fits-false, fits-true, enough, handed-first, take-take, turn-heard}
+use Rattle.copying.proofs.Turns.{goes, goes-on, turn-full, turn-goes, fits-false, fits-true, enough, handed-first, turn-heard}
 use Rattle.copying.proofs.Due.{walk-due}
 use Rattle.copying.proofs.Pieces.{Takes, takes-plain, given-fits}
 
@@ -168,7 +168,7 @@ kept-from L reserved bs sent k j c b d r p n e f h =
     }
 
 -- the reader's event, and the turns after it
-final-later : (k : Copy) (c : List ℕ) (size j n : ℕ) (a : Answer) → j ≤ length c → n ≤ length (drop j c) → Final a k n (drop j c) size → Final a k (j + n) c size
+final-later : (k : Copy) (c : List ℕ) (size j n : ℕ) (a : Said) → j ≤ length c → n ≤ length (drop j c) → Final a k n (drop j c) size → Final a k (j + n) c size
 final-later k c size j n full l m h =
     let e : drop n (drop j c) ≡ drop (j + n) c = drop-drop n j c in
     (h .0, subst (λ (x : List ℕ). (0 < length (rest (k .owed))) ⊎ ((k .owed ≡ nothing) × InPayload (k .reader) × (0 < length x))) e (h .1))
@@ -265,7 +265,7 @@ keeps-end L reserved bs sent k c b j s q o f =
     }
 
 -- by the reader's answer
-kept-heard : (L : Limits) (reserved bs sent : List ℕ) (k : Copy) (c b : List ℕ) (j : ℕ) (a : calls.Answer) (s : State) (f : Event → Copied) (q : Keeps L reserved bs (sent ++ take (k .pos) b) k)
+kept-heard : (L : Limits) (reserved bs sent : List ℕ) (k : Copy) (c b : List ℕ) (j : ℕ) (a : calls.Said) (s : State) (f : Event → Copied) (q : Keeps L reserved bs (sent ++ take (k .pos) b) k)
     → k .pos ≤ length b → k .owed ≡ nothing → j ≤ length c → Closes a (k .reader) s j (length c) → Follows L (bs ++ take j c) (q .events ++ given a) s
     → ((e : Event) → a ≡ calls.event e → Follows L (bs ++ take j c) (q .events ++ (e ∷ [])) s → 2 * (length c - j) + weight s < 2 * length c + weight (k .reader)
     → Kept L reserved (bs ++ take j c) sent (gone k s (allOf (k .reader) e)) (drop j c) b (f e))
@@ -307,7 +307,7 @@ kept-goes L n reserved bs sent k c b q p o later = go (stuck (k .reader) (length
         let h = handed (k .reader) (length b - k .pos) c in
         let r = call L (k .reader) h in
         let w = call-follows L bs (q .events) (k .reader) h (q .follows) in
-        let fair : FairPlace (placeOf (k .reader)) = subst FairPlace (q .follows .place) (fair-walk L 0 idle bs refl) in
+        let fair : FairSpot (spotOf (k .reader)) = subst FairSpot (q .follows .spot) (fair-walk L 0 idle bs refl) in
         let v = turn-heard L (k .reader) (length b - k .pos) c fair e in
         let g : Follows L (bs ++ take (r .read) c) (q .events ++ given (r .answer)) (r .state) =
         subst (λ (l : List ℕ). Follows L (bs ++ l) (q .events ++ given (r .answer)) (r .state)) (handed-first (k .reader) (length b - k .pos) c (r .read) (w .few)) (w .follows) in

@@ -13,11 +13,11 @@ use Rattle.layout.specs.Event.{Event, Piece}
 use Rattle.layout.specs.Field.{Raw}
 use Rattle.laws.specs.Events.{eventBytes}
 use Rattle.machine.specs.Machine.{Phase, inPayload, idle, on}
-use Rattle.machine.specs.Call.{State, reading, owing, broke, Pace, byte, bulk, paceOf, piece, Called, scan, scanned, raisedState, call}
-use Rattle.machine.specs.Call as calls
-use Rattle.machine.specs.Run.{placeOf}
+use Rattle.machine.specs.Calls.{State, reading, owing, broke, Pace, byte, bulk, paceOf, piece, Called, scan, scanned, raisedState, call}
+use Rattle.machine.specs.Calls as calls
+use Rattle.machine.specs.Run.{spotOf}
 use Rattle.machine.proofs.Bridge.{Fair}
-use Rattle.machine.proofs.Calls.{FairPlace}
+use Rattle.machine.proofs.Calls.{FairSpot}
 use Rattle.emit.specs.Put.{put, reached}
 use Rattle.emit.proofs.Writes.{length-put, put-put, put-none, reached-is}
 use Rattle.copying.specs.Owed.{nothing, rest, depthBy, depthOnce, leftIn, dueIn}
@@ -40,7 +40,7 @@ put-all b pos a h = reached-is b pos a ∙ least (length a) (length b - pos) (om
     least : (m r : ℕ) → m ≤ r → pos + min m r ≡ pos + m
     least m r h = omega arith
 
-after-after : (m n : ℕ) (r : Copied) → after m (after n r) ≡ after (m + n) r
+pub after-after : (m n : ℕ) (r : Copied) → after m (after n r) ≡ after (m + n) r
 after-after m n r = let e : m + (n + r .used) ≡ m + n + r .used = omega arith in ap (λ (u : ℕ). record { used = u; answer = r .answer; copy = r .copy; buf = r .buf }) e
 
 pub none-as-is : (L : Limits) (s : State) (d : ℕ) → AsIs L s d [] s d
@@ -99,7 +99,7 @@ not-stuck broke room a c m h = absurd m
 
 -- The reader raises e once it has read a, and a is what e is written as.
 pub record Raises (L : Limits) (s : State) (a : List ℕ) (e : Event) (s′ : State) : Type 0 where
-  pub fair : FairPlace (placeOf s)
+  pub fair : FairSpot (spotOf s)
   pub moves : Moves s a
   pub calls-is : (t : List ℕ) → call L s (a ++ t) ≡ record { read = length a; answer = calls.event e; state = s′ }
   pub bytes : eventBytes (dueIn s) e ≡ a

@@ -16,8 +16,8 @@ use Rattle.laws.specs.Events.{eventBytes}
 use Rattle.machine.specs.Machine.{Phase, inHeader, inUnsigned, inSigned, inWord, inUnsignedCount, inSignedCount, inFloatCount, inArrayWord, inFloat, inPayload}
 use Rattle.machine.specs.Machine.{Stepped, on, bad, atWire, atHeader, atPayload, atSubtype, atWord, atUnsignedCount, atSignedCount, atFloatCount}
 use Rattle.machine.specs.Machine.{atElement, atArrayWord, atUnsigned, atSigned, within, atFloat, step}
-use Rattle.machine.specs.Call.{State, reading, owing, broke, Pace, byte, bulk, paceOf, Called, piece, scan, scanned, call}
-use Rattle.machine.specs.Call as calls
+use Rattle.machine.specs.Calls.{State, reading, owing, broke, Pace, byte, bulk, paceOf, Called, piece, scan, scanned, call}
+use Rattle.machine.specs.Calls as calls
 use Rattle.copying.specs.Owed.{rest}
 use Rattle.copying.specs.Copy.{Copy, handed}
 use Rattle.copying.specs.Run.{Bulk, NotPiece, NoPiece}
@@ -79,7 +79,7 @@ none-step L d (inPayload id r total o) b i = let w : _≡_ {A = ℕ} 0 1 = cc in
 
 -- ---- a call
 
-abbrev NoneGiven : calls.Answer → Type 0
+abbrev NoneGiven : calls.Said → Type 0
 NoneGiven (calls.event e) = NotPiece e
 NoneGiven (calls.verdict v) = Unit {0}
 NoneGiven calls.invalid = Unit {0}
@@ -112,7 +112,7 @@ none-scan L n d p (x ∷ xs) i =
 abbrev pub Fitting : ℕ → ℕ → Event → Type 0
 Fitting due room e = NotPiece e ⊎ (length (eventBytes due e) ≤ room)
 
-from-byte : (due room : ℕ) (a : calls.Answer) (e : Event) → a ≡ calls.event e → NoneGiven a → Fitting due room e
+from-byte : (due room : ℕ) (a : calls.Said) (e : Event) → a ≡ calls.event e → NoneGiven a → Fitting due room e
 from-byte due room a e i h = inl (subst NoneGiven i h)
 
 from-bulk : (due room n d id : ℕ) (r : Raw) (total o k : ℕ) (xs : List ℕ) (e : Event) → piece n d id r total o k xs .answer ≡ calls.event e → length xs ≤ room → Fitting due room e

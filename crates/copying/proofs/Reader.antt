@@ -7,8 +7,8 @@ use lib.ListN.{take, drop}
 use Rattle.layout.specs.Limits.{Limits}
 use Rattle.layout.specs.Event.{Event}
 use Rattle.layout.specs.Message.{All}
-use Rattle.machine.specs.Call.{State, reading, owing, broke, Pace, byte, bulk, paceOf, call}
-use Rattle.machine.specs.Call as calls
+use Rattle.machine.specs.Calls.{State, reading, owing, broke, Pace, byte, bulk, paceOf, call}
+use Rattle.machine.specs.Calls as calls
 use Rattle.copying.specs.Copy.{Copy, Copied, gone, handed, stuck, heard, fits, allOf, copies, turnsFor, copy}
 use Rattle.copying.proofs.Turns.{turned-by, turn-is, goes, goes-on, paced, handed-is}
 
@@ -33,7 +33,7 @@ all-handed Q (owing d id r) room c h = h
 all-handed Q broke room c h = h
 
 module _ (L : Limits) (P : State → Type 0) (Q : ℕ → Type 0) (keeps : (s : State) (c : List ℕ) → All Q c → P s → P (call L s c .state)) where
-  heard-keeps : (k : Copy) (c b : List ℕ) (j : ℕ) (a : calls.Answer) (s : State) (f : Event → Copied) → P s → ((e : Event) → P (f e .copy .reader))
+  heard-keeps : (k : Copy) (c b : List ℕ) (j : ℕ) (a : calls.Said) (s : State) (f : Event → Copied) → P s → ((e : Event) → P (f e .copy .reader))
       → P (heard k c b (record { read = j; answer = a; state = s }) f .copy .reader)
   unfolding heard
   heard-keeps k c b j (calls.event e) s f h g = g e

@@ -14,14 +14,14 @@ use Rattle.layout.specs.Limits.{Limits}
 use Rattle.layout.specs.Event.{Event, Unsigned, Signed, Float, Piece, Fixlen, Array, Begin, End}
 use Rattle.laws.specs.Events.{eventBytes}
 use Rattle.machine.specs.Machine.{within}
-use Rattle.machine.specs.Call.{State, reading, owing, broke, call}
-use Rattle.machine.specs.Call as calls
-use Rattle.machine.specs.Run.{placeOf}
-use Rattle.machine.proofs.Calls.{FairPlace, weight}
+use Rattle.machine.specs.Calls.{State, reading, owing, broke, call}
+use Rattle.machine.specs.Calls as calls
+use Rattle.machine.specs.Run.{spotOf}
+use Rattle.machine.proofs.Calls.{FairSpot, weight}
 use Rattle.emit.specs.Put.{put, reached}
 use Rattle.emit.proofs.Writes.{reached-is, length-put, reached-le}
 use Rattle.copying.specs.Owed.{Owed, nothing, owes, rest, further, depthBy, depthOnce, dueIn, legal, level, agrees, soundOwed}
-use Rattle.copying.specs.Copy.{Copy, Answer, full, verdict, invalid, unfinished, Copied, after, settled, filled, gone, handed, stuck, heard, fits, allOf, copies, turnsFor, copy}
+use Rattle.copying.specs.Copy.{Copy, Said, full, verdict, invalid, unfinished, Copied, after, settled, filled, gone, handed, stuck, heard, fits, allOf, copies, turnsFor, copy}
 use Rattle.copying.specs.Run.{NotPiece, NoPiece}
 use Rattle.copying.proofs.Turns.{goes, goes-on, turn-full, turn-goes, fits-false, fits-true, enough, turn-heard, nearer}
 use Rattle.copying.proofs.Pieces.{Takes, takes-plain, given-fits}
@@ -32,7 +32,7 @@ use Rattle.copying.proofs.Allowed.{InForce, Gave, Stood, CallOf, all-of
 
 pub record Sound (L : Limits) (k : Copy) : Type 0 where
   pub reader : InForce L (k .reader)
-  pub fair : FairPlace (placeOf (k .reader))
+  pub fair : FairSpot (spotOf (k .reader))
   pub depth : k .depth ≤ L .depth
   pub owed : soundOwed L (k .reader) (k .depth) (k .owed) ≡ true
 
@@ -49,11 +49,11 @@ Even L broke w o = o ≡ nothing
 
 record Mid (L : Limits) (k : Copy) : Type 0 where
   reader : InForce L (k .reader)
-  fair : FairPlace (placeOf (k .reader))
+  fair : FairSpot (spotOf (k .reader))
   depth : k .depth ≤ L .depth
   even : Even L (k .reader) (k .depth) (k .owed)
 
-both : (x y : Bool) → (x && y) ≡ true → (x ≡ true) × (y ≡ true)
+pub both : (x y : Bool) → (x && y) ≡ true → (x ≡ true) × (y ≡ true)
 both true true h = (refl, refl)
 both true false h = (refl, h)
 both false y h = let w : _≡_ {A = ℕ} 0 1 = cc in absurd (omega arith)
@@ -218,13 +218,13 @@ sounds-after L k j c b n r p l h =
     record { few = omega arith; size = h .size; ahead = omega arith; within = h .within; below = subst (λ (x : ℕ). take x (r .buf) ≡ take x b) p (h .below); beyond = h .beyond; sound = h .sound; ends = h .ends }
 
 -- the state that the reader's event leaves
-mid-gave : (L : Limits) (k : Copy) (d due : ℕ) (e : Event) (s : State) → d ≡ k .depth → k .depth ≤ L .depth → FairPlace (placeOf s) → Gave L d e s → Mid L (gone k s (owes due e 0))
+mid-gave : (L : Limits) (k : Copy) (d due : ℕ) (e : Event) (s : State) → d ≡ k .depth → k .depth ≤ L .depth → FairSpot (spotOf s) → Gave L d e s → Mid L (gone k s (owes due e 0))
 mid-gave L k d due e (reading d′ p) w l f g = record { reader = g .force; fair = f; depth = l; even = (subst (λ (x : ℕ). level d′ x e ≡ true) w (g .even), g .allowed) }
 mid-gave L k d due e (owing d′ id r) w l f g = record { reader = g .force; fair = f; depth = l; even = (subst (λ (x : ℕ). level d′ x e ≡ true) w (g .even), g .allowed) }
 mid-gave L k d due e broke w l f g = absurd g
 
 -- and its verdict
-mid-stood : (L : Limits) (k : Copy) (d : ℕ) (s : State) → d ≡ k .depth → k .depth ≤ L .depth → FairPlace (placeOf s) → Stood L d s → Mid L (gone k s nothing)
+mid-stood : (L : Limits) (k : Copy) (d : ℕ) (s : State) → d ≡ k .depth → k .depth ≤ L .depth → FairSpot (spotOf s) → Stood L d s → Mid L (gone k s nothing)
 mid-stood L k d (reading d′ p) w l f g = record { reader = g .1; fair = f; depth = l; even = g .0 ∙ w }
 mid-stood L k d (owing d′ id r) w l f g = absurd g
 mid-stood L k d broke w l f g = absurd g
@@ -244,8 +244,8 @@ even-depth L (owing d id r) w o e h = subst (Agree L d w) e h
 even-depth L broke w o e h = tt
 
 -- by the reader's answer
-sounds-heard : (L : Limits) (k : Copy) (c b : List ℕ) (s : State) (j : ℕ) (a : calls.Answer) (s′ : State) (f : Event → Copied) → k .pos ≤ length b → k .depth ≤ L .depth → DepthOf s (k .depth)
-    → j ≤ length c → FairPlace (placeOf s′) → CallOf L s (record { read = j; answer = a; state = s′ })
+sounds-heard : (L : Limits) (k : Copy) (c b : List ℕ) (s : State) (j : ℕ) (a : calls.Said) (s′ : State) (f : Event → Copied) → k .pos ≤ length b → k .depth ≤ L .depth → DepthOf s (k .depth)
+    → j ≤ length c → FairSpot (spotOf s′) → CallOf L s (record { read = j; answer = a; state = s′ })
     → ((e : Event) → a ≡ calls.event e → ((due : ℕ) → Mid L (gone k s′ (owes due e 0))) → Sounds L (gone k s′ (allOf (k .reader) e)) (drop j c) b (f e))
     → Sounds L k c b (heard k c b (record { read = j; answer = a; state = s′ }) f)
 unfolding heard

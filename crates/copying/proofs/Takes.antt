@@ -20,8 +20,8 @@ use Rattle.laws.proofs.Parts.{low-parses}
 use Rattle.machine.specs.Machine.{Phase, inHeader, inUnsigned, inSigned, inWord, inUnsignedCount, inSignedCount, inFloatCount, inArrayWord, inFloat}
 use Rattle.machine.specs.Machine.{idle, Stepped, on, bad, step, within, nextOr, atWire, atHeader, atSubtype, atWord, atUnsigned, atSigned}
 use Rattle.machine.specs.Machine.{atUnsignedCount, atSignedCount, atFloatCount, atElement, atArrayWord, atFloat}
-use Rattle.machine.specs.Call.{Pace, byte, bulk, paceOf, piece, scan, scanned}
-use Rattle.machine.specs.Call as calls
+use Rattle.machine.specs.Calls.{Pace, byte, bulk, paceOf, piece, scan, scanned}
+use Rattle.machine.specs.Calls as calls
 
 -- From a depth and phase on, the bytes a come to m; the reader goes on behind them.
 abbrev pub Reads : Limits → ℕ → Phase → List ℕ → Stepped → Type 0

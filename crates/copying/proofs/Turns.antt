@@ -1,5 +1,5 @@
 -- A turn of the copier: what is owed goes out, then the reader is called. The laws that a loop over turns goes by, from any state whose
--- reader is within its payload or float (`FairPlace`), and that turns never run out.
+-- reader is within its payload or float (`FairSpot`), and that turns never run out.
 use Prim.Native.Nat.{ℕ, zero, suc, _+_, _-_, _*_, _<_, _≤_, min}
 use native.Mathlib.Nat.{not-suc-le-zero}
 use native.Mathlib.Omega.{arith}
@@ -7,6 +7,7 @@ use mathlib.Core.Path.{_≡_, refl, sym, ap, _∙_, subst}
 use mathlib.Core.Bool.{Bool, true, false}
 use mathlib.Core.List.{List, [], _∷_}
 use lib.ListN.{length, take, drop, length-take, length-drop}
+use lib.Seq.{take-take}
 use borrow.Author.Tests.{leb-true, leb-false}
 use Rattle.layout.specs.Limits.{Limits}
 use Rattle.layout.specs.Field.{Raw}
@@ -14,10 +15,10 @@ use Rattle.layout.specs.Event.{Event}
 use Rattle.layout.specs.Message.{Verdict}
 use Rattle.machine.specs.Machine.{Phase, inHeader, inUnsigned, inSigned, inWord, inUnsignedCount, inSignedCount, inFloatCount, inArrayWord, inFloat, inPayload, step}
 use Rattle.copying.specs.Run.{InPayload}
-use Rattle.machine.specs.Call.{State, reading, owing, broke, Pace, byte, bulk, paceOf, Called, piece, scan, scanned, call}
-use Rattle.machine.specs.Call as calls
-use Rattle.machine.specs.Run.{placeOf}
-use Rattle.machine.proofs.Calls.{FairPlace, fair-walk, weight, light, Closes, closes, scan-is}
+use Rattle.machine.specs.Calls.{State, reading, owing, broke, Pace, byte, bulk, paceOf, Called, piece, scan, scanned, call}
+use Rattle.machine.specs.Calls as calls
+use Rattle.machine.specs.Run.{spotOf}
+use Rattle.machine.proofs.Calls.{FairSpot, fair-walk, weight, light, Closes, closes, scan-is}
 use Rattle.emit.specs.Put.{put, reached}
 use Rattle.emit.proofs.Writes.{length-put, put-none, reached-is}
 use Rattle.copying.specs.Owed.{Owed, nothing, rest, depthOnce}
@@ -108,7 +109,7 @@ turn-free L n k c b e =
 -- ---- the reader's part
 
 -- another way to go on with the event that it gave
-heard-ext : (k : Copy) (c b : List ℕ) (j : ℕ) (a : calls.Answer) (s : State) (f g : Event → Copied) → ((e : Event) → a ≡ calls.event e → f e ≡ g e)
+heard-ext : (k : Copy) (c b : List ℕ) (j : ℕ) (a : calls.Said) (s : State) (f g : Event → Copied) → ((e : Event) → a ≡ calls.event e → f e ≡ g e)
     → heard k c b (record { read = j; answer = a; state = s }) f ≡ heard k c b (record { read = j; answer = a; state = s }) g
 unfolding heard
 heard-ext k c b j (calls.event e) s f g h = ap (after j) (h e refl)
@@ -153,12 +154,6 @@ handed-few (reading d p) room c = subst (λ (l : List ℕ). length l ≤ length 
     go (bulk id r total o) = omega (arith, length-take room c)
 handed-few (owing d id r) room c = omega arith
 handed-few broke room c = omega arith
-
-pub take-take : (p q : ℕ) (l : List ℕ) → p ≤ q → take p (take q l) ≡ take p l
-take-take zero q l h = refl
-take-take (suc p) zero l h = absurd (not-suc-le-zero h)
-take-take (suc p) (suc q) [] h = refl
-take-take (suc p) (suc q) (x ∷ l) h = ap (λ (m : List ℕ). x ∷ m) (take-take p q l (omega arith))
 
 pub handed-first : (s : State) (room : ℕ) (c : List ℕ) (j : ℕ) → j ≤ length (handed s room c) → take j (handed s room c) ≡ take j c
 unfolding handed
@@ -210,9 +205,9 @@ all-handed L broke room c v h e = refl
 pub record Heard (L : Limits) (s : State) (c : List ℕ) (r : Called) : Type 0 where
   pub few : r .read ≤ length c
   pub closes : Closes (r .answer) s (r .state) (r .read) (length c)
-  pub fair : FairPlace (placeOf (r .state))
+  pub fair : FairSpot (spotOf (r .state))
 
-called : (L : Limits) (s : State) (c : List ℕ) → FairPlace (placeOf s) → Heard L s c (call L s c)
+called : (L : Limits) (s : State) (c : List ℕ) → FairSpot (spotOf s) → Heard L s c (call L s c)
 unfolding call
 called L (reading d p) c f =
     let r = scan L 0 d p c in
@@ -221,17 +216,17 @@ called L (reading d p) c f =
     record {
       few = omega (arith, q .few);
       closes = subst (λ (n : ℕ). Closes (r .answer) (reading d p) (r .state) n (length c)) (sym k) (closes (r .answer) (reading d p) (r .state) (q .k) (length c) (q .few) (q .ends));
-      fair = subst FairPlace (q .place) (fair-walk L d p (take (q .k) c) f);
+      fair = subst FairSpot (q .spot) (fair-walk L d p (take (q .k) c) f);
     }
 called L (owing d id r) c f = record { few = omega arith; closes = omega arith; fair = refl }
 called L broke c f = record { few = omega arith; closes = refl; fair = tt }
 
-closes-handed : (s s′ : State) (a : calls.Answer) (j m n : ℕ) → j ≤ m → m ≤ n → ((v : Verdict) → a ≡ calls.verdict v → m ≡ n) → Closes a s s′ j m → Closes a s s′ j n
+closes-handed : (s s′ : State) (a : calls.Said) (j m n : ℕ) → j ≤ m → m ≤ n → ((v : Verdict) → a ≡ calls.verdict v → m ≡ n) → Closes a s s′ j m → Closes a s s′ j n
 closes-handed s s′ (calls.event e) j m n l h v q = omega arith
 closes-handed s s′ (calls.verdict w) j m n l h v q = (q .0 ∙ v w refl, q .1)
 closes-handed s s′ calls.invalid j m n l h v q = q
 
-pub turn-heard : (L : Limits) (s : State) (room : ℕ) (c : List ℕ) → FairPlace (placeOf s) → stuck s room c ≡ false → Heard L s c (call L s (handed s room c))
+pub turn-heard : (L : Limits) (s : State) (room : ℕ) (c : List ℕ) → FairSpot (spotOf s) → stuck s room c ≡ false → Heard L s c (call L s (handed s room c))
 turn-heard L s room c f t =
     let r = call L s (handed s room c) in
     let q = called L s (handed s room c) f in
@@ -244,14 +239,14 @@ turn-heard L s room c f t =
 
 -- ---- turns enough
 
-pub nearer : (s s′ : State) (a : calls.Answer) (j m : ℕ) (e : Event) → a ≡ calls.event e → Closes a s s′ j m → 2 * (m - j) + weight s′ < 2 * m + weight s
+pub nearer : (s s′ : State) (a : calls.Said) (j m : ℕ) (e : Event) → a ≡ calls.event e → Closes a s s′ j m → 2 * (m - j) + weight s′ < 2 * m + weight s
 nearer s s′ (calls.event x) j m e i h = h
 nearer s s′ (calls.verdict v) j m e i h = let z : _≡_ {A = ℕ} 0 1 = cc in absurd (omega arith)
 nearer s s′ calls.invalid j m e i h = let z : _≡_ {A = ℕ} 0 1 = cc in absurd (omega arith)
 
--- the same half turn, where the turns after it are the same
-same-goes : (L : Limits) (n m room : ℕ) (k : Copy) (c b : List ℕ) → FairPlace (placeOf (k .reader))
-    → ((s : State) (e : Event) (j : ℕ) → FairPlace (placeOf s) → j ≤ length c → 2 * (length c - j) + weight s < 2 * length c + weight (k .reader)
+-- half a turn comes to one thing where the turns after it do
+same-goes : (L : Limits) (n m room : ℕ) (k : Copy) (c b : List ℕ) → FairSpot (spotOf (k .reader))
+    → ((s : State) (e : Event) (j : ℕ) → FairSpot (spotOf s) → j ≤ length c → 2 * (length c - j) + weight s < 2 * length c + weight (k .reader)
     → copies L n (gone k s (allOf (k .reader) e)) (drop j c) b ≡ copies L m (gone k s (allOf (k .reader) e)) (drop j c) b)
     → goes L n room k c b ≡ goes L m room k c b
 unfolding goes-on
@@ -272,7 +267,7 @@ same-by L n m k c b false h = refl
 same-by L n m k c b true h = h _ _ _ refl
 
 -- as many turns as twice the chunk's bytes, one for a piece due, and one more: no more are needed
-same-turns : (L : Limits) (n m : ℕ) (k : Copy) (c b : List ℕ) → FairPlace (placeOf (k .reader)) → 2 * length c + weight (k .reader) < n → 2 * length c + weight (k .reader) < m
+same-turns : (L : Limits) (n m : ℕ) (k : Copy) (c b : List ℕ) → FairSpot (spotOf (k .reader)) → 2 * length c + weight (k .reader) < n → 2 * length c + weight (k .reader) < m
     → copies L n k c b ≡ copies L m k c b
 same-turns L zero m k c b f h i = absurd (not-suc-le-zero h)
 same-turns L (suc n) zero k c b f h i = absurd (not-suc-le-zero i)
@@ -280,7 +275,7 @@ same-turns L (suc n) (suc m) k c b f h i =
     turn-is L n k c b
     ∙ same-by L n m k c b (fits k b)
     (λ room j d w.
-    same-goes L n m room j c d (subst (λ (s : State). FairPlace (placeOf s)) (sym w) f)
+    same-goes L n m room j c d (subst (λ (s : State). FairSpot (spotOf s)) (sym w) f)
     (λ s e x g l y.
     let u : weight (j .reader) ≡ weight (k .reader) = ap weight w in
     let z : length (drop x c) ≡ length c - x = length-drop x c in
@@ -323,7 +318,7 @@ copy-stuck L k c b o t =
     copy-is L k c b ∙ turn-free L (turnsFor c - 1) k c b o
     ∙ ap (goes-on L (turnsFor c - 1) (length b - k .pos) k c b) t
 
-turn-after : (L : Limits) (k : Copy) (c b : List ℕ) → FairPlace (placeOf (k .reader)) → stuck (k .reader) (length b - k .pos) c ≡ false
+turn-after : (L : Limits) (k : Copy) (c b : List ℕ) → FairSpot (spotOf (k .reader)) → stuck (k .reader) (length b - k .pos) c ≡ false
     → let r = call L (k .reader) (handed (k .reader) (length b - k .pos) c) in
     (e : Event) → r .answer ≡ calls.event e
     → copies L (turnsFor c - 1) (gone k (r .state) (allOf (k .reader) e)) (drop (r .read) c) b
@@ -338,7 +333,7 @@ turn-after L k c b f t e i =
     same-turns L (turnsFor c - 1) (turnsFor (drop (r .read) c)) (gone k (r .state) (allOf (k .reader) e)) (drop (r .read) c) b (q .fair) (omega arith) (enough (r .state) (drop (r .read) c))
 
 -- Nothing is owed: the reader is called, and what it gives is owed.
-pub copy-turn : (L : Limits) (k : Copy) (c b : List ℕ) → FairPlace (placeOf (k .reader)) → k .owed ≡ nothing → stuck (k .reader) (length b - k .pos) c ≡ false
+pub copy-turn : (L : Limits) (k : Copy) (c b : List ℕ) → FairSpot (spotOf (k .reader)) → k .owed ≡ nothing → stuck (k .reader) (length b - k .pos) c ≡ false
     → let r = call L (k .reader) (handed (k .reader) (length b - k .pos) c) in
     copy L k c b ≡ heard k c b r (λ e. copy L (gone k (r .state) (allOf (k .reader) e)) (drop (r .read) c) b)
 unfolding goes-on

@@ -17,14 +17,14 @@ use Rattle.laws.proofs.Copying.{encode-append, bytewise-bytes}
 use Rattle.laws.proofs.Laws.{copy-of-events, copy-of-pieces}
 use Rattle.machine.specs.Machine.{Phase, inHeader, inUnsigned, inSigned, inWord, inUnsignedCount, inSignedCount, inFloatCount, inArrayWord, inFloat, inPayload}
 use Rattle.machine.specs.Machine.{step, atByte, onward, walk, walkOn}
-use Rattle.machine.specs.Call.{State, reading, owing, broke, fresh, verdictAt}
+use Rattle.machine.specs.Calls.{State, reading, owing, broke, fresh, verdictAt}
 use Rattle.machine.specs.Run.{Follows}
 use Rattle.machine.proofs.Bridge.{events-walk}
 use Rattle.machine.proofs.Prefix.{broken-stays}
 use Rattle.machine.proofs.Calls.{fresh-follows}
 use Rattle.machine.proofs.Runs.{verdict-at, verdict-broken}
 use Rattle.copying.specs.Owed.{Owed, nothing, rest}
-use Rattle.copying.specs.Copy.{Copy, Answer, full, verdict, invalid, unfinished, Copied, copy}
+use Rattle.copying.specs.Copy.{Copy, Said, full, verdict, invalid, unfinished, Copied, copy}
 use Rattle.copying.specs.Run.{Keeps, InPayload, Wants, Kept, Final}
 use Rattle.copying.proofs.Keeps.{copy-keeps}
 use Rattle.copying.proofs.Bound.{later, events-later}
@@ -112,7 +112,7 @@ at-end L c b r a v h u o d p s =
     let out : take (r .copy .pos) (r .buf) ≡ plainCopy L c =
     sym (append-nil (take (r .copy .pos) (r .buf))) ∙ ap (λ (x : Owed). take (r .copy .pos) (r .buf) ++ rest x) (sym o) ∙ q .bytes ∙ copy-of-pieces L c (q .events) a v w in
     let n : r .copy .pos ≡ length (plainCopy L c) = omega (arith, ap length out, length-take (r .copy .pos) (r .buf), h .within, h .size) in (
-      sym (verdict-at L c d p (f .place)) ∙ v,
+      sym (verdict-at L c d p (f .spot)) ∙ v,
       n,
       sym (take-append-drop (r .copy .pos) (r .buf)) ∙ ap (λ (l : List ℕ). l ++ drop (r .copy .pos) (r .buf)) out
           ∙ ap (λ (l : List ℕ). plainCopy L c ++ l) (h .beyond ∙ ap (λ (m : ℕ). drop m b) n),
@@ -121,7 +121,7 @@ at-end L c b r a v h u o d p s =
 -- a complete message is not broken
 not-broken : (L : Limits) (c : List ℕ) (n : ℕ) (es : List Event) → verdictOf L c ≡ complete → Follows L (take n c) es broke → ⊥
 not-broken L c n es v f =
-    let b = broken-stays L (take n c) (drop n c) (length (take n c)) (verdict-broken L (take n c) (f .place)) in
+    let b = broken-stays L (take n c) (drop n c) (length (take n c)) (verdict-broken L (take n c) (f .spot)) in
     let e : complete ≡ brokenAt (length (take n c)) = sym v ∙ ap (verdictOf L) (sym (take-append-drop n c)) ∙ b .0 in
     let w : _≡_ {A = ℕ} 0 1 = cc in omega arith
 
@@ -132,7 +132,7 @@ copy-whole L c b a v = go (copy L start c b .answer) refl (h .final)
     h : Kept L [] [] [] start c b (copy L start c b)
     h = copy-keeps L [] [] [] start c b (start-keeps L b) (omega arith) tt
 
-    go : (x : Answer) → copy L start c b .answer ≡ x → Final x (copy L start c b .copy) (copy L start c b .used) c (length b) → Whole (plainCopy L c) b (copy L start c b)
+    go : (x : Said) → copy L start c b .answer ≡ x → Final x (copy L start c b .copy) (copy L start c b .used) c (length b) → Whole (plainCopy L c) b (copy L start c b)
     go full e f = let q = at-full L c b (copy L start c b) a v h (f .0) (f .1) in record { fits = λ l. let s = q .0 in absurd (omega arith); short = λ l. (e, q .1) }
     go (verdict x) e (u, o, (d, p, s, i)) =
         let q = at-end L c b (copy L start c b) a v h u o d p s in

@@ -8,8 +8,8 @@ use lib.ListN.{length, take, drop}
 use Rattle.layout.specs.Limits.{Limits}
 use Rattle.layout.specs.Event.{Event}
 use Rattle.layout.specs.Message.{Verdict}
-use Rattle.machine.specs.Call.{State, reading, owing, broke, paceOf, byte, bulk, Called, call}
-use Rattle.machine.specs.Call as calls
+use Rattle.machine.specs.Calls.{State, reading, owing, broke, paceOf, byte, bulk, Called, call}
+use Rattle.machine.specs.Calls as calls
 use Rattle.emit.specs.Put.{put, reached}
 use Rattle.copying.specs.Owed.{Owed, nothing, owes, rest, further, depthOnce, dueIn}
 
@@ -21,16 +21,16 @@ pub record Copy : Type 0 where
   pub owed : Owed
 
 -- "Full"; the verdict after the chunk; number 2; or no turn was left, which never comes of a call
-pub data Answer : Type 0 where
-  full : Answer
-  verdict : Verdict → Answer
-  invalid : Answer
-  unfinished : Answer
+pub data Said : Type 0 where
+  full : Said
+  verdict : Verdict → Said
+  invalid : Said
+  unfinished : Said
 
 -- "the answer is the chunk bytes used"; the state and the buffer after the call
 pub record Copied : Type 0 where
   pub used : ℕ
-  pub answer : Answer
+  pub answer : Said
   pub copy : Copy
   pub buf : List ℕ
 

@@ -1,5 +1,5 @@
 -- The event that a copier still owes to its buffer, and what it does once it is written.
--- "At "full" its state keeps the event still owed and the place reached in it."
+-- "At "full" its state keeps the event still owed and the place reached in it".
 use Prim.Native.Nat.{ℕ, suc, _+_, _-_}
 use mathlib.Core.Bool.{Bool, true, false, _&&_}
 use mathlib.Core.List.{List, []}
@@ -10,7 +10,7 @@ use Rattle.layout.specs.Field.{bytesOf, float, raw}
 use Rattle.layout.specs.Event.{Event, Unsigned, Signed, Float, Piece, Fixlen, Array, Begin, End}
 use Rattle.laws.specs.Events.{eventBytes}
 use Rattle.machine.specs.Machine.{Phase, inHeader, inUnsigned, inSigned, inWord, inUnsignedCount, inSignedCount, inFloatCount, inArrayWord, inFloat, inPayload}
-use Rattle.machine.specs.Call.{State, reading, owing, broke}
+use Rattle.machine.specs.Calls.{State, reading, owing, broke}
 
 -- Nothing; or an event that came while so many elements of an array were due, and the place reached in its bytes.
 pub data Owed : Type 0 where

@@ -8,10 +8,10 @@ use Rattle.layout.specs.Limits.{Limits}
 use Rattle.layout.specs.Event.{Event, Unsigned, Signed, Float, Piece, Fixlen, Array, Begin, End}
 use Rattle.laws.specs.Events.{encodeEvents}
 use Rattle.machine.specs.Machine.{Phase}
-use Rattle.machine.specs.Call.{State, reading, owing, broke, Pace, byte, bulk, paceOf, verdictAt}
+use Rattle.machine.specs.Calls.{State, reading, owing, broke, Pace, byte, bulk, paceOf, verdictAt}
 use Rattle.machine.specs.Run.{Follows}
 use Rattle.copying.specs.Owed.{Owed, nothing, owes, rest}
-use Rattle.copying.specs.Copy.{Copy, Answer, full, verdict, invalid, unfinished, Copied}
+use Rattle.copying.specs.Copy.{Copy, Said, full, verdict, invalid, unfinished, Copied}
 
 -- The bytes bs are read and `out` is out: with what is owed, these are the bytes of the events given so far, behind the bytes that an
 -- opening at another offset reserved ("they go out with the first drain").
@@ -34,7 +34,7 @@ abbrev pub Wants : Copy → List ℕ → Type 0
 Wants k c = (0 < length (rest (k .owed))) ⊎ ((k .owed ≡ nothing) × InPayload (k .reader) × (0 < length c))
 
 -- "The buffer is then written to its end" at "full"; the verdict comes once the chunk is spent, and nothing is owed then nor at a 2.
-abbrev pub Final : Answer → Copy → ℕ → List ℕ → ℕ → Type 0
+abbrev pub Final : Said → Copy → ℕ → List ℕ → ℕ → Type 0
 Final full k used c size = (k .pos ≡ size) × Wants k (drop used c)
 Final (verdict v) k used c size = (used ≡ length c) × (k .owed ≡ nothing) × ((d : ℕ) × (p : Phase) × (k .reader ≡ reading d p) × (v ≡ verdictAt d p))
 Final invalid k used c size = (k .owed ≡ nothing) × (k .reader ≡ broke)

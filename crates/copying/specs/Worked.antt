@@ -8,17 +8,17 @@ use Rattle.layout.specs.Varint.{push, shortestIn, shortest}
 use Rattle.layout.specs.Field.{lowBytes}
 use Rattle.layout.specs.Message.{complete, incomplete}
 use Rattle.laws.specs.Events.{eventBytes}
-use Rattle.machine.specs.Machine.{atHeader, atWord, atUnsignedCount, atSignedCount, atFloatCount, atArrayWord, atUnsigned, atSigned, within, atFloat, atByte, step, ending, judge}
-use Rattle.machine.specs.Call.{fresh, scanned, scan, call}
+use Rattle.machine.specs.Machine.{atHeader, atWord, atUnsignedCount, atSignedCount, atFloatCount, atArrayWord, atUnsigned, atSigned, within, atFloat, atByte, step, ending, verdictAfter}
+use Rattle.machine.specs.Calls.{fresh, scanned, scan, call}
 use Rattle.emit.specs.Put.{over, put, reached}
 use Rattle.copying.specs.Owed.{Owed, nothing, owes, rest, further, depthBy, depthOnce, dueIn}
-use Rattle.copying.specs.Copy.{Copy, Answer, full, verdict, invalid, unfinished, Copied, handed, stuck, heard, copies, copy}
+use Rattle.copying.specs.Copy.{Copy, Said, full, verdict, invalid, unfinished, Copied, handed, stuck, heard, copies, copy}
 
 -- what a call says: the bytes used, the answer, the bytes that then stand below the position, the place reached in the event still owed
 -- (0 where nothing is owed)
 pub record Told : Type 0 where
   pub used : ℕ
-  pub answer : Answer
+  pub answer : Said
   pub out : List ℕ
   pub place : ℕ
 
@@ -67,7 +67,7 @@ unfoldable pub saidAll : List Row → List Row
 saidAll [] = []
 saidAll (r ∷ rs) = record { size = r .size; chunks = r .chunks; calls = run (r .size) (r .chunks) } ∷ saidAll rs
 
-abbrev said : ℕ → Answer → List ℕ → ℕ → Told
+abbrev said : ℕ → Said → List ℕ → ℕ → Told
 said used a out place = record { used = used; answer = a; out = out; place = place }
 
 abbrev pub table : List Row
@@ -120,5 +120,5 @@ table =
     ∷ []
 
 pub worked : saidAll table ≡ table
-unfolding saidAll tells copy copies heard handed stuck rest further depthBy depthOnce dueIn eventBytes over put reached call scan scanned step within atHeader atWord atUnsignedCount atSignedCount atFloatCount atArrayWord atUnsigned atSigned atFloat atByte ending judge push shortest shortestIn lowBytes
+unfolding saidAll tells copy copies heard handed stuck rest further depthBy depthOnce dueIn eventBytes over put reached call scan scanned step within atHeader atWord atUnsignedCount atSignedCount atFloatCount atArrayWord atUnsigned atSigned atFloat atByte ending verdictAfter push shortest shortestIn lowBytes
 worked = refl

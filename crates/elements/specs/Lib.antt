@@ -1,2 +1,2 @@
--- Where an array's elements go on from a place: `Standing`.
-pub mod Standing
+-- Where an array's elements go on from a place: `OutAfter`.
+pub mod OutAfter

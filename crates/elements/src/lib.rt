@@ -16,7 +16,7 @@ ghost use Rattle.layout.specs.Limits.{pick};
 ghost use Rattle.layout.specs.Zigzag.{zigzag};
 ghost use Rattle.emit.specs.Put.{put, reached};
 ghost use Rattle.emit.specs.Cursor.{placed, moved};
-ghost use Rattle.elements.specs.Standing.{Standing, elementsMost};
+ghost use Rattle.elements.specs.OutAfter.{OutAfter, elementsMost};
 
 // How much of an array's elements is out: whole ones, and bytes of the next.
 pub struct Out {
@@ -24,8 +24,7 @@ pub struct Out {
     pub part: usize,
 }
 
-// The varints of an unsigned array's elements where there is room for the longest of each. Two at a turn: the loop's own steps cost a
-// sixth of a short element's.
+// The varints of an unsigned array's elements where there is room for the longest of each, two at a turn.
 pub fn put_fittings(buf: &mut [u8], pos: usize, items: &[u64]) -> usize
     requires { ⌜ pos + elementsMost (length (now items)) ≤ length (now buf) ⌝ }
     ensures { λ r. ⌜ (r ≡ reached (now (buf .entry)) pos (each shortest (now (items .entry)))) × (now (buf .exit) ≡ put (now (buf .entry)) pos (each shortest (now (items .entry)))) × (pos + length (each shortest (now (items .entry))) ≤ length (now (buf .entry))) ⌝ }
@@ -46,7 +45,7 @@ pub fn put_fittings(buf: &mut [u8], pos: usize, items: &[u64]) -> usize
     at
 }
 
-// The same of a signed array's.
+// The varints of a signed array's elements where there is room for the longest of each.
 pub fn put_fitting_zigzags(buf: &mut [u8], pos: usize, items: &[i64]) -> usize
     requires { ⌜ pos + elementsMost (length (now items)) ≤ length (now buf) ⌝ }
     ensures { λ r. ⌜ (r ≡ reached (now (buf .entry)) pos (each (λ z. shortest (zigzag z)) (now (items .entry)))) × (now (buf .exit) ≡ put (now (buf .entry)) pos (each (λ z. shortest (zigzag z)) (now (items .entry)))) × (pos + length (each (λ z. shortest (zigzag z)) (now (items .entry))) ≤ length (now (buf .entry))) ⌝ }
@@ -74,7 +73,7 @@ fn put_next(buf: &mut [u8], pos: usize, v: u64) -> usize
 
 // Where the varints of an unsigned array's elements go on after the first `skip` bytes of them.
 pub fn varints_out(items: &[u64], skip: usize) -> Out
-    ensures { λ r. ⌜ Standing shortest (now (items .entry)) skip (r .whole) (r .part) ⌝ }
+    ensures { λ r. ⌜ OutAfter shortest (now (items .entry)) skip (r .whole) (r .part) ⌝ }
 {
     let mut left = skip;
     let mut i: usize = 0;
@@ -96,9 +95,9 @@ pub fn varints_out(items: &[u64], skip: usize) -> Out
     }
 }
 
-// The same of a signed array's.
+// Where the varints of a signed array's elements go on after the first `skip` bytes of them.
 pub fn zigzags_out(items: &[i64], skip: usize) -> Out
-    ensures { λ r. ⌜ Standing (λ z. shortest (zigzag z)) (now (items .entry)) skip (r .whole) (r .part) ⌝ }
+    ensures { λ r. ⌜ OutAfter (λ z. shortest (zigzag z)) (now (items .entry)) skip (r .whole) (r .part) ⌝ }
 {
     let mut left = skip;
     let mut i: usize = 0;
@@ -171,7 +170,7 @@ pub fn put_varints(cursor: Cursor, buf: &mut [u8], items: &[u64]) -> Cursor
     Cursor { pos: end, skip: 0 }
 }
 
-// Those of a signed array's.
+// The varints of a signed array's elements from the place `from` on, until the buffer is full.
 fn zigzags_from(buf: &mut [u8], pos: usize, items: &[i64], from: usize) -> usize
     requires { ⌜ pos ≤ length (now buf) ⌝ }
     ensures { λ r. ⌜ (r ≡ reached (now (buf .entry)) pos (each (λ z. shortest (zigzag z)) (drop from (now (items .entry))))) × (now (buf .exit) ≡ put (now (buf .entry)) pos (each (λ z. shortest (zigzag z)) (drop from (now (items .entry))))) ⌝ }
@@ -186,7 +185,7 @@ fn zigzags_from(buf: &mut [u8], pos: usize, items: &[i64], from: usize) -> usize
     at
 }
 
-// Those of a signed array's.
+// The varints of a signed array's elements.
 pub fn put_zigzags(cursor: Cursor, buf: &mut [u8], items: &[i64]) -> Cursor
     requires { ⌜ cursor .pos ≤ length (now buf) ⌝ }
     ensures { λ r. ⌜ (r ≡ moved cursor (now (buf .entry)) (each (λ z. shortest (zigzag z)) (now (items .entry)))) × (now (buf .exit) ≡ placed cursor (now (buf .entry)) (each (λ z. shortest (zigzag z)) (now (items .entry)))) ⌝ }

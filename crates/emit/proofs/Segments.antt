@@ -82,7 +82,7 @@ module _ (c : Cursor) (b s : List ℕ) (h : c .pos ≤ length b) where
   unfolding moved placed
   placed-placed t = put-put b (c .pos) (drop (c .skip) s) (drop (c .skip - length s) t) h ∙ ap (put b (c .pos)) (drop-append (c .skip) s t)
 
--- the same for what calls answer: c1 and b1 after s, c2 and b2 after t
+-- two segments are one, by what calls answer: c1 and b1 after s, c2 and b2 after t
 pub joined : (c : Cursor) (b s : List ℕ) (c1 : Cursor) (b1 t : List ℕ) (c2 : Cursor) (b2 : List ℕ) → c .pos ≤ length b → Emitted c b s c1 b1 → Emitted c1 b1 t c2 b2
     → Emitted c b (s ++ t) c2 b2
 joined c b s c1 b1 t c2 b2 h (e, f) (g, k) = (

@@ -84,7 +84,7 @@ followed-by b pos o d at s t d′ end l h (e, f) =
       ends = ap (λ (k : ℕ). reached d′ k t) e ∙ ap (λ (x : List ℕ). reached x (reached d at s) t) f ∙ reached-reached d at s t h ∙ l .ends;
     }
 
--- the same write of a list that is spelled otherwise
+-- a write of a list that is spelled otherwise
 pub whole-as : (b : List ℕ) (pos : ℕ) (s t d : List ℕ) (end : ℕ) → s ≡ t → Whole b pos s d end → Whole b pos t d end
 whole-as b pos s t d end e (p, q) = (p ∙ ap (reached b pos) e, q ∙ ap (put b pos) e)
 

@@ -35,7 +35,7 @@ pub fn put_whole(buf: &mut [u8], pos: usize, v: u64) -> usize
     at
 }
 
-// The same where there is room for the longest, with no test for the buffer's end at each byte.
+// The varint of v where there is room for the longest, with no test for the buffer's end at each byte; where it ends.
 pub fn put_fitting(buf: &mut [u8], pos: usize, v: u64) -> usize
     requires { ⌜ pos + longest base ≤ length (now buf) ⌝ }
     ensures { λ r. ⌜ (r ≡ reached (now (buf .entry)) pos (shortest v)) × (now (buf .exit) ≡ put (now (buf .entry)) pos (shortest v)) ⌝ }
@@ -120,7 +120,7 @@ fn put_low(buf: &mut [u8], pos: usize, x: u64, n: usize) -> usize
     at
 }
 
-// The four low bytes of x where there is room for them: stores at fixed distances, which the machine does as one.
+// The four low bytes of x, low byte first, where there is room for them; where they end.
 pub fn put_four(buf: &mut [u8], pos: usize, x: u64) -> usize
     requires { ⌜ pos + 4 ≤ length (now buf) ⌝ }
     ensures { λ r. ⌜ (r ≡ reached (now (buf .entry)) pos (lowBytes 4 x)) × (now (buf .exit) ≡ put (now (buf .entry)) pos (lowBytes 4 x)) ⌝ }
@@ -135,7 +135,7 @@ pub fn put_four(buf: &mut [u8], pos: usize, x: u64) -> usize
     pos + 4
 }
 
-// The same of eight.
+// The eight low bytes of x, low byte first, where there is room for them; where they end.
 pub fn put_eight(buf: &mut [u8], pos: usize, x: u64) -> usize
     requires { ⌜ pos + 8 ≤ length (now buf) ⌝ }
     ensures { λ r. ⌜ (r ≡ reached (now (buf .entry)) pos (lowBytes 8 x)) × (now (buf .exit) ≡ put (now (buf .entry)) pos (lowBytes 8 x)) ⌝ }

@@ -8,7 +8,7 @@ use Rattle.layout.specs.Varint.{push, varintFrom}
 use Rattle.layout.specs.Field.{each}
 use Rattle.layout.specs.Event.{Signed}
 use Rattle.layout.specs.Reading.{given, follow}
-use Rattle.layout.specs.Message.{eventsOf, verdictOf, message, judged, fieldsFrom, depthAfter, field, body, checked}
+use Rattle.layout.specs.Message.{eventsOf, verdictOf, message, verdictBy, fieldsFrom, depthAfter, field, body, checked}
 use Rattle.event_list.specs.Lines.{linesOf, listing, decimal, decimalIn}
 
 -- the four lines, with a space as 32 and a line's end as 10
@@ -20,7 +20,7 @@ four =
     ++ (99 ∷ 111 ∷ 109 ∷ 112 ∷ 108 ∷ 101 ∷ 116 ∷ 101 ∷ 10 ∷ [])))
 
 pub worked : listing base (0x36 ∷ 0x08 ∷ 0xAC ∷ 0x02 ∷ 0x07 ∷ []) ≡ four
-unfolding listing decimal decimalIn each eventsOf verdictOf message judged fieldsFrom depthAfter field body checked given follow varintFrom push
+unfolding listing decimal decimalIn each eventsOf verdictOf message verdictBy fieldsFrom depthAfter field body checked given follow varintFrom push
 worked = refl
 
 -- signed, id 2, -1: `S 2 -1`

@@ -1,4 +1,4 @@
--- "The C host calls two exports on byte slices, answering a signed 64-bit number."
+-- "The C host calls two exports on byte slices, answering a signed 64-bit number".
 use Prim.Native.Nat.{ℕ, _-_, _^_, min}
 use mathlib.Core.Bool.{Bool}
 use mathlib.Core.List.{List, _++_}
@@ -21,8 +21,8 @@ pub record Copied : Type 0 where
   pub answer : ℤ
   pub out : List ℕ
 
-abbrev pub leftBy : ℤ → List ℕ → Copied
-leftBy r out = record { answer = r; out = out }
+abbrev pub resultOf : ℤ → List ℕ → Copied
+resultOf r out = record { answer = r; out = out }
 
 -- "An output beyond 9,223,372,036,854,775,807 bytes counts as that long."
 abbrev pub room : List ℕ → ℕ
@@ -35,10 +35,10 @@ enough m out = leb (length m) (room out)
 -- rest of the output unaltered"
 unfoldable pub filled : List ℕ → List ℕ → Copied
 filled m out =
-    pick (enough m out) (leftBy (pos (length m)) (m ++ drop (length m) out)) (leftBy (negsuc 100) (take (room out) m ++ drop (room out) out))
+    pick (enough m out) (resultOf (pos (length m)) (m ++ drop (length m) out)) (resultOf (negsuc 100) (take (room out) m ++ drop (room out) out))
 
--- "the copy (-2; then -100 incomplete; then -101 ..)". "-2 and -100 write nothing."
+-- "-2; then -100 incomplete; then -101": the last is `filled`'s. "-2 and -100 write nothing."
 unfoldable pub copied : Verdict → List ℕ → List ℕ → Copied
 copied complete m out = filled m out
-copied incomplete m out = leftBy (negsuc 99) out
-copied (brokenAt n) m out = leftBy (negsuc 1) out
+copied incomplete m out = resultOf (negsuc 99) out
+copied (brokenAt n) m out = resultOf (negsuc 1) out

@@ -4,7 +4,7 @@ use mathlib.Core.Path.{_≡_, refl}
 use mathlib.Core.List.{List, [], _∷_, _++_}
 use lib.IntN.{ℤ, pos, negsuc}
 use Rattle.layout.specs.Message.{Verdict, complete, incomplete, brokenAt}
-use Rattle.exports.specs.Exports.{number, Copied, leftBy, filled, copied}
+use Rattle.exports.specs.Exports.{number, Copied, resultOf, filled, copied}
 
 -- a row: the verdict, the plain copy and the output before; then the verdict's number, and what the copy answers and leaves
 pub record Row : Type 0 where
@@ -12,7 +12,7 @@ pub record Row : Type 0 where
   pub copy : List ℕ
   pub before : List ℕ
   pub number : ℤ
-  pub left : Copied
+  pub result : Copied
 
 -- what the exports are held to in a row
 unfoldable pub said : Row → Row
@@ -22,7 +22,7 @@ said r =
       copy = r .copy;
       before = r .before;
       number = number (r .verdict);
-      left = copied (r .verdict) (r .copy) (r .before);
+      result = copied (r .verdict) (r .copy) (r .before);
     }
 
 unfoldable pub saidAll : List Row → List Row
@@ -40,15 +40,15 @@ two = 0x55 ∷ 0x55 ∷ []
 abbrev pub table : List Row
 table =
     -- room for more, for just the copy, for less, for nothing
-    record { verdict = complete; copy = three; before = 0x55 ∷ 0x55 ∷ two; number = pos 0; left = leftBy (pos 3) (three ++ (0x55 ∷ [])) }
-    ∷ record { verdict = complete; copy = three; before = 0x55 ∷ two; number = pos 0; left = leftBy (pos 3) three }
-    ∷ record { verdict = complete; copy = three; before = two; number = pos 0; left = leftBy (negsuc 100) (0x08 ∷ 0xAC ∷ []) }
-    ∷ record { verdict = complete; copy = three; before = []; number = pos 0; left = leftBy (negsuc 100) [] }
+    record { verdict = complete; copy = three; before = 0x55 ∷ 0x55 ∷ two; number = pos 0; result = resultOf (pos 3) (three ++ (0x55 ∷ [])) }
+    ∷ record { verdict = complete; copy = three; before = 0x55 ∷ two; number = pos 0; result = resultOf (pos 3) three }
+    ∷ record { verdict = complete; copy = three; before = two; number = pos 0; result = resultOf (negsuc 100) (0x08 ∷ 0xAC ∷ []) }
+    ∷ record { verdict = complete; copy = three; before = []; number = pos 0; result = resultOf (negsuc 100) [] }
     -- the copy of an empty message
-    ∷ record { verdict = complete; copy = []; before = []; number = pos 0; left = leftBy (pos 0) [] }
+    ∷ record { verdict = complete; copy = []; before = []; number = pos 0; result = resultOf (pos 0) [] }
     -- nothing is written of any other message, however long the output is
-    ∷ record { verdict = incomplete; copy = three; before = two; number = pos 1; left = leftBy (negsuc 99) two }
-    ∷ record { verdict = brokenAt 2; copy = three; before = two; number = negsuc 1; left = leftBy (negsuc 1) two }
+    ∷ record { verdict = incomplete; copy = three; before = two; number = pos 1; result = resultOf (negsuc 99) two }
+    ∷ record { verdict = brokenAt 2; copy = three; before = two; number = negsuc 1; result = resultOf (negsuc 1) two }
     ∷ []
 
 pub worked : saidAll table ≡ table

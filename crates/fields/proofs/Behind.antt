@@ -1,4 +1,4 @@
--- A field behind held headers, written straight away.
+-- A field behind held headers, written at once.
 use mathlib.Core.Path.{_≡_, ap}
 use mathlib.Core.List.{List, _++_}
 use mathlib.Core.Bool.{Bool, true, _&&_}
@@ -14,8 +14,8 @@ use Rattle.emit.proofs.Segments.{Emitted}
 use Rattle.answers.specs.declared.Outcome.the-variants.{Through}
 use Rattle.held.specs.Headers.{pairMost, startAt}
 use Rattle.held.proofs.Ends.{Ended, at-once}
-use Rattle.straight.specs.Straight.{roomFor}
-use Rattle.straight.proofs.Straight.{WholeIf, was-made, yes-both, room-for}
+use Rattle.write_at_once.specs.AtOnce.{roomFor}
+use Rattle.write_at_once.proofs.AtOnce.{WholeIf, was-made, yes-both, room-for}
 
 as-whole : (pos : ℕ) (b o : List ℕ) (c′ : Cursor) (b′ : List ℕ) → Emitted (startAt pos 0) b o c′ b′ → Whole b pos o b′ (c′ .pos)
 unfolding moved placed

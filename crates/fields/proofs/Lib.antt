@@ -1,2 +1,2 @@
--- `Behind` has the law of a field that is written straight away behind held headers.
+-- `Behind` has the law of a field that is written at once behind held headers.
 pub mod Behind

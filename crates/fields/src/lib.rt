@@ -7,11 +7,11 @@ use held::held_len;
 use held::put_head;
 use held::put_held;
 use held::tagged;
-use straight::put_field;
-use straight::put_pair;
 use types::LAZY_SEQ_DEPTH;
 use types::T_SEQUENCE_END;
 use varint::varint_len;
+use write_at_once::put_field;
+use write_at_once::put_pair;
 ghost use mathlib.Core.Path.{_≡_};
 ghost use mathlib.Core.List.{_++_};
 ghost use Prim.Native.Nat.{_≤_};
@@ -21,9 +21,9 @@ ghost use Rattle.layout.specs.Field.{lowBytes, end};
 ghost use Rattle.layout.specs.Copy.{fieldBytes};
 ghost use Rattle.answers.specs.Outcome.{reaches};
 ghost use Rattle.held.specs.Places.{lazyDepth};
-ghost use Rattle.held.specs.Headers.{headersOf, headOf, leftAt};
+ghost use Rattle.held.specs.Headers.{headersOf, headOf, bufferAfter};
 
-// The held headers, a header and one varint: where there is room for the longest that they can be, straight away.
+// The held headers, a header and one varint: where there is room for the longest that they can be, at once.
 pub fn put_varint_field(
     buf: &mut [u8],
     pos: usize,
@@ -34,7 +34,7 @@ pub fn put_varint_field(
     place: usize,
 ) -> Outcome
     requires { ⌜ (held ≤ lazyDepth) × (pos ≤ length (now buf)) ⌝ }
-    ensures { λ r. ⌜ (r ≡ reaches pos (length (now (buf .entry))) (length (headOf held places header value)) place) × (now (buf .exit) ≡ leftAt pos (now (buf .entry)) (headOf held places header value) place) ⌝ }
+    ensures { λ r. ⌜ (r ≡ reaches pos (length (now (buf .entry))) (length (headOf held places header value)) place) × (now (buf .exit) ≡ bufferAfter pos (now (buf .entry)) (headOf held places header value) place) ⌝ }
 {
     let size = buf.len();
     if place == 0 && has_room_behind(size, pos, places, held, 0) {
@@ -46,7 +46,7 @@ pub fn put_varint_field(
     finish(pos, size, head_len(places, held, header, value), place)
 }
 
-// The same with bytes after them.
+// The held headers, a header, a word and bytes, likewise.
 pub fn put_fixlen_field(
     buf: &mut [u8],
     pos: usize,
@@ -58,7 +58,7 @@ pub fn put_fixlen_field(
     place: usize,
 ) -> Outcome
     requires { ⌜ (held ≤ lazyDepth) × (pos ≤ length (now buf)) ⌝ }
-    ensures { λ r. ⌜ (r ≡ reaches pos (length (now (buf .entry))) (length (headersOf held places ++ (shortest header ++ (shortest word ++ now (bytes .entry))))) place) × (now (buf .exit) ≡ leftAt pos (now (buf .entry)) (headersOf held places ++ (shortest header ++ (shortest word ++ now (bytes .entry)))) place) ⌝ }
+    ensures { λ r. ⌜ (r ≡ reaches pos (length (now (buf .entry))) (length (headersOf held places ++ (shortest header ++ (shortest word ++ now (bytes .entry))))) place) × (now (buf .exit) ≡ bufferAfter pos (now (buf .entry)) (headersOf held places ++ (shortest header ++ (shortest word ++ now (bytes .entry)))) place) ⌝ }
 {
     let size = buf.len();
     if place == 0 && has_room_behind(size, pos, places, held, bytes.len()) {
@@ -82,7 +82,7 @@ pub fn put_marker(
     place: usize,
 ) -> Outcome
     requires { ⌜ (held ≤ lazyDepth) × (pos ≤ length (now buf)) ⌝ }
-    ensures { λ r. ⌜ (r ≡ reaches pos (length (now (buf .entry))) (length (headersOf held places ++ shortest header)) place) × (now (buf .exit) ≡ leftAt pos (now (buf .entry)) (headersOf held places ++ shortest header) place) ⌝ }
+    ensures { λ r. ⌜ (r ≡ reaches pos (length (now (buf .entry))) (length (headersOf held places ++ shortest header)) place) × (now (buf .exit) ≡ bufferAfter pos (now (buf .entry)) (headersOf held places ++ shortest header) place) ⌝ }
 {
     let size = buf.len();
     let behind = put_held(buf, pos, places, held, place);
@@ -104,7 +104,7 @@ pub fn put_close(
     place: usize,
 ) -> Outcome
     requires { ⌜ (held ≤ lazyDepth) × (pos ≤ length (now buf)) ⌝ }
-    ensures { λ r. ⌜ (r ≡ reaches pos (length (now (buf .entry))) (length (headersOf held places ++ fieldBytes (end 0))) place) × (now (buf .exit) ≡ leftAt pos (now (buf .entry)) (headersOf held places ++ fieldBytes (end 0)) place) ⌝ }
+    ensures { λ r. ⌜ (r ≡ reaches pos (length (now (buf .entry))) (length (headersOf held places ++ fieldBytes (end 0))) place) × (now (buf .exit) ≡ bufferAfter pos (now (buf .entry)) (headersOf held places ++ fieldBytes (end 0)) place) ⌝ }
 {
     put_marker(buf, pos, places, held, tagged(0, T_SEQUENCE_END), place)
 }

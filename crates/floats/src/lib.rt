@@ -31,7 +31,7 @@ fn put_fours(buf: &mut [u8], pos: usize, items: &[u32]) -> usize
     at
 }
 
-// The same of 64 bits.
+// The elements of a float array of 64 bits, by their bits, where there is room for all.
 fn put_eights(buf: &mut [u8], pos: usize, items: &[u64]) -> usize
     requires { ⌜ pos + 8 * length (now items) ≤ length (now buf) ⌝ }
     ensures { λ r. ⌜ (r ≡ reached (now (buf .entry)) pos (each (lowBytes 8) (now (items .entry)))) × (now (buf .exit) ≡ put (now (buf .entry)) pos (each (lowBytes 8) (now (items .entry)))) ⌝ }
@@ -46,7 +46,7 @@ fn put_eights(buf: &mut [u8], pos: usize, items: &[u64]) -> usize
     at
 }
 
-// The same of 32 bits by value.
+// Those of a float array of 32 bits, by value, where there is room for all.
 fn put_four_floats(buf: &mut [u8], pos: usize, items: &[f32]) -> usize
     requires { ⌜ pos + 4 * length (now items) ≤ length (now buf) ⌝ }
     ensures { λ r. ⌜ (r ≡ reached (now (buf .entry)) pos (each (λ x. lowBytes 4 (toBits binary32 x)) (now (items .entry)))) × (now (buf .exit) ≡ put (now (buf .entry)) pos (each (λ x. lowBytes 4 (toBits binary32 x)) (now (items .entry)))) ⌝ }
@@ -61,7 +61,7 @@ fn put_four_floats(buf: &mut [u8], pos: usize, items: &[f32]) -> usize
     at
 }
 
-// The same of 64 bits by value.
+// Those of a float array of 64 bits, by value, where there is room for all.
 fn put_eight_floats(buf: &mut [u8], pos: usize, items: &[f64]) -> usize
     requires { ⌜ pos + 8 * length (now items) ≤ length (now buf) ⌝ }
     ensures { λ r. ⌜ (r ≡ reached (now (buf .entry)) pos (each (λ x. lowBytes 8 (toBits binary64 x)) (now (items .entry)))) × (now (buf .exit) ≡ put (now (buf .entry)) pos (each (λ x. lowBytes 8 (toBits binary64 x)) (now (items .entry)))) ⌝ }
@@ -115,7 +115,7 @@ pub fn put_fp32s(cursor: Cursor, buf: &mut [u8], items: &[u32]) -> Cursor
     Cursor { pos: stop, skip: 0 }
 }
 
-// The same of 64 bits.
+// The elements of a float array of 64 bits, by their bits, likewise.
 pub fn put_fp64s(cursor: Cursor, buf: &mut [u8], items: &[u64]) -> Cursor
     requires { ⌜ cursor .pos ≤ length (now buf) ⌝ }
     ensures { λ r. ⌜ (r ≡ moved cursor (now (buf .entry)) (each (lowBytes 8) (now (items .entry)))) × (now (buf .exit) ≡ placed cursor (now (buf .entry)) (each (lowBytes 8) (now (items .entry)))) ⌝ }
@@ -141,7 +141,7 @@ pub fn put_fp64s(cursor: Cursor, buf: &mut [u8], items: &[u64]) -> Cursor
     Cursor { pos: stop, skip: 0 }
 }
 
-// The same of 32 bits by value; a NaN's bits are the one pattern that the logic knows.
+// Those of a float array of 32 bits, by value; a NaN's bits are the one pattern that the logic knows.
 pub fn put_f32s(cursor: Cursor, buf: &mut [u8], items: &[f32]) -> Cursor
     requires { ⌜ cursor .pos ≤ length (now buf) ⌝ }
     ensures { λ r. ⌜ (r ≡ moved cursor (now (buf .entry)) (each (λ x. lowBytes 4 (toBits binary32 x)) (now (items .entry)))) × (now (buf .exit) ≡ placed cursor (now (buf .entry)) (each (λ x. lowBytes 4 (toBits binary32 x)) (now (items .entry)))) ⌝ }
@@ -167,7 +167,7 @@ pub fn put_f32s(cursor: Cursor, buf: &mut [u8], items: &[f32]) -> Cursor
     Cursor { pos: stop, skip: 0 }
 }
 
-// The same of 64 bits by value.
+// Those of a float array of 64 bits, by value.
 pub fn put_f64s(cursor: Cursor, buf: &mut [u8], items: &[f64]) -> Cursor
     requires { ⌜ cursor .pos ≤ length (now buf) ⌝ }
     ensures { λ r. ⌜ (r ≡ moved cursor (now (buf .entry)) (each (λ x. lowBytes 8 (toBits binary64 x)) (now (items .entry)))) × (now (buf .exit) ≡ placed cursor (now (buf .entry)) (each (λ x. lowBytes 8 (toBits binary64 x)) (now (items .entry)))) ⌝ }

@@ -18,24 +18,24 @@ use Rattle.answers.specs.declared.Outcome.{Outcome}
 use Rattle.answers.specs.declared.Outcome.the-variants.{Through, Full}
 use Rattle.answers.specs.Outcome.{reaches}
 use Rattle.answers.proofs.Outcomes.{reaches-through, reaches-full}
-use Rattle.held.specs.Headers.{startAt, leftAt}
+use Rattle.held.specs.Headers.{startAt, bufferAfter}
 
 -- output o, gone on with from a place, from pos on over b
 abbrev pub Ended : ℕ → List ℕ → List ℕ → ℕ → Outcome → List ℕ → Type 0
-Ended pos b o place r b′ = (r ≡ reaches pos (length b) (length o) place) × (b′ ≡ leftAt pos b o place)
+Ended pos b o place r b′ = (r ≡ reaches pos (length b) (length o) place) × (b′ ≡ bufferAfter pos b o place)
 
 -- held headers, a field's header and the varint after it, and the rest
 pub grouped : (held a b c : List ℕ) → held ++ (a ++ b) ++ c ≡ held ++ (a ++ (b ++ c))
 grouped held a b c = append-assoc held (a ++ b) c ∙ ap (λ (l : List ℕ). held ++ l) (append-assoc a b c)
 
--- the same for an output that is spelled otherwise
+-- how a call ends, for an output that is spelled otherwise
 pub ended-as : (pos : ℕ) (b o o′ : List ℕ) (place : ℕ) (r : Outcome) (b′ : List ℕ) → o ≡ o′ → Ended pos b o place r b′ → Ended pos b o′ place r b′
-ended-as pos b o o′ place r b′ q (e, f) = (e ∙ ap (λ (l : List ℕ). reaches pos (length b) (length l) place) q, f ∙ ap (λ (l : List ℕ). leftAt pos b l place) q)
+ended-as pos b o o′ place r b′ q (e, f) = (e ∙ ap (λ (l : List ℕ). reaches pos (length b) (length l) place) q, f ∙ ap (λ (l : List ℕ). bufferAfter pos b l place) q)
 
 module _ (pos : ℕ) (b o : List ℕ) (place : ℕ) (c′ : Cursor) (b′ : List ℕ) (e : Emitted (startAt pos place) b o c′ b′) where
   -- where the place lies beyond the output, nothing was written
-  left-any : b′ ≡ leftAt pos b o place
-  unfolding leftAt placed
+  left-any : b′ ≡ bufferAfter pos b o place
+  unfolding bufferAfter placed
   left-any = go (ltb (length o) place) refl
     where
       go : (t : Bool) → ltb (length o) place ≡ t → b′ ≡ pick t b (put b pos (drop place o))
@@ -65,7 +65,7 @@ module _ (pos : ℕ) (b o : List ℕ) (place : ℕ) (c′ : Cursor) (b′ : List
 
 -- all of it at once, where there is room
 pub at-once : (pos : ℕ) (b o : List ℕ) (place end : ℕ) (b′ : List ℕ) → place ≡ 0 → pos + length o ≤ length b → Whole b pos o b′ end → Ended pos b o place (Through end) b′
-unfolding leftAt
+unfolding bufferAfter
 at-once pos b o place end b′ z h (e, f) =
     let r : reached b pos o ≡ pos + min (length o) (length b - pos) = reached-is b pos o in
     let q : end ≡ reached b pos o = e in (

@@ -30,7 +30,7 @@ module _ (p : ℕ → Bool) (l : List ℕ) (i : ℕ) where
   unfolding every
   every-end h = ap (every p) (drop-of-length-le l {i = i} h)
 
--- the same over the first n
+-- a test of each of the first n
 module _ (p : ℕ → Bool) (l : List ℕ) (n i : ℕ) (hl : n ≤ length l) (h : i < n) where
   within : i < length (take n l)
   within = omega (arith, length-take-le n l hl)

@@ -33,5 +33,5 @@ abbrev pub startAt : ℕ → ℕ → Cursor
 startAt pos place = record { pos = pos; skip = place }
 
 -- the buffer after a call: as many of the bytes still to go as there is room for, from the position on
-unfoldable pub leftAt : ℕ → List ℕ → List ℕ → ℕ → List ℕ
-leftAt pos b o place = pick (ltb (length o) place) b (put b pos (drop place o))
+unfoldable pub bufferAfter : ℕ → List ℕ → List ℕ → ℕ → List ℕ
+bufferAfter pos b o place = pick (ltb (length o) place) b (put b pos (drop place o))

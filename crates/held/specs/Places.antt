@@ -11,7 +11,7 @@ unfoldable pub every : (ℕ → Bool) → List ℕ → Bool
 every p [] = true
 every p (x ∷ xs) = p x && every p xs
 
--- how many opened sequences are held back: "Up to eight are held."
+-- how many opened sequences are held back: "Up to eight are held".
 abbrev pub lazyDepth : ℕ
 lazyDepth = 8
 
@@ -25,6 +25,6 @@ clean places = every (λ x. eqb x 0) places
 
 -- "Writer: position at most the buffer's length, held at most 8 and at most depth, depth to 255, ids to `ID_MAX`, unused places zero
 -- (these are tested too)."
-abbrev pub soundWriter : ℕ → ℕ → ℕ → List ℕ → ℕ → Bool
-soundWriter offset depth held places size =
+abbrev pub soundFor : ℕ → ℕ → ℕ → List ℕ → ℕ → Bool
+soundFor offset depth held places size =
     leb offset size && (leb held lazyDepth && (leb held depth && (leb depth (base .depth) && (every (λ x. leb x (base .id)) (take held places) && every (λ x. eqb x 0) (drop held places)))))

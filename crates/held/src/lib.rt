@@ -13,7 +13,7 @@ ghost use lib.Dec.{leb, eqb};
 ghost use lib.ListN.{length, take, drop, set};
 ghost use Rattle.layout.specs.Limits.{base};
 ghost use Rattle.emit.specs.Cursor.{placed, moved};
-ghost use Rattle.held.specs.Places.{lazyDepth, every, zeroed, soundWriter};
+ghost use Rattle.held.specs.Places.{lazyDepth, every, zeroed, soundFor};
 ghost use Rattle.held.specs.Headers.{pairMost, heldMost, headMost, headersOf, headOf, startAt};
 
 // Most bytes of two varints: a field's header, and the value, word or count after it.
@@ -34,7 +34,7 @@ fn ids_legal(pending: [u32; LAZY_SEQ_DEPTH], n: usize) -> bool
     true
 }
 
-// Whether the places from n on are zero. (`sound_for` has tested n; `straight` asks from 0 on.)
+// Whether the places from n on are zero. (`sound_for` has tested n; `write_at_once` asks from 0 on.)
 pub fn unused_zero(pending: [u32; LAZY_SEQ_DEPTH], n: usize) -> bool
     requires { ⌜ n ≤ lazyDepth ⌝ }
     ensures { λ r. ⌜ r ≡ every (λ x. eqb x 0) (drop n pending) ⌝ }
@@ -92,7 +92,7 @@ pub fn sound_for(
     places: [u32; LAZY_SEQ_DEPTH],
     size: usize,
 ) -> bool
-    ensures { λ r. ⌜ r ≡ soundWriter offset depth held places size ⌝ }
+    ensures { λ r. ⌜ r ≡ soundFor offset depth held places size ⌝ }
 {
     if size < offset {
         return false;

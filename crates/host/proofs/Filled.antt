@@ -13,7 +13,7 @@ use mir.Val.{toZ}
 use borrow.Author.Tests.{le-leb, lt-leb}
 use Rattle.emit.specs.Put.{over, put, reached}
 use Rattle.emit.proofs.Writes.{reached-is}
-use Rattle.exports.specs.Exports.{leftBy, room, enough, filled}
+use Rattle.exports.specs.Exports.{resultOf, room, enough, filled}
 
 all : (b : List ℕ) → length b < 9223372036854775808 → room b ≡ length b
 all b s = omega arith
@@ -26,17 +26,17 @@ not-enough : (m b : List ℕ) → length b < 9223372036854775808 → length b < 
 not-enough m b s l = lt-leb (length m) (room b) (omega (arith, all b s))
 
 -- The copy, and the rest of the output as it came.
-pub fitting : (m b : List ℕ) → length b < 9223372036854775808 → length m ≤ length b → filled m b ≡ leftBy (pos (length m)) (m ++ drop (length m) b)
+pub fitting : (m b : List ℕ) → length b < 9223372036854775808 → length m ≤ length b → filled m b ≡ resultOf (pos (length m)) (m ++ drop (length m) b)
 unfolding filled
 fitting m b s l = simp (is-enough m b s l)
 
 -- Every byte of the output is the copy's.
-pub too-short : (m b : List ℕ) → length b < 9223372036854775808 → length b < length m → filled m b ≡ leftBy (negsuc 100) (take (length b) m)
+pub too-short : (m b : List ℕ) → length b < 9223372036854775808 → length b < length m → filled m b ≡ resultOf (negsuc 100) (take (length b) m)
 unfolding filled
 too-short m b s l =
     let d : take (room b) m ++ drop (room b) b ≡ take (length b) m =
     ap (λ (n : ℕ). take n m ++ drop n b) (all b s) ∙ ap (λ (y : List ℕ). take (length b) m ++ y) (drop-length b) ∙ append-nil (take (length b) m) in
-    simp (not-enough m b s l) (ap (leftBy (negsuc 100)) d)
+    simp (not-enough m b s l) (ap (resultOf (negsuc 100)) d)
 
 -- ---- one block
 
@@ -56,18 +56,18 @@ module _ (T b : List ℕ) (s : length b < 9223372036854775808) (end : ℕ) (b′
   pub block-small : end < 9223372036854775808
   block-small = omega (arith, end-is)
 
-  pub block-whole : length T ≤ end → leftBy (toZ w64 end) b′ ≡ filled T b
+  pub block-whole : length T ≤ end → resultOf (toZ w64 end) b′ ≡ filled T b
   block-whole h =
       let l : length T ≤ length b = omega (arith, end-is) in
       let e : end ≡ length T = omega (arith, end-is) in
       let n : toZ w64 end ≡ pos (length T) = toZ-pos w64 block-small ∙ ap pos e in
       let d : b′ ≡ T ++ drop (length T) b = w .1 ∙ stands T b ∙ ap (λ (x : List ℕ). x ++ drop (length x) b) (take-all (length b) T l) in
-      (λ i. leftBy (n i) (d i)) ∙ sym (fitting T b s l)
+      (λ i. resultOf (n i) (d i)) ∙ sym (fitting T b s l)
 
-  pub block-start : end < length T → leftBy (negsuc 100) b′ ≡ filled T b
+  pub block-start : end < length T → resultOf (negsuc 100) b′ ≡ filled T b
   block-start h =
       let l : length b < length T = omega (arith, end-is) in
       let n : length (take (length b) T) ≡ length b = omega (arith, length-take (length b) T) in
       let d : b′ ≡ take (length b) T =
       w .1 ∙ stands T b ∙ ap (λ (k : ℕ). take (length b) T ++ drop k b) n ∙ ap (λ (y : List ℕ). take (length b) T ++ y) (drop-length b) ∙ append-nil (take (length b) T) in
-      ap (leftBy (negsuc 100)) d ∙ sym (too-short T b s l)
+      ap (resultOf (negsuc 100)) d ∙ sym (too-short T b s l)

@@ -8,7 +8,7 @@ use Rattle.layout.specs.Message as layout
 use Rattle.whole.specs.declared.Verdict.{Verdict}
 use Rattle.whole.specs.declared.Verdict.the-variants.{Complete, Incomplete, Broken}
 use Rattle.whole.specs.Whole.{verdictIn}
-use Rattle.exports.specs.Exports.{number, Copied, leftBy, filled, copied}
+use Rattle.exports.specs.Exports.{number, Copied, resultOf, filled, copied}
 
 abbrev code : Verdict → ℤ
 code Complete = pos 0
@@ -26,19 +26,19 @@ numbered v r w e g = ap code (sym g ∙ e) ∙ alike v
 
 -- ---- the copy
 
-abbrev left : Verdict → List ℕ → List ℕ → Copied
-left Complete m out = filled m out
-left Incomplete m out = leftBy (negsuc 99) out
-left (Broken n) m out = leftBy (negsuc 1) out
+abbrev result : Verdict → List ℕ → List ℕ → Copied
+result Complete m out = filled m out
+result Incomplete m out = resultOf (negsuc 99) out
+result (Broken n) m out = resultOf (negsuc 1) out
 
-left-alike : (v : layout.Verdict) (m out : List ℕ) → left (verdictIn v) m out ≡ copied v m out
+result-alike : (v : layout.Verdict) (m out : List ℕ) → result (verdictIn v) m out ≡ copied v m out
 unfolding copied
-left-alike layout.complete m out = refl
-left-alike layout.incomplete m out = refl
-left-alike (layout.brokenAt n) m out = refl
+result-alike layout.complete m out = refl
+result-alike layout.incomplete m out = refl
+result-alike (layout.brokenAt n) m out = refl
 
-pub copies : (v : layout.Verdict) (r w : Verdict) (m out : List ℕ) → r ≡ verdictIn v → r ≡ w → left w m out ≡ copied v m out
-copies v r w m out e g = ap (λ (x : Verdict). left x m out) (sym g ∙ e) ∙ left-alike v m out
+pub copies : (v : layout.Verdict) (r w : Verdict) (m out : List ℕ) → r ≡ verdictIn v → r ≡ w → result w m out ≡ copied v m out
+copies v r w m out e g = ap (λ (x : Verdict). result x m out) (sym g ∙ e) ∙ result-alike v m out
 
 pub is-complete : (v : layout.Verdict) (r : Verdict) → r ≡ verdictIn v → r ≡ Complete → v ≡ layout.complete
 is-complete layout.complete r e g = refl

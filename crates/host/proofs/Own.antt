@@ -10,11 +10,11 @@ use Rattle.layout.specs.Message.{Verdict, complete, verdictOf}
 use Rattle.layout.specs.Copy.{plainCopy}
 use Rattle.laws.specs.Legal.{Balanced}
 use Rattle.laws.proofs.Laws.{fit-base}
-use Rattle.own.specs.Own.{AsIs}
+use Rattle.own.specs.Own.{OwnFields}
 use Rattle.copying.proofs.AsIs.{own-copy}
 use Rattle.exports.specs.Exports.{filled, copied}
 
-pub own-whole : (T : List ℕ) (n d : ℕ) → AsIs base 0 (take n T) d → n ≡ length T → d ≡ 0 → (verdictOf base T ≡ complete) × (plainCopy base T ≡ T)
+pub own-whole : (T : List ℕ) (n d : ℕ) → OwnFields base 0 (take n T) d → n ≡ length T → d ≡ 0 → (verdictOf base T ≡ complete) × (plainCopy base T ≡ T)
 own-whole T n d a e z =
     own-copy base fit-base T (a .fields) (a .legal) (subst (Balanced base 0 (a .fields)) z (a .balanced)) (sym (take-all n T (omega (arith, e))) ∙ a .bytes)
 

@@ -4,7 +4,7 @@ ghost use mathlib.Core.Bool.{true};
 ghost use Rattle.layout.specs.Limits.{base};
 ghost use Rattle.layout.specs.Message.{complete, verdictOf};
 ghost use Rattle.layout.specs.Copy.{plainCopy};
-ghost use Rattle.exports.specs.Exports.{number, leftBy, filled, copied};
+ghost use Rattle.exports.specs.Exports.{number, resultOf, filled, copied};
 use copier::Answer;
 use copier::Copier;
 use whole::Verdict;
@@ -25,7 +25,7 @@ pub extern "C" fn sofab_verdict(ticket: &[u8]) -> i64
 // refused, and the copier stands at 0 all the same.
 fn copy(ticket: &[u8], out: &mut [u8]) -> i64
     requires { ⌜ verdictOf base (now ticket) ≡ complete ⌝ }
-    ensures { λ r. ⌜ leftBy r (now (out .exit)) ≡ filled (plainCopy base (now (ticket .entry))) (now (out .entry)) ⌝ }
+    ensures { λ r. ⌜ resultOf r (now (out .exit)) ≡ filled (plainCopy base (now (ticket .entry))) (now (out .entry)) ⌝ }
 {
     let opened = Copier::new(out, 0);
     let fresh = opened.copier;
@@ -49,7 +49,7 @@ fn is_own(ticket: &[u8]) -> bool
 
 // The message itself as the copy.
 fn block(ticket: &[u8], out: &mut [u8]) -> i64
-    ensures { λ r. ⌜ leftBy r (now (out .exit)) ≡ filled (now (ticket .entry)) (now (out .entry)) ⌝ }
+    ensures { λ r. ⌜ resultOf r (now (out .exit)) ≡ filled (now (ticket .entry)) (now (out .entry)) ⌝ }
 {
     let end = emit::put_rest(out, 0, ticket, 0);
     if end < ticket.len() {
@@ -61,7 +61,7 @@ fn block(ticket: &[u8], out: &mut [u8]) -> i64
 // Most messages are their own plain copy, and gone over once. No byte is written before the verdict is known.
 #[no_mangle]
 pub extern "C" fn sofab_copy(ticket: &[u8], out: &mut [u8]) -> i64
-    ensures { λ r. ⌜ leftBy r (now (out .exit)) ≡ copied (verdictOf base (now (ticket .entry))) (plainCopy base (now (ticket .entry))) (now (out .entry)) ⌝ }
+    ensures { λ r. ⌜ resultOf r (now (out .exit)) ≡ copied (verdictOf base (now (ticket .entry))) (plainCopy base (now (ticket .entry))) (now (out .entry)) ⌝ }
 {
     if is_own(ticket) {
         return block(ticket, out);

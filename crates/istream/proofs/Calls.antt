@@ -14,8 +14,8 @@ use Rattle.layout.specs.Limits.{Limits, pick}
 use Rattle.layout.specs.Field.{string, blob}
 use Rattle.machine.specs.Machine as machine
 use Rattle.machine.specs.Machine.{inPayload, idle, on, bad}
-use Rattle.machine.specs.Call.{State, reading, owing, broke, Called, call, scan, scanned, verdictSo, raisedState}
-use Rattle.machine.specs.Call as pieces
+use Rattle.machine.specs.Calls.{State, reading, owing, broke, Called, call, scan, scanned, verdictSo, raisedState}
+use Rattle.machine.specs.Calls as pieces
 use Rattle.types.specs.Types.{rawSort}
 use Rattle.types.specs.declared.RawType.{RawType}
 use Rattle.types.specs.declared.RawType.the-variants as Raws
@@ -79,15 +79,15 @@ ends-call L n (owing d id r) b bs s a h e o = absurd a
 ends-call L n broke b bs s a h e o = absurd a
 
 -- a byte that does not
-pub record Onward (L : Limits) (n : ℕ) (st : State) (b : ℕ) (bs : List ℕ) (q : Phase) (k : Carried) : Type 0 where
+pub record GoesOn (L : Limits) (n : ℕ) (st : State) (b : ℕ) (bs : List ℕ) (q : Phase) (k : Carried) : Type 0 where
   pub bytes : AtBytes L (stateAt (k .depth) q)
   pub same : scanOn L n st (b ∷ bs) ≡ scanOn L (suc n) (stateAt (k .depth) q) bs
 
-pub goes-on : (L : Limits) (n : ℕ) (st : State) (b : ℕ) (bs : List ℕ) (q : Phase) (k : Carried) → AtBytes L st → b < 256 → On q k ≡ stepped (stepOn L st b) → Onward L n st b bs q k
+pub goes-on : (L : Limits) (n : ℕ) (st : State) (b : ℕ) (bs : List ℕ) (q : Phase) (k : Carried) → AtBytes L st → b < 256 → On q k ≡ stepped (stepOn L st b) → GoesOn L n st b bs q k
 unfolding scanned
 goes-on L n (reading d p) b bs q k₁ a h e = go (machine.step L d p b) refl (step-keeps L d p b a h) e
   where
-    go : (m : machine.Stepped) → machine.step L d p b ≡ m → Kept L m → On q k₁ ≡ stepped m → Onward L n (reading d p) b bs q k₁
+    go : (m : machine.Stepped) → machine.step L d p b ≡ m → Kept L m → On q k₁ ≡ stepped m → GoesOn L n (reading d p) b bs q k₁
     go (on [] d′ p′) r k f =
         let g : q ≡ phaseIn p′ = cc in
         let j : k₁ ≡ carriedAt d′ = cc in
@@ -141,9 +141,9 @@ module _ (L : Limits) (chunk : List ℕ) (st : State) (p : Phase) (d n : ℕ) (a
 
 -- ---- payloads
 
--- "In a payload, an empty chunk gives the verdict incomplete and no empty piece."
+-- In a payload, an empty chunk gives the verdict incomplete and no empty piece.
 pub no-bytes : (L : Limits) (d id : ℕ) (r : RawType) (total o : ℕ) (c : List ℕ) → length c ≡ 0 → record { read = 0; answer = Answers.Status Incomplete; stream = record { phase = Payload id r total o; carried = carriedAt d } } ≡ fedIn (call L (reading d (inPayload id (rawSort r) total o)) c)
-unfolding call scan fedIn machine.ending machine.judge
+unfolding call scan fedIn machine.ending machine.verdictAfter
 no-bytes L d id Raws.Str total o [] h = refl
 no-bytes L d id Raws.Blob total o [] h = refl
 no-bytes L d id r total o (b ∷ bs) h = absurd (omega arith)

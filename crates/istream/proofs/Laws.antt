@@ -11,7 +11,7 @@ use Rattle.layout.specs.Limits.{Limits, pick}
 use Rattle.layout.specs.Field.{Raw, bytesOf}
 use Rattle.machine.specs.Machine as machine
 use Rattle.machine.specs.Machine.{inHeader, inUnsigned, inSigned, inWord, inUnsignedCount, inSignedCount, inFloatCount, inArrayWord, inFloat, inPayload, idle, on, bad}
-use Rattle.machine.specs.Call.{State, reading, owing, broke, fresh, Called, call, scan, scanned}
+use Rattle.machine.specs.Calls.{State, reading, owing, broke, fresh, Called, call, scan, scanned}
 use Rattle.types.specs.declared.RawType.{RawType}
 use Rattle.types.specs.declared.RawType.the-variants as Raws
 use Rattle.types.specs.Types.{rawSort, refusal}
@@ -23,8 +23,8 @@ use Rattle.phase.specs.declared.Phase.the-variants.{Header, Unsigned, Signed, W
 use Rattle.istream.specs.declared.IStream.{IStream}
 use Rattle.istream.specs.declared.Answer.the-variants as Answers
 use Rattle.phase.specs.Phases.{stateAt, soundPhase, phaseIn, carriedAt}
-use Rattle.at_once.specs.declared.Quick.the-variants.{Done}
-use Rattle.at_once.specs.AtOnce.{StopsAt, RightFrom}
+use Rattle.read_at_once.specs.declared.Once.the-variants.{Done}
+use Rattle.read_at_once.specs.AtOnce.{StopsAt, RightFrom}
 use Rattle.istream.specs.declared.Fed.{Fed}
 use Rattle.istream.specs.Stream.{stateOf, streamIn, soundStream, answerIn, fedIn, fedAt, still, fedFrom, fedOf}
 use Rattle.stepped.specs.Steps.{pieceIn}

@@ -2,15 +2,14 @@
 use mathlib.Core.Path.{_≡_, refl, sym, ap, _∙_}
 use mathlib.Core.List.{[], _∷_}
 use Prim.Native.Nat.{ℕ, zero, suc, _≤_}
-use native.Mathlib.Omega.{arith}
 use lib.Dec.{eqb}
 use borrow.Author.Tests.{le-leb, eq-eqb, ne-eqb}
 use types.Run.{OneOf, miss}
 use denote.Enum.Declared.{tagOf}
 use Rattle.layout.specs.Limits.{Limits, pick}
-use Rattle.machine.specs.Machine.{inHeader, ending, judge}
+use Rattle.machine.specs.Machine.{inHeader, ending, verdictAfter}
 use Rattle.layout.specs.Message.{Verdict, complete, incomplete, brokenAt}
-use Rattle.machine.specs.Call.{State, reading, owing, broke, verdictAt, verdictSo, standingOf, standing}
+use Rattle.machine.specs.Calls.{State, reading, owing, broke, verdictAt, verdictSo, standingOf, standing}
 use Rattle.varint.specs.declared.Acc.{Acc}
 use Rattle.phase.specs.declared.Phase.{Phase}
 use Rattle.phase.specs.declared.Phase.the-variants.{Header, Unsigned, Signed, Word, UnsignedCount, SignedCount, FloatCount, ArrayWord, Float, Payload, Empty, Broken}
@@ -29,7 +28,7 @@ abbrev at : ℕ → Phase → IStream
 at d p = record { phase = p; carried = carriedAt d }
 
 pub status-else : (d : ℕ) (p : Phase) → OneOf (1 ∷ 2 ∷ 3 ∷ 4 ∷ 5 ∷ 6 ∷ 7 ∷ 8 ∷ 9 ∷ 10 ∷ []) (tagOf the-type p) → Incomplete ≡ statusOf (at d p)
-unfolding statusOf standing ending judge
+unfolding statusOf standing ending verdictAfter
 status-else d (Header a) o = absurd (miss (1 ∷ 2 ∷ 3 ∷ 4 ∷ 5 ∷ 6 ∷ 7 ∷ 8 ∷ 9 ∷ 10 ∷ []) 0 tt o)
 status-else d (Unsigned id left a) o = refl
 status-else d (Signed id left a) o = refl
@@ -49,18 +48,18 @@ status-broken s e = sym (ap (λ (p : Phase). statusOf (at (s .carried .depth) p)
 
 -- at byte k of a header
 header-status : ℕ → ℕ → ℕ → Standing
-header-status d k v = standingIn (standingOf (judge 0 (ending d (inHeader k v))))
+header-status d k v = standingIn (standingOf (verdictAfter 0 (ending d (inHeader k v))))
 
 at-header : (d : ℕ) (a : Acc) → statusOf (at d (Header a)) ≡ header-status d (a .taken) (a .value)
 unfolding statusOf standing header-status
 at-header d a = refl
 
 none-taken : (d k v : ℕ) → k ≡ 0 → header-status d k v ≡ standingIn (standingOf (pick (eqb d 0) complete incomplete))
-unfolding header-status ending judge
-none-taken d k v e = ap (λ (j : ℕ). standingIn (standingOf (judge 0 (ending d (inHeader j v))))) e
+unfolding header-status ending verdictAfter
+none-taken d k v e = ap (λ (j : ℕ). standingIn (standingOf (verdictAfter 0 (ending d (inHeader j v))))) e
 
 some-taken : (d k v : ℕ) → (k ≡ 0 → ⊥) → Incomplete ≡ header-status d k v
-unfolding header-status ending judge
+unfolding header-status ending verdictAfter
 some-taken d zero v h = absurd (h refl)
 some-taken d (suc k) v h = refl
 

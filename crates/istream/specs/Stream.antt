@@ -5,8 +5,8 @@ use mathlib.Core.List.{List}
 use lib.Dec.{leb}
 use Rattle.layout.specs.Limits.{Limits, pick}
 use Rattle.layout.specs.Message.{Verdict, complete, incomplete, brokenAt}
-use Rattle.machine.specs.Call.{State, reading, owing, broke, Called, call, standing}
-use Rattle.machine.specs.Call as calls
+use Rattle.machine.specs.Calls.{State, reading, owing, broke, Called, call, standing}
+use Rattle.machine.specs.Calls as calls
 use Rattle.types.specs.Types.{refusal}
 use Rattle.event.specs.Event.{declared}
 use Rattle.phase.specs.declared.Carried.{Carried}
@@ -62,7 +62,7 @@ verdictIn Standings.Incomplete = Incomplete
 verdictIn Standings.Invalid = Incomplete
 
 -- the machine's answer after n bytes as this crate's: a piece ends at the bytes read
-abbrev pub answerIn : ℕ → calls.Answer → Answer
+abbrev pub answerIn : ℕ → calls.Said → Answer
 answerIn n (calls.event e) = Answers.Event (declared (n - covered e) e)
 answerIn n (calls.verdict v) = Answers.Status (statusIn v)
 answerIn n calls.invalid = Answers.Refused (refusal 2)
@@ -81,8 +81,8 @@ stopped n (Raised e p k) = fedAt n (Answers.Event e) p k
 stopped n Bad = record { read = n; answer = Answers.Refused (refusal 2); stream = streamIn broke }
 
 -- "Number 1: the reader state isn't sound; nothing is read and the state returns unaltered."
-abbrev pub checked : Limits → IStream → List ℕ → Fed
-checked L s c =
+abbrev pub ifSound : Limits → IStream → List ℕ → Fed
+ifSound L s c =
     pick (soundStream L s) (fedIn (call L (stateOf s) c)) (record { read = 0; answer = Answers.Refused (refusal 1); stream = s })
 
 -- "Each later call, an empty chunk too, gives 2 with nothing read."
@@ -90,8 +90,8 @@ abbrev pub still : IStream → Fed
 still s = record { read = 0; answer = Answers.Refused (refusal 2); stream = s }
 
 abbrev pub fedFrom : Limits → State → IStream → List ℕ → Fed
-fedFrom L (reading d p) s c = checked L s c
-fedFrom L (owing d id r) s c = checked L s c
+fedFrom L (reading d p) s c = ifSound L s c
+fedFrom L (owing d id r) s c = ifSound L s c
 fedFrom L broke s c = still s
 
 -- a broken reader is always sound, whatever its depth

@@ -5,6 +5,7 @@ use event::Event;
 use istream::Answer;
 use istream::IStream;
 use istream::Status;
+use phase::Carried;
 use phase::Phase;
 use types::FloatType;
 use types::RawType;
@@ -176,7 +177,8 @@ fn row(chunk: &[u8]) {
 // An empty chunk, and then the same once more with the state that it left.
 fn rest(phase: Phase, depth: u8) {
     let empty: [u8; 0] = [];
-    let s = drain(IStream { phase, depth }, &empty);
+    let carried = Carried { depth };
+    let s = drain(IStream { phase, carried }, &empty);
     drain(s, &empty);
     line();
 }

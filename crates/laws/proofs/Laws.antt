@@ -13,7 +13,7 @@ use Rattle.layout.specs.Limits.{Limits, base}
 use Rattle.layout.specs.Varint.{Outcome, whole, short, broken}
 use Rattle.layout.specs.Field.{Field}
 use Rattle.layout.specs.Event.{Event, joined, bytewise}
-use Rattle.layout.specs.Message.{Fields, message, eventsOf, fieldsOf, wholeOf, judged, verdictOf, complete, incomplete, WholeFields, Complete}
+use Rattle.layout.specs.Message.{Fields, message, eventsOf, fieldsOf, wholeOf, verdictBy, verdictOf, complete, incomplete, WholeFields, Complete}
 use Rattle.layout.specs.Copy.{encode, plainCopy}
 use Rattle.layout.specs.Message.{All, Bytes}
 use Rattle.laws.specs.Legal.{Fit, Legal, Balanced, settled, nesting, narrow}
@@ -38,15 +38,15 @@ fit-narrow d = record { headers = lit≤ tt; words = lit≤ tt; counts = lit< tt
 -- They are accepted: complete, the same fields but for the ids of closes, and their own events.
 pub accepts : (L : Limits) → Fit L → (xs : List Field) → All (Legal L) xs → Balanced L 0 xs 0 →
     (verdictOf L (encode xs) ≡ complete) × (fieldsOf L (encode xs) ≡ map settled xs) × (eventsOf L (encode xs) ≡ fieldsEvents xs)
-unfolding verdictOf fieldsOf eventsOf message judged wholeOf
+unfolding verdictOf fieldsOf eventsOf message verdictBy wholeOf
 accepts L fit xs h b =
     let e = fields-forth L fit xs (length (encode xs)) 0 0 h b (omega arith) in
-    (ap (λ r. judged (length (encode xs)) (r .outcome)) e, ap (λ r. wholeOf (r .outcome)) e, ap (λ r. r .events) e)
+    (ap (λ r. verdictBy (length (encode xs)) (r .outcome)) e, ap (λ r. wholeOf (r .outcome)) e, ap (λ r. r .events) e)
 
 -- ---- complete messages
 
-depth-zero : (n : ℕ) (fs : Fields) (rest : List ℕ) → judged n (whole fs rest) ≡ complete → fs .depth ≡ 0
-unfolding judged
+depth-zero : (n : ℕ) (fs : Fields) (rest : List ℕ) → verdictBy n (whole fs rest) ≡ complete → fs .depth ≡ 0
+unfolding verdictBy
 depth-zero n fs rest e = go (eqb (fs .depth) 0) refl
   where
     go : (t : Bool) → eqb (fs .depth) 0 ≡ t → fs .depth ≡ 0
@@ -55,10 +55,10 @@ depth-zero n fs rest e = go (eqb (fs .depth) 0) refl
 
 -- what reading a complete message comes to
 complete-run : (L : Limits) (T : List ℕ) → Bytes T → verdictOf L T ≡ complete → Run L 0 T (eventsOf L T) (record { list = fieldsOf L T; depth = 0 })
-unfolding verdictOf fieldsOf eventsOf message judged wholeOf
+unfolding verdictOf fieldsOf eventsOf message verdictBy wholeOf
 complete-run L T a e = go (message L T .outcome) refl e
   where
-    go : (o : Outcome Fields) → message L T .outcome ≡ o → judged (length T) o ≡ complete → Run L 0 T (eventsOf L T) (record { list = fieldsOf L T; depth = 0 })
+    go : (o : Outcome Fields) → message L T .outcome ≡ o → verdictBy (length T) o ≡ complete → Run L 0 T (eventsOf L T) (record { list = fieldsOf L T; depth = 0 })
     go (whole fs rest) q s =
         let f≡ : fs ≡ record { list = fieldsOf L T; depth = 0 } = λ i. record { list = ap wholeOf (sym q) i; depth = depth-zero (length T) fs rest s i } in
         subst (Run L 0 T (eventsOf L T)) f≡ (fields-back L (length T) 0 T fs rest a q)
@@ -71,8 +71,8 @@ wholly-message L T xs a w = wholly-read L w (length T) a (omega arith)
 
 -- The verdict is complete exactly when the bytes are whole fields, none broken, ending at depth 0.
 pub complete-iff : (L : Limits) (T : List ℕ) → Bytes T → (verdictOf L T ≡ complete) ↔ Complete L T
-unfolding verdictOf judged
-complete-iff L T a = (λ e. (fieldsOf L T, complete-run L T a e .wholly), λ w. ap (judged (length T)) (wholly-message L T (w .0) a (w .1)))
+unfolding verdictOf verdictBy
+complete-iff L T a = (λ e. (fieldsOf L T, complete-run L T a e .wholly), λ w. ap (verdictBy (length T)) (wholly-message L T (w .0) a (w .1)))
 
 -- Those fields are the only ones, and the message's.
 pub complete-fields : (L : Limits) (T : List ℕ) (xs : List Field) → Bytes T → WholeFields L 0 T xs 0 → fieldsOf L T ≡ xs

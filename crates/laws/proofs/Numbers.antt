@@ -4,7 +4,7 @@ use mathlib.Core.Path.{_≡_, refl, sym, ap, _∙_}
 use native.Mathlib.Nat.{pow-suc}
 use native.Mathlib.Omega.{arith}
 use lib.Pow.{pow-add, pow-mono}
-use Rattle.layout.specs.Limits.{Limits, lastPlace, lastBound}
+use Rattle.layout.specs.Limits.{Limits, lastByte, lastBound}
 
 pub pow128 : (k : ℕ) → 128 ^ k ≡ 2 ^ (7 * k)
 pow128 zero = refl
@@ -15,7 +15,7 @@ pow128 (suc k) =
 pub last-small : (L : Limits) → lastBound L ≤ 128
 last-small L = pow-mono {j = 7} (omega arith)
 
-pub last-whole : (L : Limits) → lastBound L * 128 ^ lastPlace L ≡ 2 ^ L .bits
+pub last-whole : (L : Limits) → lastBound L * 128 ^ lastByte L ≡ 2 ^ L .bits
 last-whole L =
-    let e : L .bits - 7 * lastPlace L + 7 * lastPlace L ≡ L .bits = omega arith in
-    ap (λ (x : ℕ). lastBound L * x) (pow128 (lastPlace L)) ∙ sym (pow-add 2 (L .bits - 7 * lastPlace L) (7 * lastPlace L)) ∙ ap (λ (x : ℕ). 2 ^ x) e
+    let e : L .bits - 7 * lastByte L + 7 * lastByte L ≡ L .bits = omega arith in
+    ap (λ (x : ℕ). lastBound L * x) (pow128 (lastByte L)) ∙ sym (pow-add 2 (L .bits - 7 * lastByte L) (7 * lastByte L)) ∙ ap (λ (x : ℕ). 2 ^ x) e

@@ -114,8 +114,8 @@ record Low (n k v : ℕ) (bs : List ℕ) (y : ℕ) (rest : List ℕ) : Type 0 wh
   long : n + length rest ≡ length bs
   bytes : Bytes rest
 
-low-onward : (n k v b : ℕ) (bs : List ℕ) (y : ℕ) (rest : List ℕ) → b < 256 → Low n (k + 1) (v + b * 256 ^ k) bs y rest → Low (suc n) k v (b ∷ bs) y rest
-low-onward n k v b bs y rest h m =
+low-next : (n k v b : ℕ) (bs : List ℕ) (y : ℕ) (rest : List ℕ) → b < 256 → Low n (k + 1) (v + b * 256 ^ k) bs y rest → Low (suc n) k v (b ∷ bs) y rest
+low-next n k v b bs y rest h m =
     let p : 256 ^ (k + 1) ≡ 256 ^ k * 256 = simp (add-one, pow-suc) in
     record {
       digits = b + 256 * m .digits;
@@ -132,7 +132,7 @@ low-back zero k v bs y rest a e =
     let b≡ : bs ≡ rest = cc in
     record { digits = 0; is = sym v≡ ∙ omega arith; small = omega arith; long = rw b≡ (omega arith); bytes = subst Bytes b≡ a }
 low-back (suc n) k v [] y rest a e = absurd (let q : _≡_ {A = ℕ} 0 1 = cc in omega arith)
-low-back (suc n) k v (b ∷ bs) y rest a e = low-onward n k v b bs y rest (a .0) (low-back n (k + 1) (v + b * 256 ^ k) bs y rest (a .1) e)
+low-back (suc n) k v (b ∷ bs) y rest a e = low-next n k v b bs y rest (a .0) (low-back n (k + 1) (v + b * 256 ^ k) bs y rest (a .1) e)
 
 pub low-parses : (n : ℕ) → Parses (lowFrom n 0 0) (λ x. x < 256 ^ n) (lowBytes n)
 low-parses n = record { forth = forth; back = back }

@@ -90,7 +90,7 @@ pub data Field : Type 0 where
 
 -- ---- bytes
 
--- "A header is a varint (id × 8 + type)." "A word varint (length × 8 + subtype)."
+-- "A header is a varint (id × 8 + type)." "A word varint (length × 8 + subtype)".
 abbrev pub header : ℕ → Wire → List ℕ
 header id t = shortest (id * 8 + wireNumber t)
 

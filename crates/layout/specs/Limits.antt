@@ -14,21 +14,21 @@ pub record Limits : Type 0 where
   -- deepest nesting
   pub depth : ℕ
 
--- "An id is a field's number, 0 to 2,147,483,647." "Length or count above 2,147,483,647", "an open at depth 255": broken.
+-- "An id is a field's number, 0 to 2,147,483,647". "Length or count above 2,147,483,647", "an open at depth 255": broken.
 abbrev pub base : Limits
 base = record { bits = 64; id = 2147483647; size = 2147483647; count = 2147483647; depth = 255 }
 
--- the place, counted from 0, of the last varint byte that a value of this width can need: 9, for the tenth
-abbrev pub lastPlace : Limits → ℕ
-lastPlace L = (L .bits - 1) / 7
+-- the number, counted from 0, of the last varint byte that a value of this width can need: 9, for the tenth
+abbrev pub lastByte : Limits → ℕ
+lastByte L = (L .bits - 1) / 7
 
 -- the most bytes that a varint of this width has: ten
 abbrev pub longest : Limits → ℕ
-longest L = lastPlace L + 1
+longest L = lastByte L + 1
 
 -- what that byte stays below, so that the value fits the width: 2
 abbrev pub lastBound : Limits → ℕ
-lastBound L = 2 ^ (L .bits - 7 * lastPlace L)
+lastBound L = 2 ^ (L .bits - 7 * lastByte L)
 
 -- one of two, by a test
 abbrev pub pick {ℓ} : {A : Type ℓ} → Bool → A → A → A

@@ -82,7 +82,7 @@ floatArrayOf id count n (known (raw r)) bs = quiet (broken bs)
 floatArrayOf id count n unknown bs = quiet (broken bs)
 
 -- What follows the header, at depth d. Broken: "an open at depth 255; a close at depth 0". "A close may carry any legal id, which is
--- ignored."
+-- ignored".
 unfoldable pub body : Limits → ℕ → ℕ → Wire → List ℕ → Reading Field
 body L d id T-unsigned bs = scalar (varint L bs) (Unsigned id) (unsigned id)
 body L d id T-signed bs = scalar (signedVarint L bs) (Signed id) (signed id)
@@ -152,13 +152,13 @@ pub data Verdict : Type 0 where
   complete incomplete : Verdict
   brokenAt : (n : ℕ) → Verdict
 
-unfoldable pub judged : ℕ → Outcome Fields → Verdict
-judged n (whole fs rest) = pick (eqb (fs .depth) 0) complete incomplete
-judged n short = incomplete
-judged n (broken rest) = brokenAt (n - length rest)
+unfoldable pub verdictBy : ℕ → Outcome Fields → Verdict
+verdictBy n (whole fs rest) = pick (eqb (fs .depth) 0) complete incomplete
+verdictBy n short = incomplete
+verdictBy n (broken rest) = brokenAt (n - length rest)
 
 unfoldable pub verdictOf : Limits → List ℕ → Verdict
-verdictOf L bs = judged (length bs) (message L bs .outcome)
+verdictOf L bs = verdictBy (length bs) (message L bs .outcome)
 
 -- ---- complete
 

@@ -4,7 +4,7 @@ use Prim.Native.Nat.{ℕ, zero, suc, _+_, _*_, _/_, _%_, _^_}
 use mathlib.Core.Bool.{true, false, _&&_}
 use mathlib.Core.List.{List, [], _∷_}
 use lib.Dec.{ltb, leb}
-use Rattle.layout.specs.Limits.{Limits, lastPlace, lastBound, pick}
+use Rattle.layout.specs.Limits.{Limits, lastByte, lastBound, pick}
 
 -- what one byte of a varint comes to
 pub data Push : Type 0 where
@@ -20,7 +20,7 @@ digit k b = b % 128 * 128 ^ k
 -- "Longer varints than needed are accepted within 64 bits." Broken: "a tenth varint byte above 1".
 unfoldable pub push : Limits → ℕ → ℕ → ℕ → Push
 push L k v b =
-    pick (leb (lastPlace L) k && leb (lastBound L) b) overrun
+    pick (leb (lastByte L) k && leb (lastBound L) b) overrun
     (pick (ltb b 128) (value (v + digit k b)) (more (k + 1) (v + digit k b)))
 
 -- what some bytes come to: a value and the bytes after it; nothing yet, where they end within it; or broken, and the bytes after the

@@ -12,7 +12,7 @@ use Rattle.layout.specs.Event.{Event, Unsigned, Signed, Float, Piece, Fi
 use Rattle.layout.specs.Reading.{given, follow, lowFrom}
 use Rattle.layout.specs.Message.{Verdict, complete, incomplete, brokenAt}
 use Rattle.layout.specs.Message.{checked, unzigzagged, elements, payloadFrom, payloadOf, fixlen, floatArrayOf, body, field, depthAfter, fieldsFrom, message}
-use Rattle.layout.specs.Message.{eventsOf, wholeOf, fieldsOf, judged, verdictOf}
+use Rattle.layout.specs.Message.{eventsOf, wholeOf, fieldsOf, verdictBy, verdictOf}
 use Rattle.layout.specs.Copy.{fieldBytes, encode, plainCopy}
 
 -- a row: the bytes; the fields that they are, where they are whole fields; their events, verdict and plain copy
@@ -138,7 +138,7 @@ table =
     ∷ []
 
 pub worked : saidAll table ≡ table
-unfolding saidAll fieldsOf eventsOf verdictOf plainCopy message wholeOf judged encode each fieldBytes shortest shortestIn lowBytes fieldsFrom depthAfter field body fixlen floatArrayOf payloadOf payloadFrom elements unzigzagged checked given follow lowFrom varintFrom push
+unfolding saidAll fieldsOf eventsOf verdictOf plainCopy message wholeOf verdictBy encode each fieldBytes shortest shortestIn lowBytes fieldsFrom depthAfter field body fixlen floatArrayOf payloadOf payloadFrom elements unzigzagged checked given follow lowFrom varintFrom push
 worked = refl
 
 -- "Each payload's pieces joined": the string "Hi", two empty blobs, and a string of one byte after the same one, all with id 3

@@ -57,7 +57,7 @@ impl Listing {
 }
 
 // The place that many bytes on, within the chunk.
-fn onward(len: usize, from: usize, read: usize) -> usize {
+fn advance(len: usize, from: usize, read: usize) -> usize {
     if from <= len {
         if read <= len - from {
             return from + read;
@@ -93,7 +93,7 @@ fn call(l: Listing, len: usize, rest: &[u8], out: &mut [u8]) -> Listing {
     let stream = told.stream;
     let heard = told.heard;
     let answer = heard.answer;
-    let from = onward(len, l.from, heard.read);
+    let from = advance(len, l.from, heard.read);
     match answer {
         Answer::Event(e) => go_on(stream, from, put_event(out, at, rest, e)),
         Answer::Status(s) => match s {

@@ -12,7 +12,7 @@ use lib.ListN.{length}
 use lib.IntN.{ℤ}
 use lib.Dec.{ltb, leb, eqb}
 use borrow.Author.Tests.{ltb-true, ltb-false}
-use Rattle.layout.specs.Limits.{Limits, pick, lastPlace, lastBound}
+use Rattle.layout.specs.Limits.{Limits, pick, lastByte, lastBound}
 use Rattle.layout.specs.Varint.{Outcome, whole, short, broken, Push, more, value, overrun, push, digit, varintFrom, varint}
 use Rattle.layout.specs.Zigzag.{unzigzag}
 use Rattle.layout.specs.Field.{Width, fp32, fp64, Raw, Subtyped, Wire, Field, bytesOf, subtypeOf, wireOf}
@@ -22,24 +22,24 @@ use Rattle.layout.specs.Field.{unsigned, signed, payload, unsignedArray, signed
 use Rattle.layout.specs.Event.{Event, Unsigned, Signed, Float, Piece, Fixlen, Array, End}
 use Rattle.layout.specs.Reading.{Reading, quiet, raise, given, follow, andThen, becoming, lowFrom}
 use Rattle.layout.specs.Message.{checked, headerOf, countOf, unzigzagged, signedVarint, elements, scalar, payloadFrom, payloadOf, fixlen, floatArrayOf}
-use Rattle.layout.specs.Message.{body, field, depthAfter, Fields, prepend, fieldsFrom, message, eventsOf, verdictOf, judged}
+use Rattle.layout.specs.Message.{body, field, depthAfter, Fields, prepend, fieldsFrom, message, eventsOf, verdictOf, verdictBy}
 use Rattle.machine.specs.Machine.{Phase, inHeader, inUnsigned, inSigned, inWord, inUnsignedCount, inSignedCount, inFloatCount, inArrayWord, inFloat, inPayload}
 use Rattle.machine.specs.Machine.{idle, Stepped, on, bad, nextOr, firstOr, atWire, atHeader, atPayload, atSubtype, atWord}
 use Rattle.machine.specs.Machine.{atUnsignedCount, atSignedCount, atFloatCount, atElement, atArrayWord, atUnsigned, atSigned, within, atFloat, atByte}
-use Rattle.machine.specs.Machine.{step, at, onward, walk, ending, endOf, judge}
+use Rattle.machine.specs.Machine.{step, at, onward, walk, ending, endOf, verdictAfter}
 use Rattle.machine.proofs.Readings.{andThen-raise, andThen-andThen, andThen-given, given-ext, follow-ext, becoming-then}
 
 -- ---- a walk, as a reading
 
 unfoldable pub run : Limits → ℕ → Phase → List ℕ → Reading ℕ
-run L d p bs = record { events = walk L d p bs .events; outcome = endOf (walk L d p bs .place) }
+run L d p bs = record { events = walk L d p bs .events; outcome = endOf (walk L d p bs .spot) }
 
 stepped : Stepped → List ℕ → (ℕ → Phase → Reading ℕ) → Reading ℕ
 stepped (on es d p) bs f = raise es (f d p)
 stepped bad bs f = quiet (broken bs)
 
 stepped-onward : (L : Limits) (bs : List ℕ) (s : Stepped)
-    → _≡_ {A = Reading ℕ} (record { events = onward s bs (λ d′ p′. walk L d′ p′ bs) .events; outcome = endOf (onward s bs (λ d′ p′. walk L d′ p′ bs) .place) }) (stepped s bs (λ d′ p′. run L d′ p′ bs))
+    → _≡_ {A = Reading ℕ} (record { events = onward s bs (λ d′ p′. walk L d′ p′ bs) .events; outcome = endOf (onward s bs (λ d′ p′. walk L d′ p′ bs) .spot) }) (stepped s bs (λ d′ p′. run L d′ p′ bs))
 unfolding onward endOf stepped run
 stepped-onward L bs (on es d p) = refl
 stepped-onward L bs bad = refl
@@ -124,7 +124,7 @@ Within (inPayload id r total o) = Unit {0}
 -- a varint that goes on has one byte more
 more-is : (L : Limits) (k v b k′ v′ : ℕ) → push L k v b ≡ more k′ v′ → k′ ≡ suc k
 unfolding push
-more-is L k v b k′ v′ e = go (leb (lastPlace L) k && leb (lastBound L) b) (ltb b 128) e
+more-is L k v b k′ v′ e = go (leb (lastByte L) k && leb (lastBound L) b) (ltb b 128) e
   where
     go : (x y : Bool) → pick x overrun (pick y (value (v + digit k b)) (more (k + 1) (v + digit k b))) ≡ more k′ v′ → k′ ≡ suc k
     go true y f = let z : _≡_ {A = ℕ} 0 1 = cc in absurd (omega arith)
@@ -579,8 +579,8 @@ becoming-events f es (whole a rest) = append-nil es
 becoming-events f es short = refl
 becoming-events f es (broken rest) = refl
 
-becoming-judged : (n : ℕ) (es : List Event) (o : Outcome Fields) → judge n (follow es o (λ fs rest. quiet (whole (fs .depth) rest)) .outcome) ≡ judged n o
-unfolding follow judge judged
+becoming-judged : (n : ℕ) (es : List Event) (o : Outcome Fields) → verdictAfter n (follow es o (λ fs rest. quiet (whole (fs .depth) rest)) .outcome) ≡ verdictBy n o
+unfolding follow verdictAfter verdictBy
 becoming-judged n es (whole fs rest) = refl
 becoming-judged n es short = refl
 becoming-judged n es (broken rest) = refl
@@ -590,8 +590,8 @@ pub events-walk : (L : Limits) (bs : List ℕ) → eventsOf L bs ≡ walk L 0 id
 unfolding eventsOf run
 events-walk L bs = sym (becoming-events (λ (fs : Fields). fs .depth) (message L bs .events) (message L bs .outcome)) ∙ ap (λ (r : Reading ℕ). r .events) (bridge L bs)
 
--- the layout's verdict is that of the place to which the walk leads
-pub verdict-walk : (L : Limits) (bs : List ℕ) → verdictOf L bs ≡ judge (length bs) (endOf (walk L 0 idle bs .place))
+-- the layout's verdict is that of the spot to which the walk leads
+pub verdict-walk : (L : Limits) (bs : List ℕ) → verdictOf L bs ≡ verdictAfter (length bs) (endOf (walk L 0 idle bs .spot))
 unfolding verdictOf run
 verdict-walk L bs =
-    sym (becoming-judged (length bs) (message L bs .events) (message L bs .outcome)) ∙ ap (λ (r : Reading ℕ). judge (length bs) (r .outcome)) (bridge L bs)
+    sym (becoming-judged (length bs) (message L bs .events) (message L bs .outcome)) ∙ ap (λ (r : Reading ℕ). verdictAfter (length bs) (r .outcome)) (bridge L bs)

@@ -16,9 +16,9 @@ use Rattle.layout.specs.Event.{Event, Piece, cutFrom, cutPiece, cut, bytewise}
 use Rattle.layout.specs.Message.{Verdict}
 use Rattle.machine.specs.Machine.{Phase, inHeader, inUnsigned, inSigned, inWord, inUnsignedCount, inSignedCount, inFloatCount, inArrayWord, inFloat, inPayload}
 use Rattle.machine.specs.Machine.{idle, Stepped, on, bad, atWire, atHeader, atPayload, atSubtype, atWord, atUnsignedCount, atSignedCount, atFloatCount}
-use Rattle.machine.specs.Machine.{atElement, atArrayWord, atUnsigned, atSigned, within, atFloat, atByte, step, Place, at, brokenBefore, Walk, onward, walk, walkOn}
-use Rattle.machine.specs.Call.{State, reading, owing, broke, Answer, event, verdict, invalid, Called, verdictAt, piece, raisedState, scanned, scan, call}
-use Rattle.machine.specs.Run.{given, due, placeOf, Follows}
+use Rattle.machine.specs.Machine.{atElement, atArrayWord, atUnsigned, atSigned, within, atFloat, atByte, step, Spot, at, brokenBefore, Walk, onward, walk, walkOn}
+use Rattle.machine.specs.Calls.{State, reading, owing, broke, Said, event, verdict, invalid, Called, verdictAt, piece, raisedState, scanned, scan, call}
+use Rattle.machine.specs.Run.{given, due, spotOf, Follows}
 use Rattle.machine.proofs.Bridge.{Fair, FairStep, fair-step}
 use Rattle.machine.proofs.Prefix.{andOn, walk-append}
 
@@ -34,7 +34,7 @@ bytewise-append (x ∷ xs) ys = ap (λ (l : List Event). cut x ++ l) (bytewise-a
 -- Of what it raises the first is the answer and no piece, and a second is due after it.
 abbrev Tidy : Stepped → Type 0
 Tidy (on [] d p) = Unit {0}
-Tidy (on (e ∷ es) d p) = (cut e ≡ e ∷ []) × (due (raisedState d p es) ≡ es) × (placeOf (raisedState d p es) ≡ at d p)
+Tidy (on (e ∷ es) d p) = (cut e ≡ e ∷ []) × (due (raisedState d p es) ≡ es) × (spotOf (raisedState d p es) ≡ at d p)
 Tidy bad = Unit {0}
 
 tidy-pick : (t : Bool) (s s′ : Stepped) → Tidy s → Tidy s′ → Tidy (pick t s s′)
@@ -105,7 +105,7 @@ tidy-step L d (inPayload id r total o) b i = absurd i
 
 -- as many bytes as a piece has lead as far as they go, each with its own piece
 record Pieced (L : Limits) (d id : ℕ) (r : Raw) (total o : ℕ) (xs : List ℕ) : Type 0 where
-  place : walk L d (inPayload id r total o) xs .place ≡ at d (pick (ltb (o + length xs) total) (inPayload id r total (o + length xs)) idle)
+  spot : walk L d (inPayload id r total o) xs .spot ≡ at d (pick (ltb (o + length xs) total) (inPayload id r total (o + length xs)) idle)
   events : walk L d (inPayload id r total o) xs .events ≡ cutFrom id r total o xs
 
 -- a case split that takes recursive calls along
@@ -121,8 +121,8 @@ piece-more L d id r total o x xs e n h =
     let s : atByte d id r total o x ≡ on (Piece id r total o (x ∷ []) ∷ []) d (inPayload id r total (suc o)) =
     ap (λ (t : Bool). on (Piece id r total o (x ∷ []) ∷ []) d (pick t (inPayload id r total (suc o)) idle)) e in
     record {
-      place =
-          ap (λ (s : Stepped). after s .place) s ∙ h .place
+      spot =
+          ap (λ (s : Stepped). after s .spot) s ∙ h .spot
           ∙ ap (λ (m : ℕ). at d (pick (ltb m total) (inPayload id r total m) idle)) n;
       events = ap (λ (s : Stepped). after s .events) s ∙ ap (λ (l : List Event). Piece id r total o (x ∷ []) ∷ l) (h .events);
     }
@@ -135,8 +135,8 @@ piece-last L d id r total o x xs e z =
     ap (λ (t : Bool). on (Piece id r total o (x ∷ []) ∷ []) d (pick t (inPayload id r total (suc o)) idle)) e in
     subst (λ (xs : List ℕ). Pieced L d id r total o (x ∷ xs)) (sym z)
     (record {
-      place =
-          ap (λ (s : Stepped). onward s [] (λ d′ p′. walk L d′ p′ []) .place) s
+      spot =
+          ap (λ (s : Stepped). onward s [] (λ d′ p′. walk L d′ p′ []) .spot) s
           ∙ ap (λ (t : Bool). at d (pick t (inPayload id r total (o + 1)) idle)) (sym (ap (λ (m : ℕ). ltb m total) (sym n) ∙ e));
       events = ap (λ (s : Stepped). onward s [] (λ d′ p′. walk L d′ p′ []) .events) s;
     })
@@ -151,7 +151,7 @@ pieced L d id r total o [] h l =
     let z : o ≡ o + 0 = omega arith in
     let t : ltb (o + 0) total ≡ true = lt-ltb (o + 0) total (omega arith) in
     record {
-      place = ap (λ (x : ℕ). at d (inPayload id r total x)) z ∙ ap (λ (t : Bool). at d (pick t (inPayload id r total (o + 0)) idle)) (sym t);
+      spot = ap (λ (x : ℕ). at d (inPayload id r total x)) z ∙ ap (λ (t : Bool). at d (pick t (inPayload id r total (o + 0)) idle)) (sym t);
       events = refl;
     }
 pieced L d id r total o (x ∷ xs) h l =
@@ -161,13 +161,13 @@ pieced L d id r total o (x ∷ xs) h l =
 
 -- ---- reading on
 
--- A verdict comes once the chunk is spent and is that of the place reached; an event and number 2 come at a byte read.
+-- A verdict comes once the chunk is spent and is that of the spot reached; an event and number 2 come at a byte read.
 abbrev pub Judged : State → Verdict → Type 0
 Judged (reading d p) v = v ≡ verdictAt d p
 Judged (owing d id r) v = ⊥
 Judged broke v = ⊥
 
-abbrev pub Ends : Answer → State → ℕ → ℕ → Type 0
+abbrev pub Ends : Said → State → ℕ → ℕ → Type 0
 Ends (event e) s k m = 1 ≤ k
 Ends (verdict v) s k m = (k ≡ m) × Judged s v
 Ends invalid s k m = (1 ≤ k) × (s ≡ broke)
@@ -176,12 +176,12 @@ pub record Scanned (L : Limits) (n d : ℕ) (p : Phase) (bs : List ℕ) (r : Cal
   pub k : ℕ
   pub read : r .read ≡ n + k
   pub few : k ≤ length bs
-  pub place : walk L d p (take k bs) .place ≡ placeOf (r .state)
+  pub spot : walk L d p (take k bs) .spot ≡ spotOf (r .state)
   pub events : walk L d p (take k bs) .events ≡ bytewise (given (r .answer)) ++ due (r .state)
   pub ends : Ends (r .answer) (r .state) k (length bs)
 
--- the same answer, one byte later
-one-more : (a : Answer) (s : State) (k m : ℕ) → Ends a s k m → Ends a s (suc k) (suc m)
+-- what ends a call ends it one byte later too
+one-more : (a : Said) (s : State) (k m : ℕ) → Ends a s k m → Ends a s (suc k) (suc m)
 one-more (event e) s k m h = omega arith
 one-more (verdict v) s k m h = (ap suc (h .0), h .1)
 one-more invalid s k m h = (omega arith, h .1)
@@ -197,7 +197,7 @@ scanned-is L n d p b bs (on [] d′ p′) e t f ih =
       k = suc (h .k);
       read = omega (arith, h .read);
       few = omega (arith, h .few);
-      place = ap (λ (s : Stepped). first s .place) e ∙ h .place;
+      spot = ap (λ (s : Stepped). first s .spot) e ∙ h .spot;
       events = ap (λ (s : Stepped). first s .events) e ∙ h .events;
       ends = one-more (scan L (suc n) d′ p′ bs .answer) (scan L (suc n) d′ p′ bs .state) (h .k) (length bs) (h .ends);
     }
@@ -208,7 +208,7 @@ scanned-is L n d p b bs (on (x ∷ xs) d′ p′) e t f ih =
       k = 1;
       read = one;
       few = omega arith;
-      place = ap (λ (s : Stepped). first s .place) e ∙ sym (t .2);
+      spot = ap (λ (s : Stepped). first s .spot) e ∙ sym (t .2);
       events =
           ap (λ (s : Stepped). first s .events) e ∙ append-nil (x ∷ xs)
           ∙ ap (λ (l : List Event). x ∷ l) (sym (t .1))
@@ -222,7 +222,7 @@ scanned-is L n d p b bs bad e t f ih =
       k = 1;
       read = one;
       few = omega arith;
-      place = ap (λ (s : Stepped). first s .place) e;
+      spot = ap (λ (s : Stepped). first s .spot) e;
       events = ap (λ (s : Stepped). first s .events) e;
       ends = (omega arith, refl);
     }
@@ -239,7 +239,7 @@ piece-is L n d id r total o (suc k) b bs h one m l =
       k = suc k;
       read = refl;
       few = l;
-      place = q .place ∙ ap (λ (j : ℕ). at d (pick (ltb (o + j) total) (inPayload id r total (o + j)) idle)) c;
+      spot = q .spot ∙ ap (λ (j : ℕ). at d (pick (ltb (o + j) total) (inPayload id r total (o + j)) idle)) c;
       events = q .events ∙ sym (append-nil _ ∙ append-nil _);
       ends = omega arith;
     }
@@ -250,7 +250,7 @@ piece-is L n d id r total o (suc k) b bs h one m l =
 -- between bytes
 scan-nil : (L : Limits) (n d : ℕ) (p : Phase) → Scanned L n d p [] (scan L n d p [])
 unfolding scan walk bytewise
-scan-nil L n d p = let z : n ≡ n + 0 = omega arith in record { k = 0; read = z; few = omega arith; place = refl; events = refl; ends = (refl, refl) }
+scan-nil L n d p = let z : n ≡ n + 0 = omega arith in record { k = 0; read = z; few = omega arith; spot = refl; events = refl; ends = (refl, refl) }
 
 scan-byte : (L : Limits) (n d : ℕ) (p : Phase) (b : ℕ) (bs : List ℕ) → Fair p → Bytewise p
     → ((d′ : ℕ) (p′ : Phase) → Fair p′ → Scanned L (suc n) d′ p′ bs (scan L (suc n) d′ p′ bs))
@@ -279,27 +279,27 @@ scan-is L n d p (b ∷ bs) f = scan-cons L n d p b bs f (λ d′ p′ f′. scan
 
 -- ---- a call
 
-abbrev pub FairPlace : Place → Type 0
-FairPlace (at d p) = Fair p
-FairPlace (brokenBefore rest) = Unit {0}
+abbrev pub FairSpot : Spot → Type 0
+FairSpot (at d p) = Fair p
+FairSpot (brokenBefore rest) = Unit {0}
 
-fair-onward : (s : Stepped) (bs : List ℕ) (f : ℕ → Phase → Walk) → FairStep s → ((d : ℕ) (p : Phase) → Fair p → FairPlace (f d p .place)) → FairPlace (onward s bs f .place)
+fair-onward : (s : Stepped) (bs : List ℕ) (f : ℕ → Phase → Walk) → FairStep s → ((d : ℕ) (p : Phase) → Fair p → FairSpot (f d p .spot)) → FairSpot (onward s bs f .spot)
 unfolding onward
 fair-onward (on es d p) bs f h g = g d p h
 fair-onward bad bs f h g = tt
 
-pub fair-walk : (L : Limits) (d : ℕ) (p : Phase) (bs : List ℕ) → Fair p → FairPlace (walk L d p bs .place)
+pub fair-walk : (L : Limits) (d : ℕ) (p : Phase) (bs : List ℕ) → Fair p → FairSpot (walk L d p bs .spot)
 unfolding walk
 fair-walk L d p [] h = h
 fair-walk L d p (b ∷ bs) h = fair-onward (step L d p b) bs _ (fair-step L d p b h) (λ d′ p′ h′. fair-walk L d′ p′ bs h′)
 
 -- bytes read on from where others lead
-read-on : (L : Limits) (bs xs : List ℕ) (d : ℕ) (p : Phase) → walk L 0 idle bs .place ≡ at d p
-    → (walk L 0 idle (bs ++ xs) .place ≡ walk L d p xs .place) × (walk L 0 idle (bs ++ xs) .events ≡ walk L 0 idle bs .events ++ walk L d p xs .events)
+read-on : (L : Limits) (bs xs : List ℕ) (d : ℕ) (p : Phase) → walk L 0 idle bs .spot ≡ at d p
+    → (walk L 0 idle (bs ++ xs) .spot ≡ walk L d p xs .spot) × (walk L 0 idle (bs ++ xs) .events ≡ walk L 0 idle bs .events ++ walk L d p xs .events)
 unfolding andOn walkOn
 read-on L bs xs d p e = (
-  ap (λ (w : Walk). w .place) (walk-append L 0 idle bs xs) ∙ ap (λ (q : Place). walkOn L q xs .place) e,
-  ap (λ (w : Walk). w .events) (walk-append L 0 idle bs xs) ∙ ap (λ (q : Place). walk L 0 idle bs .events ++ walkOn L q xs .events) e,
+  ap (λ (w : Walk). w .spot) (walk-append L 0 idle bs xs) ∙ ap (λ (q : Spot). walkOn L q xs .spot) e,
+  ap (λ (w : Walk). w .events) (walk-append L 0 idle bs xs) ∙ ap (λ (q : Spot). walk L 0 idle bs .events ++ walkOn L q xs .events) e,
 )
 
 -- one more call is needed where an event is due
@@ -308,8 +308,8 @@ weight (reading d p) = 0
 weight (owing d id r) = 1
 weight broke = 0
 
--- An event brings the end of the chunk nearer; a verdict comes once the chunk is spent and is that of the place reached.
-abbrev pub Closes : Answer → State → State → ℕ → ℕ → Type 0
+-- An event brings the end of the chunk nearer; a verdict comes once the chunk is spent and is that of the spot reached.
+abbrev pub Closes : Said → State → State → ℕ → ℕ → Type 0
 Closes (event e) s s′ k m = 2 * (m - k) + weight s′ < 2 * m + weight s
 Closes (verdict v) s s′ k m = (k ≡ m) × Judged s′ v
 Closes invalid s s′ k m = s′ ≡ broke
@@ -319,7 +319,7 @@ light (reading d p) = omega arith
 light (owing d id r) = omega arith
 light broke = omega arith
 
-pub closes : (a : Answer) (s s′ : State) (k m : ℕ) → k ≤ m → Ends a s′ k m → Closes a s s′ k m
+pub closes : (a : Said) (s s′ : State) (k m : ℕ) → k ≤ m → Ends a s′ k m → Closes a s s′ k m
 closes (event e) s s′ k m l h = omega (arith, light s′)
 closes (verdict v) s s′ k m l h = h
 closes invalid s s′ k m l h = h .1
@@ -333,10 +333,10 @@ pub record Answered (L : Limits) (bs : List ℕ) (es : List Event) (s : State) (
 answered-scan : (L : Limits) (bs : List ℕ) (es : List Event) (d : ℕ) (p : Phase) (c : List ℕ) (r : Called) → Follows L bs es (reading d p) → Scanned L 0 d p c r → Answered L bs es (reading d p) c r
 answered-scan L bs es d p c r f h =
     let k : r .read ≡ h .k = omega (arith, h .read) in
-    let on : _ = read-on L bs (take (h .k) c) d p (f .place) in
+    let on : _ = read-on L bs (take (h .k) c) d p (f .spot) in
     let at-k : Follows L (bs ++ take (h .k) c) (es ++ given (r .answer)) (r .state) =
     record {
-      place = on .0 ∙ h .place;
+      spot = on .0 ∙ h .spot;
       events =
           on .1 ∙ ap (λ (l : List Event). l ++ walk L d p (take (h .k) c) .events) (f .events ∙ append-nil (bytewise es))
           ∙ ap (λ (l : List Event). bytewise es ++ l) (h .events)
@@ -353,14 +353,14 @@ answered-scan L bs es d p c r f h =
 pub call-follows : (L : Limits) (bs : List ℕ) (es : List Event) (s : State) (c : List ℕ) → Follows L bs es s → Answered L bs es s c (call L s c)
 unfolding call bytewise cut cutPiece
 call-follows L bs es (reading d p) c f =
-    answered-scan L bs es d p c (scan L 0 d p c) f (scan-is L 0 d p c (subst FairPlace (f .place) (fair-walk L 0 idle bs refl)))
+    answered-scan L bs es d p c (scan L 0 d p c) f (scan-is L 0 d p c (subst FairSpot (f .spot) (fair-walk L 0 idle bs refl)))
 call-follows L bs es (owing d id r) c f =
     record {
       few = omega arith;
       closes = omega arith;
       follows =
           record {
-            place = ap (λ (l : List ℕ). walk L 0 idle l .place) (append-nil bs) ∙ f .place;
+            spot = ap (λ (l : List ℕ). walk L 0 idle l .spot) (append-nil bs) ∙ f .spot;
             events =
                 ap (λ (l : List ℕ). walk L 0 idle l .events) (append-nil bs) ∙ f .events
                 ∙ sym (bytewise-append es (Piece id r 0 0 [] ∷ [])) ∙ sym (append-nil _);
@@ -372,7 +372,7 @@ call-follows L bs es broke c f =
       closes = refl;
       follows =
           record {
-            place = ap (λ (l : List ℕ). walk L 0 idle l .place) (append-nil bs) ∙ f .place;
+            spot = ap (λ (l : List ℕ). walk L 0 idle l .spot) (append-nil bs) ∙ f .spot;
             events = ap (λ (l : List ℕ). walk L 0 idle l .events) (append-nil bs) ∙ f .events ∙ ap (λ (l : List Event). bytewise l ++ []) (sym (append-nil es));
           };
     }
@@ -380,4 +380,4 @@ call-follows L bs es broke c f =
 -- a fresh reader stands at the start
 pub fresh-follows : (L : Limits) → Follows L [] [] (reading 0 idle)
 unfolding walk bytewise
-fresh-follows L = record { place = refl; events = refl }
+fresh-follows L = record { spot = refl; events = refl }

@@ -13,7 +13,7 @@ use Rattle.layout.specs.Field.{Raw}
 use Rattle.layout.specs.Event.{Event}
 use Rattle.machine.specs.Machine.{Phase, idle, inHeader, inUnsigned, inSigned, inWord, inUnsignedCount, inSignedCount, inFloatCount, inArrayWord, inFloat, inPayload}
 use Rattle.machine.specs.Machine.{Stepped, on, bad, step}
-use Rattle.machine.specs.Call.{State, reading, owing, broke, Answer, event, verdict, invalid, Called, piece, raisedState, scanned, scan, call}
+use Rattle.machine.specs.Calls.{State, reading, owing, broke, Said, event, verdict, invalid, Called, piece, raisedState, scanned, scan, call}
 use Rattle.machine.specs.Run.{Ending, ended, unfinished, Chunk, more, calls, chunk}
 
 -- ---- one call
@@ -63,29 +63,29 @@ one-empty (owing d id r) = omega arith
 one-empty broke = omega arith
 
 -- An event brings the end of the chunk nearer; k bytes were read before it and m are left.
-abbrev Nearer : Answer → State → State → ℕ → ℕ → ℕ → Type 0
+abbrev Nearer : Said → State → State → ℕ → ℕ → ℕ → Type 0
 Nearer (event e) s s′ k n m = 2 * (n + m - k) + emptyIn s′ < 2 * m + emptyIn s
 Nearer (verdict v) s s′ k n m = Unit {0}
 Nearer invalid s s′ k n m = Unit {0}
 
 -- n bytes of the chunk were read before, and m are left
-record Onward (s : State) (n m : ℕ) (r : Called) : Type 0 where
+record Advance (s : State) (n m : ℕ) (r : Called) : Type 0 where
   few : r .read ≤ n + m
   nearer : Nearer (r .answer) s (r .state) (r .read) n m
 
 -- a byte that raised nothing, and what follows it
-one-more : (a : Answer) (d : ℕ) (p : Phase) (s s′ : State) (k n m : ℕ) → Nearer a (reading d p) s′ k (suc n) m → Nearer a s s′ k n (suc m)
+one-more : (a : Said) (d : ℕ) (p : Phase) (s s′ : State) (k n m : ℕ) → Nearer a (reading d p) s′ k (suc n) m → Nearer a s s′ k n (suc m)
 one-more (event e) d p s s′ k n m h = omega (arith, at-most-one p)
 one-more (verdict v) d p s s′ k n m h = tt
 one-more invalid d p s s′ k n m h = tt
 
-onward-byte : (s : State) (n m : ℕ) (q : Stepped) (f : ℕ → Phase → Called) → ((d : ℕ) (p : Phase) → Onward (reading d p) (suc n) m (f d p)) → Onward s n (suc m) (scanned (suc n) q f)
+advance-byte : (s : State) (n m : ℕ) (q : Stepped) (f : ℕ → Phase → Called) → ((d : ℕ) (p : Phase) → Advance (reading d p) (suc n) m (f d p)) → Advance s n (suc m) (scanned (suc n) q f)
 unfolding scanned
-onward-byte s n m (on [] d p) f h =
+advance-byte s n m (on [] d p) f h =
     let i = h d p in
     record { few = omega (arith, i .few); nearer = one-more (f d p .answer) d p s (f d p .state) (f d p .read) n m (i .nearer) }
-onward-byte s n m (on (e ∷ es) d p) f h = record { few = omega arith; nearer = omega (arith, one-empty (raisedState d p es)) }
-onward-byte s n m bad f h = record { few = omega arith; nearer = tt }
+advance-byte s n m (on (e ∷ es) d p) f h = record { few = omega arith; nearer = omega (arith, one-empty (raisedState d p es)) }
+advance-byte s n m bad f h = record { few = omega arith; nearer = tt }
 
 -- after a piece the payload is not spent, or done
 none-after : (id : ℕ) (r : Raw) (total o : ℕ) → emptyAt (pick (ltb o total) (inPayload id r total o) idle) ≡ 0
@@ -95,38 +95,38 @@ none-after id r total o = go (ltb o total) refl
     go true e = ap spent e
     go false e = refl
 
-onward-piece : (n d id : ℕ) (r : Raw) (total o m : ℕ) (bs : List ℕ) → Onward (reading d (inPayload id r total o)) n (suc m) (piece n d id r total o (min (total - o) (suc m)) bs)
-onward-piece n d id r total o m bs =
+advance-piece : (n d id : ℕ) (r : Raw) (total o m : ℕ) (bs : List ℕ) → Advance (reading d (inPayload id r total o)) n (suc m) (piece n d id r total o (min (total - o) (suc m)) bs)
+advance-piece n d id r total o m bs =
     record { few = omega arith; nearer = go (ltb o total) refl (none-after id r total (o + min (total - o) (suc m))) }
   where
     go : (t : Bool) {x : ℕ} → ltb o total ≡ t → x ≡ 0 → 2 * (n + suc m - (n + min (total - o) (suc m))) + x < 2 * suc m + spent (ltb o total)
     go true e z = let w : spent (ltb o total) ≡ 0 = ap spent e in let l : o < total = ltb-true o total e in omega arith
     go false e z = let w : spent (ltb o total) ≡ 1 = ap spent e in let l : total ≤ o = ltb-false o total e in omega arith
 
-onward-cons : (L : Limits) (n d : ℕ) (p : Phase) (b : ℕ) (bs : List ℕ) → ((d′ : ℕ) (p′ : Phase) → Onward (reading d′ p′) (suc n) (length bs) (scan L (suc n) d′ p′ bs))
-    → Onward (reading d p) n (suc (length bs)) (scan L n d p (b ∷ bs))
+advance-cons : (L : Limits) (n d : ℕ) (p : Phase) (b : ℕ) (bs : List ℕ) → ((d′ : ℕ) (p′ : Phase) → Advance (reading d′ p′) (suc n) (length bs) (scan L (suc n) d′ p′ bs))
+    → Advance (reading d p) n (suc (length bs)) (scan L n d p (b ∷ bs))
 unfolding scan
-onward-cons L n d (inHeader k v) b bs h = onward-byte _ n (length bs) (step L d (inHeader k v) b) _ h
-onward-cons L n d (inUnsigned id left k v) b bs h = onward-byte _ n (length bs) (step L d (inUnsigned id left k v) b) _ h
-onward-cons L n d (inSigned id left k v) b bs h = onward-byte _ n (length bs) (step L d (inSigned id left k v) b) _ h
-onward-cons L n d (inWord id k v) b bs h = onward-byte _ n (length bs) (step L d (inWord id k v) b) _ h
-onward-cons L n d (inUnsignedCount id k v) b bs h = onward-byte _ n (length bs) (step L d (inUnsignedCount id k v) b) _ h
-onward-cons L n d (inSignedCount id k v) b bs h = onward-byte _ n (length bs) (step L d (inSignedCount id k v) b) _ h
-onward-cons L n d (inFloatCount id k v) b bs h = onward-byte _ n (length bs) (step L d (inFloatCount id k v) b) _ h
-onward-cons L n d (inArrayWord id c k v) b bs h = onward-byte _ n (length bs) (step L d (inArrayWord id c k v) b) _ h
-onward-cons L n d (inFloat id w left k v) b bs h = onward-byte _ n (length bs) (step L d (inFloat id w left k v) b) _ h
-onward-cons L n d (inPayload id r total o) b bs h = onward-piece n d id r total o (length bs) (b ∷ bs)
+advance-cons L n d (inHeader k v) b bs h = advance-byte _ n (length bs) (step L d (inHeader k v) b) _ h
+advance-cons L n d (inUnsigned id left k v) b bs h = advance-byte _ n (length bs) (step L d (inUnsigned id left k v) b) _ h
+advance-cons L n d (inSigned id left k v) b bs h = advance-byte _ n (length bs) (step L d (inSigned id left k v) b) _ h
+advance-cons L n d (inWord id k v) b bs h = advance-byte _ n (length bs) (step L d (inWord id k v) b) _ h
+advance-cons L n d (inUnsignedCount id k v) b bs h = advance-byte _ n (length bs) (step L d (inUnsignedCount id k v) b) _ h
+advance-cons L n d (inSignedCount id k v) b bs h = advance-byte _ n (length bs) (step L d (inSignedCount id k v) b) _ h
+advance-cons L n d (inFloatCount id k v) b bs h = advance-byte _ n (length bs) (step L d (inFloatCount id k v) b) _ h
+advance-cons L n d (inArrayWord id c k v) b bs h = advance-byte _ n (length bs) (step L d (inArrayWord id c k v) b) _ h
+advance-cons L n d (inFloat id w left k v) b bs h = advance-byte _ n (length bs) (step L d (inFloat id w left k v) b) _ h
+advance-cons L n d (inPayload id r total o) b bs h = advance-piece n d id r total o (length bs) (b ∷ bs)
 
-onward-scan : (L : Limits) (n d : ℕ) (p : Phase) (bs : List ℕ) → Onward (reading d p) n (length bs) (scan L n d p bs)
+advance-scan : (L : Limits) (n d : ℕ) (p : Phase) (bs : List ℕ) → Advance (reading d p) n (length bs) (scan L n d p bs)
 unfolding scan
-onward-scan L n d p [] = record { few = omega arith; nearer = tt }
-onward-scan L n d p (b ∷ bs) = onward-cons L n d p b bs (λ d′ p′. onward-scan L (suc n) d′ p′ bs)
+advance-scan L n d p [] = record { few = omega arith; nearer = tt }
+advance-scan L n d p (b ∷ bs) = advance-cons L n d p b bs (λ d′ p′. advance-scan L (suc n) d′ p′ bs)
 
-onward-call : (L : Limits) (s : State) (c : List ℕ) → Onward s 0 (length c) (call L s c)
+advance-call : (L : Limits) (s : State) (c : List ℕ) → Advance s 0 (length c) (call L s c)
 unfolding call
-onward-call L (reading d p) c = onward-scan L 0 d p c
-onward-call L (owing d id r) c = record { few = omega arith; nearer = omega arith }
-onward-call L broke c = record { few = omega arith; nearer = tt }
+advance-call L (reading d p) c = advance-scan L 0 d p c
+advance-call L (owing d id r) c = record { few = omega arith; nearer = omega arith }
+advance-call L broke c = record { few = omega arith; nearer = tt }
 
 -- the calls that are enough: more than this many
 abbrev pub turns : State → List ℕ → ℕ
@@ -134,12 +134,12 @@ turns s c = 2 * length c + emptyIn s
 
 -- A call reads at most the chunk, and one that gives an event leaves fewer turns.
 pub call-few : (L : Limits) (s : State) (c : List ℕ) → call L s c .read ≤ length c
-call-few L s c = omega (arith, onward-call L s c .few)
+call-few L s c = omega (arith, advance-call L s c .few)
 
 pub call-nearer : (L : Limits) (s : State) (c : List ℕ) (e : Event) → call L s c .answer ≡ event e → turns (call L s c .state) (drop (call L s c .read) c) < turns s c
 call-nearer L s c e h =
     let i : 2 * (0 + length c - call L s c .read) + emptyIn (call L s c .state) < 2 * length c + emptyIn s =
-    subst (λ (a : Answer). Nearer a s (call L s c .state) (call L s c .read) 0 (length c)) h (onward-call L s c .nearer) in
+    subst (λ (a : Said). Nearer a s (call L s c .state) (call L s c .read) 0 (length c)) h (advance-call L s c .nearer) in
     let l : length (drop (call L s c .read) c) ≡ length c - call L s c .read = length-drop (call L s c .read) c in
     omega arith
 
@@ -155,13 +155,13 @@ answered r q =
     ]
 
 -- a verdict or a refusal
-abbrev pub Final : Ending Answer → Type 0
+abbrev pub Final : Ending Said → Type 0
 Final (ended (event e)) = ⊥
 Final (ended (verdict v)) = Unit {0}
 Final (ended invalid) = Unit {0}
 Final unfinished = ⊥
 
-answered-final : (k : ℕ) (a : Answer) (s : State) (q : Chunk) → ((e : Event) → a ≡ event e → Final (q .answer)) → Final (answered (record { read = k; answer = a; state = s }) q .answer)
+answered-final : (k : ℕ) (a : Said) (s : State) (q : Chunk) → ((e : Event) → a ≡ event e → Final (q .answer)) → Final (answered (record { read = k; answer = a; state = s }) q .answer)
 answered-final k (event e) s q h = h e refl
 answered-final k (verdict v) s q h = tt
 answered-final k invalid s q h = tt
@@ -176,7 +176,7 @@ calls-final L (suc n) s c h =
     (λ e a. let l = call-nearer L s c e a in calls-final L n (r .state) (drop (r .read) c) (omega arith))
 
 -- two ways to go on that agree where an event was given
-answered-same : (k : ℕ) (a : Answer) (s : State) (p q : Chunk) → Final (answered (record { read = k; answer = a; state = s }) p .answer) → ((e : Event) → a ≡ event e → Final (p .answer) → p ≡ q)
+answered-same : (k : ℕ) (a : Said) (s : State) (p q : Chunk) → Final (answered (record { read = k; answer = a; state = s }) p .answer) → ((e : Event) → a ≡ event e → Final (p .answer) → p ≡ q)
     → answered (record { read = k; answer = a; state = s }) p ≡ answered (record { read = k; answer = a; state = s }) q
 answered-same k (event e) s p q f h = ap (more e k) (h e refl f)
 answered-same k (verdict v) s p q f h = refl

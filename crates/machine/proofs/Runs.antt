@@ -13,11 +13,11 @@ use lib.Seq.{take-add, take-length}
 use Rattle.layout.specs.Limits.{Limits, pick}
 use Rattle.layout.specs.Event.{Event, joined, bytewise}
 use Rattle.layout.specs.Varint.{broken}
-use Rattle.layout.specs.Message.{Verdict, complete, incomplete, brokenAt, verdictOf, eventsOf, message, fieldsFrom, judged}
+use Rattle.layout.specs.Message.{Verdict, complete, incomplete, brokenAt, verdictOf, eventsOf, message, fieldsFrom, verdictBy}
 use Rattle.machine.specs.Machine.{Phase, idle, inHeader, inUnsigned, inSigned, inWord, inUnsignedCount, inSignedCount, inFloatCount, inArrayWord, inFloat, inPayload}
-use Rattle.machine.specs.Machine.{Place, at, brokenBefore, walk, ending, endOf, judge}
-use Rattle.machine.specs.Call.{State, reading, owing, broke, fresh, Answer, event, verdict, invalid, verdictAt, verdictSo, Standing, standingOf, standing, call}
-use Rattle.machine.specs.Call as Call
+use Rattle.machine.specs.Machine.{Spot, at, brokenBefore, walk, ending, endOf, verdictAfter}
+use Rattle.machine.specs.Calls.{State, reading, owing, broke, fresh, Said, event, verdict, invalid, verdictAt, verdictSo, Standing, standingOf, standing, call}
+use Rattle.machine.specs.Calls as Calls
 use Rattle.machine.specs.Run.{given, due, Follows, Ending, ended, unfinished, Chunk, more, calls, chunk, Heard, status, heardOf, seen, chunks, verdictsOf, heardAll, readOf, lastHeard, join}
 use Rattle.layout.proofs.Joined.{joined-exactly, joined-run, bytewise-again}
 use Rattle.machine.proofs.Bridge.{events-walk, verdict-walk}
@@ -26,8 +26,8 @@ use Rattle.machine.proofs.Calls.{Judged, Closes, weight, call-follows, 
 
 -- ---- a chunk
 
--- how a chunk's calls end, k bytes of its m being read: a verdict comes once it is spent and is that of the place reached
-abbrev pub EndsAt : Ending Answer → State → ℕ → ℕ → Type 0
+-- how a chunk's calls end, k bytes of its m being read: a verdict comes once it is spent and is that of the spot reached
+abbrev pub EndsAt : Ending Said → State → ℕ → ℕ → Type 0
 EndsAt (ended (event e)) s k m = ⊥
 EndsAt (ended (verdict v)) s k m = (k ≡ m) × Judged s v
 EndsAt (ended invalid) s k m = s ≡ broke
@@ -54,14 +54,14 @@ later L bs es c e k q l h =
       final = final-later (q .answer) (q .state) (q .read) (omega (arith, h .few)) (h .final);
     }
   where
-    final-later : (a : Ending Answer) (s : State) (j : ℕ) → j + k ≤ length c → EndsAt a s j (length (drop k c)) → EndsAt a s (k + j) (length c)
+    final-later : (a : Ending Said) (s : State) (j : ℕ) → j + k ≤ length c → EndsAt a s j (length (drop k c)) → EndsAt a s (k + j) (length c)
     final-later (ended (event e)) s j g f = f
     final-later (ended (verdict v)) s j g f = let z : k + j ≡ length c = omega (arith, f .0, length-drop k c) in (z, f .1)
     final-later (ended invalid) s j g f = f
     final-later unfinished s j g f = f
 
 -- by the answer of the first call
-by-answer : (L : Limits) (n : ℕ) (bs : List ℕ) (es : List Event) (s : State) (c : List ℕ) (k : ℕ) (s′ : State) (a : Answer)
+by-answer : (L : Limits) (n : ℕ) (bs : List ℕ) (es : List Event) (s : State) (c : List ℕ) (k : ℕ) (s′ : State) (a : Said)
     → k ≤ length c → Closes a s s′ k (length c) → Follows L (bs ++ take k c) (es ++ given a) s′
     → ((e : Event) → Follows L (bs ++ take k c) (es ++ (e ∷ [])) s′ → 2 * (length c - k) + weight s′ < 2 * length c + weight s → Ran L (bs ++ take k c) (es ++ (e ∷ [])) (drop k c) (calls L n s′ (drop k c)))
     → Ran L bs es c
@@ -101,13 +101,13 @@ data Stands (L : Limits) (bs : List ℕ) (es : List Event) (n : ℕ) : State →
 
 -- a verdict has no word for a broken reader, which is refused
 abbrev pub unbroken : Standing → Standing
-unbroken Call.complete = Call.complete
-unbroken Call.incomplete = Call.incomplete
-unbroken Call.broken = Call.incomplete
+unbroken Calls.complete = Calls.complete
+unbroken Calls.incomplete = Calls.incomplete
+unbroken Calls.broken = Calls.incomplete
 
--- a place that is not broken has its verdict whatever was read
-same-verdict : (m : ℕ) (d : ℕ) (p : Phase) → judge m (ending d p) ≡ verdictAt d p
-unfolding judge ending
+-- a spot that is not broken has its verdict whatever was read
+same-verdict : (m : ℕ) (d : ℕ) (p : Phase) → verdictAfter m (ending d p) ≡ verdictAt d p
+unfolding verdictAfter ending
 same-verdict m d (inHeader zero v) = refl
 same-verdict m d (inHeader (suc k) v) = refl
 same-verdict m d (inUnsigned id left k v) = refl
@@ -129,7 +129,7 @@ plain-pick true = (refl, refl)
 plain-pick false = (refl, refl)
 
 pub plain-at : (d : ℕ) (p : Phase) → Plain (verdictAt d p)
-unfolding judge ending
+unfolding verdictAfter ending
 plain-at d (inHeader zero v) = plain-pick (eqb d 0)
 plain-at d (inHeader (suc k) v) = (refl, refl)
 plain-at d (inUnsigned id left k v) = (refl, refl)
@@ -142,22 +142,22 @@ plain-at d (inArrayWord id c k v) = (refl, refl)
 plain-at d (inFloat id w left k v) = (refl, refl)
 plain-at d (inPayload id r total o) = (refl, refl)
 
-pub verdict-at : (L : Limits) (bs : List ℕ) (d : ℕ) (p : Phase) → walk L 0 idle bs .place ≡ at d p → verdictOf L bs ≡ verdictAt d p
+pub verdict-at : (L : Limits) (bs : List ℕ) (d : ℕ) (p : Phase) → walk L 0 idle bs .spot ≡ at d p → verdictOf L bs ≡ verdictAt d p
 unfolding endOf
-verdict-at L bs d p e = verdict-walk L bs ∙ ap (λ (q : Place). judge (length bs) (endOf q)) e ∙ same-verdict (length bs) d p
+verdict-at L bs d p e = verdict-walk L bs ∙ ap (λ (q : Spot). verdictAfter (length bs) (endOf q)) e ∙ same-verdict (length bs) d p
 
-pub verdict-broken : (L : Limits) (bs : List ℕ) → walk L 0 idle bs .place ≡ brokenBefore [] → verdictOf L bs ≡ brokenAt (length bs)
-unfolding endOf judge
+pub verdict-broken : (L : Limits) (bs : List ℕ) → walk L 0 idle bs .spot ≡ brokenBefore [] → verdictOf L bs ≡ brokenAt (length bs)
+unfolding endOf verdictAfter
 verdict-broken L bs e =
     let z : length bs - 0 ≡ length bs = omega arith in
-    verdict-walk L bs ∙ ap (λ (q : Place). judge (length bs) (endOf q)) e ∙ ap brokenAt z
+    verdict-walk L bs ∙ ap (λ (q : Spot). verdictAfter (length bs) (endOf q)) e ∙ ap brokenAt z
 
 -- one chunk more
 record Chunked (L : Limits) (bs : List ℕ) (es : List Event) (n : ℕ) (c : List ℕ) (r : Chunk) : Type 0 where
   sees : seen (n + r .read) (r .answer) ≡ heardOf (verdictOf L (bs ++ c))
   stands : Stands L (bs ++ c) (es ++ r .events) (n + r .read) (r .state)
 
-chunked-from : (L : Limits) (bs : List ℕ) (es : List Event) (n : ℕ) (c : List ℕ) (fs : List Event) (k : ℕ) (a : Ending Answer) (s : State) → n ≡ length bs → k ≤ length c
+chunked-from : (L : Limits) (bs : List ℕ) (es : List Event) (n : ℕ) (c : List ℕ) (fs : List Event) (k : ℕ) (a : Ending Said) (s : State) → n ≡ length bs → k ≤ length c
     → Follows L (bs ++ take k c) (es ++ fs) s → EndsAt a s k (length c) → Chunked L bs es n c (record { events = fs; read = k; answer = a; state = s })
 chunked-from L bs es n c fs k (ended (event e)) s m l f h = absurd h
 chunked-from L bs es n c fs k unfinished s m l f h = absurd h
@@ -165,13 +165,13 @@ chunked-from L bs es n c fs k (ended (verdict v)) (reading d p) m l f h =
     let w : take k c ≡ c = ap (λ (j : ℕ). take j c) (h .0) ∙ take-length c in
     let g : Follows L (bs ++ c) (es ++ fs) (reading d p) = subst (λ (l : List ℕ). Follows L (bs ++ l) (es ++ fs) (reading d p)) w f in
     let z : n + k ≡ length (bs ++ c) = ap (λ (x : ℕ). x + k) m ∙ ap (λ (x : ℕ). length bs + x) (h .0) ∙ sym (length-append bs c) in
-    record { sees = ap status (h .1) ∙ sym (ap heardOf (verdict-at L (bs ++ c) d p (g .place)) ∙ plain-at d p .0); stands = clear g z }
+    record { sees = ap status (h .1) ∙ sym (ap heardOf (verdict-at L (bs ++ c) d p (g .spot)) ∙ plain-at d p .0); stands = clear g z }
 chunked-from L bs es n c fs k (ended (verdict v)) (owing d id r) m l f h = absurd (h .1)
 chunked-from L bs es n c fs k (ended (verdict v)) broke m l f h = absurd (h .1)
 chunked-from L bs es n c fs k (ended invalid) s m l f h =
     let g : Follows L (bs ++ take k c) (es ++ fs) broke = subst (λ (s : State). Follows L (bs ++ take k c) (es ++ fs) s) h f in
     let z : length (bs ++ take k c) ≡ n + k = length-append bs (take k c) ∙ ap (λ (x : ℕ). length bs + x) (length-take k c ∙ low k (length c) l) ∙ ap (λ (x : ℕ). x + k) (sym m) in
-    let v : verdictOf L (bs ++ take k c) ≡ brokenAt (n + k) = verdict-broken L (bs ++ take k c) (g .place) ∙ ap brokenAt z in
+    let v : verdictOf L (bs ++ take k c) ≡ brokenAt (n + k) = verdict-broken L (bs ++ take k c) (g .spot) ∙ ap brokenAt z in
     let w : (bs ++ take k c) ++ drop k c ≡ bs ++ c = append-assoc bs (take k c) (drop k c) ∙ ap (λ (l : List ℕ). bs ++ l) (take-append-drop k c) in
     let b = broken-stays L (bs ++ take k c) (drop k c) (n + k) v in
     let v′ : verdictOf L (bs ++ c) ≡ brokenAt (n + k) = subst (λ (l : List ℕ). verdictOf L l ≡ brokenAt (n + k)) w (b .0) in
@@ -206,7 +206,7 @@ stands-events L bs es n broke (gone v e) = sym e
 
 stands-standing : (L : Limits) (bs : List ℕ) (es : List Event) (n : ℕ) (s : State) → Stands L bs es n s → standing s ≡ standingOf (verdictOf L bs)
 unfolding standing
-stands-standing L bs es n (reading d p) (clear f m) = ap standingOf (sym (verdict-at L bs d p (f .place)))
+stands-standing L bs es n (reading d p) (clear f m) = ap standingOf (sym (verdict-at L bs d p (f .spot)))
 stands-standing L bs es n broke (gone v e) = ap standingOf (sym v)
 
 -- of a message that is not broken, all
@@ -216,7 +216,7 @@ all-read incomplete n e = refl
 all-read (brokenAt k) n e = let z : _≡_ {A = ℕ} 0 1 = cc in absurd (omega arith)
 
 stands-read : (L : Limits) (bs : List ℕ) (es : List Event) (n : ℕ) (s : State) → Stands L bs es n s → n ≡ readOf (length bs) (verdictOf L bs)
-stands-read L bs es n (reading d p) (clear f m) = m ∙ sym (ap (readOf (length bs)) (verdict-at L bs d p (f .place)) ∙ all-read (verdictAt d p) (length bs) (plain-at d p .0))
+stands-read L bs es n (reading d p) (clear f m) = m ∙ sym (ap (readOf (length bs)) (verdict-at L bs d p (f .spot)) ∙ all-read (verdictAt d p) (length bs) (plain-at d p .0))
 stands-read L bs es n broke (gone v e) = ap (readOf (length bs)) (sym v)
 
 -- For every list of chunks: the events given, bytewise, are the layout's for the bytes handed, and so is the verdict after each chunk.
@@ -251,8 +251,8 @@ pub reads : (L : Limits) (cs : List (List ℕ))
 reads L cs = reads-from L [] [] 0 fresh cs (clear (fresh-follows L) refl)
 
 -- "Empty input to a fresh reader, or no chunk at all, is complete."
-pub no-chunk-complete : (L : Limits) → (standing (chunks L fresh 0 [] .state) ≡ Call.complete) × (verdictOf L [] ≡ complete)
-unfolding chunks standing ending judge verdictOf message fieldsFrom judged
+pub no-chunk-complete : (L : Limits) → (standing (chunks L fresh 0 [] .state) ≡ Calls.complete) × (verdictOf L [] ≡ complete)
+unfolding chunks standing ending verdictAfter verdictOf message fieldsFrom verdictBy
 no-chunk-complete L = (refl, refl)
 
 -- ---- the verdict so far
@@ -265,9 +265,9 @@ standingWith (e ∷ es) v = standingOf incomplete
 
 pub standing-is : (L : Limits) (bs : List ℕ) (es : List Event) (s : State) → Follows L bs es s → standing s ≡ standingWith (due s) (verdictOf L bs)
 unfolding standing
-standing-is L bs es (reading d p) f = ap standingOf (sym (verdict-at L bs d p (f .place)))
+standing-is L bs es (reading d p) f = ap standingOf (sym (verdict-at L bs d p (f .spot)))
 standing-is L bs es (owing d id r) f = refl
-standing-is L bs es broke f = ap standingOf (sym (verdict-broken L bs (f .place)))
+standing-is L bs es broke f = ap standingOf (sym (verdict-broken L bs (f .spot)))
 
 -- The verdict so far says the same of a reader that is not broken.
 pub verdict-so : (s : State) → standingOf (verdictSo s) ≡ unbroken (standing s)

@@ -1,3 +1,3 @@
 pub mod Machine
-pub mod Call
+pub mod Calls
 pub mod Run

@@ -132,27 +132,27 @@ step L d (inPayload id r total o) b = atByte d id r total o b
 -- ---- a byte string
 
 -- where some bytes lead: to a depth and a phase, or broken, with the bytes after the offending one
-pub data Place : Type 0 where
-  at : ℕ → Phase → Place
-  brokenBefore : List ℕ → Place
+pub data Spot : Type 0 where
+  at : ℕ → Phase → Spot
+  brokenBefore : List ℕ → Spot
 
 pub record Walk : Type 0 where
   pub events : List Event
-  pub place : Place
+  pub spot : Spot
 
 -- from a step on
 unfoldable pub onward : Stepped → List ℕ → (ℕ → Phase → Walk) → Walk
-onward (on es d p) bs f = record { events = es ++ f d p .events; place = f d p .place }
-onward bad bs f = record { events = []; place = brokenBefore bs }
+onward (on es d p) bs f = record { events = es ++ f d p .events; spot = f d p .spot }
+onward bad bs f = record { events = []; spot = brokenBefore bs }
 
 unfoldable pub walk : Limits → ℕ → Phase → List ℕ → Walk
-walk L d p [] = record { events = []; place = at d p }
+walk L d p [] = record { events = []; spot = at d p }
 walk L d p (b ∷ bs) = onward (step L d p b) bs (λ d′ p′. walk L d′ p′ bs)
 
--- from a place on
-unfoldable pub walkOn : Limits → Place → List ℕ → Walk
+-- from a spot on
+unfoldable pub walkOn : Limits → Spot → List ℕ → Walk
 walkOn L (at d p) bs = walk L d p bs
-walkOn L (brokenBefore rest) bs = record { events = []; place = brokenBefore (rest ++ bs) }
+walkOn L (brokenBefore rest) bs = record { events = []; spot = brokenBefore (rest ++ bs) }
 
 -- what a phase is worth when no more bytes come: a field boundary at this depth, or a field under way
 unfoldable pub ending : ℕ → Phase → Outcome ℕ
@@ -168,12 +168,12 @@ ending d (inArrayWord id n k v) = short
 ending d (inFloat id w left k v) = short
 ending d (inPayload id r total o) = short
 
-unfoldable pub endOf : Place → Outcome ℕ
+unfoldable pub endOf : Spot → Outcome ℕ
 endOf (at d p) = ending d p
 endOf (brokenBefore rest) = broken rest
 
--- the verdict at a place, n bytes after the start
-unfoldable pub judge : ℕ → Outcome ℕ → Verdict
-judge n (whole d rest) = pick (eqb d 0) complete incomplete
-judge n short = incomplete
-judge n (broken rest) = brokenAt (n - length rest)
+-- the verdict at a spot, n bytes after the start
+unfoldable pub verdictAfter : ℕ → Outcome ℕ → Verdict
+verdictAfter n (whole d rest) = pick (eqb d 0) complete incomplete
+verdictAfter n short = incomplete
+verdictAfter n (broken rest) = brokenAt (n - length rest)

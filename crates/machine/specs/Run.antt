@@ -7,13 +7,13 @@ use lib.ListN.{length, drop}
 use Rattle.layout.specs.Limits.{Limits}
 use Rattle.layout.specs.Event.{Event, Piece, bytewise}
 use Rattle.layout.specs.Message.{Verdict, complete, incomplete, brokenAt, verdictOf}
-use Rattle.machine.specs.Machine.{idle, Place, at, brokenBefore, walk}
-use Rattle.machine.specs.Call.{State, reading, owing, broke, Answer, event, verdict, invalid, call}
+use Rattle.machine.specs.Machine.{idle, Spot, at, brokenBefore, walk}
+use Rattle.machine.specs.Calls.{State, reading, owing, broke, Said, event, verdict, invalid, call}
 
 -- ---- one call
 
 -- the event that an answer gives
-abbrev pub given : Answer → List Event
+abbrev pub given : Said → List Event
 given (event e) = e ∷ []
 given (verdict v) = []
 given invalid = []
@@ -25,14 +25,14 @@ due (owing d id r) = Piece id r 0 0 [] ∷ []
 due broke = []
 
 -- where a state stands
-abbrev pub placeOf : State → Place
-placeOf (reading d p) = at d p
-placeOf (owing d id r) = at d idle
-placeOf broke = brokenBefore []
+abbrev pub spotOf : State → Spot
+spotOf (reading d p) = at d p
+spotOf (owing d id r) = at d idle
+spotOf broke = brokenBefore []
 
 -- The state s stands where the bytes bs lead, and the events es that were given, with the one due, are those of bs.
 pub record Follows (L : Limits) (bs : List ℕ) (es : List Event) (s : State) : Type 0 where
-  pub place : walk L 0 idle bs .place ≡ placeOf s
+  pub spot : walk L 0 idle bs .spot ≡ spotOf s
   pub events : walk L 0 idle bs .events ≡ bytewise es ++ due s
 
 -- ---- a chunk
@@ -46,7 +46,7 @@ pub data Ending (A : Type 0) : Type 0 where
 pub record Chunk : Type 0 where
   pub events : List Event
   pub read : ℕ
-  pub answer : Ending Answer
+  pub answer : Ending Said
   pub state : State
 
 abbrev pub more : Event → ℕ → Chunk → Chunk
@@ -76,14 +76,14 @@ pub data Heard : Type 0 where
   refused : (number read : ℕ) → Heard
   nothing : Heard
 
--- how the layout's verdict is heard. "Number 2: the message is broken; the count read includes the offending byte."
+-- how the layout's verdict is heard. "Number 2: the message is broken; the count read includes the offending byte".
 abbrev pub heardOf : Verdict → Heard
 heardOf complete = status complete
 heardOf incomplete = status incomplete
 heardOf (brokenAt n) = refused 2 n
 
 -- what is heard of an ending, n bytes being read in all
-abbrev pub seen : ℕ → Ending Answer → Heard
+abbrev pub seen : ℕ → Ending Said → Heard
 seen n (ended (event e)) = nothing
 seen n (ended (verdict v)) = status v
 seen n (ended invalid) = refused 2 n

@@ -34,7 +34,7 @@ struct Sent {
 }
 
 // The place that many bytes on, within the chunk.
-fn onward(len: usize, from: usize, used: usize) -> usize {
+fn advance(len: usize, from: usize, used: usize) -> usize {
     if from <= len {
         if used <= len - from {
             return from + used;
@@ -93,7 +93,7 @@ fn call(c: Copy, len: usize, rest: &[u8], out: &mut [u8]) -> Copy {
     let copied = copier.feed(rest, out);
     let answer = copied.answer;
     let next = copied.copier;
-    let from = onward(len, c.from, copied.used);
+    let from = advance(len, c.from, copied.used);
     let bytes = std::num::wrapping_add_u64(c.bytes, copied.used as u64);
     match answer {
         Answer::Full => make_room(next, out, from, bytes),

@@ -15,7 +15,7 @@ use Rattle.ostream.specs.declared.OStream.{OStream}
 use Rattle.ostream.specs.declared.Answer.{Answer}
 use Rattle.ostream.specs.declared.Answer.the-variants.{Done, Full, Refused}
 use Rattle.ostream.specs.Stream.{at}
-use Rattle.ostream.specs.Emission.{Verdict, accepted, refusedWith, judged, Call, Said, through, full, number, saidOf, untouched, emitted, writtenBy, written}
+use Rattle.ostream.specs.Emission.{Judgement, accepted, refusedWith, judged, Call, Said, through, full, number, saidOf, untouched, emitted, writtenBy, written}
 
 -- Each answer of the code's has its own words: what is said fixes the answer.
 abbrev answerOf : Said → Answer
@@ -35,14 +35,14 @@ module _ (k : Call) (s : OStream) (b : List ℕ) (place : ℕ) where
   -- one of its tests fails
   pub written-refused : (e : Error) → judged (k .tests) ≡ refusedWith e → written k s b place ≡ untouched (numberOf e) s b
   unfolding written writtenBy
-  written-refused e a = ap (λ (v : Verdict). writtenBy v k s b place) a
+  written-refused e a = ap (λ (v : Judgement). writtenBy v k s b place) a
 
   -- the place lies beyond its output
   pub written-beyond : judged (k .tests) ≡ accepted → length (k .output) < place → written k s b place ≡ untouched 11 s b
   unfolding written writtenBy emitted
   written-beyond a h =
       let t : ltb (length (k .output)) place ≡ true = lt-ltb _ _ h in
-      ap (λ (v : Verdict). writtenBy v k s b place) a ∙ simp t
+      ap (λ (v : Judgement). writtenBy v k s b place) a ∙ simp t
 
   -- there is room for the rest
   pub written-through : judged (k .tests) ≡ accepted → place ≤ length (k .output) → length (k .output) - place ≤ length b - s .offset
@@ -51,7 +51,7 @@ module _ (k : Call) (s : OStream) (b : List ℕ) (place : ℕ) where
   written-through a h r =
       let t : ltb (length (k .output)) place ≡ false = le-ltb _ _ h in
       let u : leb (length (k .output) - place) (length b - s .offset) ≡ true = le-leb _ _ r in
-      ap (λ (v : Verdict). writtenBy v k s b place) a ∙ simp (t, u)
+      ap (λ (v : Judgement). writtenBy v k s b place) a ∙ simp (t, u)
 
   -- there is not
   pub written-full : judged (k .tests) ≡ accepted → place ≤ length (k .output) → length b - s .offset < length (k .output) - place
@@ -60,4 +60,4 @@ module _ (k : Call) (s : OStream) (b : List ℕ) (place : ℕ) where
   written-full a h r =
       let t : ltb (length (k .output)) place ≡ false = le-ltb _ _ h in
       let u : leb (length (k .output) - place) (length b - s .offset) ≡ false = lt-leb _ _ r in
-      ap (λ (v : Verdict). writtenBy v k s b place) a ∙ simp (t, u)
+      ap (λ (v : Judgement). writtenBy v k s b place) a ∙ simp (t, u)

@@ -9,17 +9,17 @@ use lib.ListN.{drop}
 use borrow.Author.Tests.{leb-false, ltb-false, le-leb, lt-leb, le-ltb}
 use Rattle.types.specs.Types.{refusal}
 use Rattle.held.specs.Places.{clean}
-use Rattle.straight.proofs.Straight.{clean-zeros}
+use Rattle.write_at_once.proofs.AtOnce.{clean-zeros}
 use Rattle.buffers.specs.Moved.{movedBy}
 use Rattle.ostream.specs.declared.OStream.{OStream}
 use Rattle.ostream.specs.declared.Answer.the-variants.{Done}
 use Rattle.ostream.specs.declared.Count.the-variants.{Bytes, Refused}
 use Rattle.ostream.specs.Stream.{every, soundStream, at, opened}
-use Rattle.ostream.specs.Emission.{Verdict, accepted, refusedWith, refused}
-use Rattle.ostream.specs.Straight.{countedAt}
+use Rattle.ostream.specs.Emission.{Judgement, accepted, refusedWith, refused}
+use Rattle.ostream.specs.Private.{countedAt}
 use Rattle.ostream.specs.Buffer.{badBuffer, countedBy, opening, draining, changing}
-use Rattle.ostream.proofs.Called.{both, is-sound}
-use Rattle.ostream.proofs.Straight.{quiet}
+use Rattle.ostream.proofs.Calls.{both, is-sound}
+use Rattle.ostream.proofs.AtOnce.{quiet}
 
 -- ---- sound states
 
@@ -38,7 +38,7 @@ unheld-clean s size h e = sym (ap (λ (n : ℕ). every (λ x. eqb x 0) (drop n (
 -- ---- by numbers
 
 -- where a call about buffers goes on, in the state
-pub counted-at : (v : Verdict) (s : OStream) (pos : ℕ) → countedAt s (movedBy v (s .offset) pos) ≡ countedBy v s pos
+pub counted-at : (v : Judgement) (s : OStream) (pos : ℕ) → countedAt s (movedBy v (s .offset) pos) ≡ countedBy v s pos
 counted-at accepted s pos = refl
 counted-at (refusedWith e) s pos = refl
 

@@ -11,12 +11,12 @@ use Rattle.ostream.specs.declared.OStream.{OStream}
 use Rattle.ostream.specs.Stream.{heldBytes}
 use Rattle.ostream.specs.Emission.{judged, written}
 use Rattle.ostream.specs.Calls.{rawCall, floatCall, fixlenBytes}
-use Rattle.ostream.proofs.Called.{recalled}
+use Rattle.ostream.proofs.Calls.{recalled}
 
 -- of so many bytes, none is too long
-verdict : (w : Width) (s : OStream) (size id x : ℕ) (bytes : List ℕ) → length bytes ≡ bytesOf w → judged (rawCall s size id bytes (fixlenType (float w)) .tests) ≡ judged (floatCall s size id w x .tests)
-verdict fp32 s size id x bytes e = simp e
-verdict fp64 s size id x bytes e = simp e
+judgement : (w : Width) (s : OStream) (size id x : ℕ) (bytes : List ℕ) → length bytes ≡ bytesOf w → judged (rawCall s size id bytes (fixlenType (float w)) .tests) ≡ judged (floatCall s size id w x .tests)
+judgement fp32 s size id x bytes e = simp e
+judgement fp64 s size id x bytes e = simp e
 
 output : (w : Width) (s : OStream) (size id x : ℕ) (bytes : List ℕ) → bytes ≡ lowBytes (bytesOf w) x
     → rawCall s size id bytes (fixlenType (float w)) .output ≡ floatCall s size id w x .output
@@ -30,4 +30,4 @@ output fp64 s size id x bytes e =
 
 pub float-call : (w : Width) (s : OStream) (b : List ℕ) (size place id x : ℕ) (bytes : List ℕ) → bytes ≡ lowBytes (bytesOf w) x
     → written (rawCall s size id bytes (fixlenType (float w))) s b place ≡ written (floatCall s size id w x) s b place
-float-call w s b size place id x bytes e = recalled _ _ s b place (verdict w s size id x bytes (ap length e ∙ length-low (bytesOf w) x)) (output w s size id x bytes e) refl
+float-call w s b size place id x bytes e = recalled _ _ s b place (judgement w s size id x bytes (ap length e ∙ length-low (bytesOf w) x)) (output w s size id x bytes e) refl

@@ -9,12 +9,12 @@ use Rattle.ostream.specs.declared.Written.{Written}
 use Rattle.ostream.specs.declared.Count.the-variants.{Bytes, Refused}
 use Rattle.ostream.specs.declared.Counted.{Counted}
 use Rattle.ostream.specs.Stream.{at, opened}
-use Rattle.ostream.specs.Emission.{Verdict, accepted, refusedWith, judged, refused}
+use Rattle.ostream.specs.Emission.{Judgement, accepted, refusedWith, judged, refused}
 use Rattle.ostream.specs.Calls.{unsound}
 pub use Rattle.answers.specs.Tests.{badBuffer}
 
--- "Opening at offset o leaves the buffer's first o bytes as they came." Where it is refused the state is that of a writer at 0.
-abbrev pub openedBy : Verdict → ℕ → Written
+-- "Opening at offset o leaves the buffer's first o bytes as they came". Where it is refused the state is that of a writer at 0.
+abbrev pub openedBy : Judgement → ℕ → Written
 openedBy accepted offset = record { answer = Done; stream = opened offset }
 openedBy (refusedWith e) offset = refused (opened 0) e
 
@@ -22,7 +22,7 @@ unfoldable pub opening : ℕ → ℕ → Bool → Written
 opening size offset drained = openedBy (judged (badBuffer size offset drained ∷ [])) offset
 
 -- The old position is answered, and the state is at another.
-abbrev pub countedBy : Verdict → OStream → ℕ → Counted
+abbrev pub countedBy : Judgement → OStream → ℕ → Counted
 countedBy accepted s pos = record { answer = Bytes (s .offset); stream = at s pos }
 countedBy (refusedWith e) s pos = record { answer = Refused e; stream = s }
 

@@ -16,11 +16,11 @@ use Rattle.ostream.specs.declared.OStream.{OStream}
 use Rattle.ostream.specs.Stream.{soundStream, lazyDepth, heldBytes, committed, holding, dropped}
 use Rattle.ostream.specs.Emission.{Test, Call}
 pub use Rattle.answers.specs.Tests.{stringSubtype, idTooLarge, payloadTooLong, arrayTooLong}
-unfoldable pub use Rattle.checked.specs.Went.{fixlenBytes}
+unfoldable pub use Rattle.write_slowly.specs.Went.{fixlenBytes}
 
 -- ---- the refusals that look at the state; the others are `Tests` of `answers`
 
--- "Number 6: the writer state isn't sound for the lent buffer."
+-- "Number 6: the writer state isn't sound for the lent buffer".
 abbrev pub unsound : OStream → ℕ → Test
 unsound s size = unsoundWriter (soundStream s size)
 
@@ -45,7 +45,7 @@ content tests s bytes = record { tests = tests; output = heldBytes s ++ bytes; d
 abbrev pub scalar : OStream → ℕ → ℕ → List ℕ → Call
 scalar s size id bytes = content (unsound s size ∷ idTooLarge id ∷ []) s bytes
 
--- the same by the type's number and the varint's value
+-- a field of one varint by the type's number and the varint's value
 abbrev pub varintCall : OStream → ℕ → ℕ → ℕ → ℕ → Call
 varintCall s size id wire n = scalar s size id (shortest (id * 8 + wire) ++ shortest n)
 
@@ -90,8 +90,8 @@ floatArrayCall s size id w xs = arrayCall s size id (length xs) (fieldBytes (flo
 
 -- ---- sequences
 
--- "An opened sequence is held back until content or a keeping close comes. Up to eight are held; a ninth open writes all eight and
--- itself."
+-- "An opened sequence is held back until content or a keeping close comes. Up to eight are held, outermost first, unused places zero; a ninth
+-- open writes all eight and itself."
 abbrev pub beginCall : OStream → ℕ → ℕ → Call
 beginCall s size id =
     record {

@@ -14,7 +14,7 @@ use Rattle.ostream.specs.declared.Answer.{Answer}
 use Rattle.ostream.specs.declared.Answer.the-variants.{Done, Full, Refused}
 use Rattle.ostream.specs.declared.Written.{Written}
 use Rattle.ostream.specs.Stream.{at}
-pub use Rattle.answers.specs.Judged.{Test, Verdict, accepted, refusedWith, judged}
+pub use Rattle.answers.specs.Judged.{Test, Judgement, accepted, refusedWith, judged}
 
 pub record Call : Type 0 where
   pub tests : List Test
@@ -35,20 +35,20 @@ saidOf (Full n) = full n
 saidOf (Refused e) = number (numberOf e)
 
 -- What it says, the state, and the lent buffer.
-pub record Left : Type 0 where
+pub record Result : Type 0 where
   pub said : Said
   pub stream : OStream
   pub buf : List ℕ
 
--- the same of the code's result, and of the buffer as the call leaves it
-unfoldable pub leftBy : Written → List ℕ → Left
-leftBy r b = record { said = saidOf (r .answer); stream = r .stream; buf = b }
+-- the code's result and the buffer as the call leaves it, as such a record
+unfoldable pub resultOf : Written → List ℕ → Result
+resultOf r b = record { said = saidOf (r .answer); stream = r .stream; buf = b }
 
 abbrev pub refused : OStream → Error → Written
 refused s e = record { answer = Refused e; stream = s }
 
 -- a refusal: "state and buffer unaltered"
-abbrev pub untouched : ℕ → OStream → List ℕ → Left
+abbrev pub untouched : ℕ → OStream → List ℕ → Result
 untouched n s b = record { said = number n; stream = s; buf = b }
 
 -- ---- a call
@@ -57,20 +57,20 @@ untouched n s b = record { said = number n; stream = s; buf = b }
 -- "Number 11: the place to go on from exceeds the call's whole output." "Full": "the buffer is then written to its end, a writer's state
 -- differs only in position, and the answer is the count of this call's bytes (held headers included) now out, counted from its first byte".
 -- It is told whether the place lies beyond the output, and whether there is room for the rest.
-abbrev pub emittedBy : Bool → Bool → OStream → List ℕ → List ℕ → ℕ → OStream → Left
+abbrev pub emittedBy : Bool → Bool → OStream → List ℕ → List ℕ → ℕ → OStream → Result
 emittedBy beyond fits s b o place next =
     pick beyond (untouched 11 s b)
     (pick fits
     (record { said = through; stream = at next (s .offset + (length o - place)); buf = put b (s .offset) (drop place o) })
     (record { said = full (place + (length b - s .offset)); stream = at s (length b); buf = put b (s .offset) (drop place o) }))
 
-unfoldable pub emitted : OStream → List ℕ → List ℕ → ℕ → OStream → Left
+unfoldable pub emitted : OStream → List ℕ → List ℕ → ℕ → OStream → Result
 emitted s b o place next = emittedBy (ltb (length o) place) (leb (length o - place) (length b - s .offset)) s b o place next
 
-unfoldable pub writtenBy : Verdict → Call → OStream → List ℕ → ℕ → Left
+unfoldable pub writtenBy : Judgement → Call → OStream → List ℕ → ℕ → Result
 writtenBy accepted c s b place = emitted s b (c .output) place (c .done)
 writtenBy (refusedWith e) c s b place = untouched (numberOf e) s b
 
-unfoldable pub written : Call → OStream → List ℕ → ℕ → Left
+unfoldable pub written : Call → OStream → List ℕ → ℕ → Result
 unfolding writtenBy
 written c s b place = writtenBy (judged (c .tests)) c s b place

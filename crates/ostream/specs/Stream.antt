@@ -3,7 +3,7 @@ use mathlib.Core.Bool.{Bool}
 use mathlib.Core.List.{List}
 use Prim.Native.Nat.{ℕ, _+_, _-_}
 use lib.ListN.{set, replicate}
-use Rattle.held.specs.Places.{soundWriter}
+use Rattle.held.specs.Places.{soundFor}
 use Rattle.held.specs.Headers.{headersOf}
 use Rattle.ostream.specs.declared.OStream.{OStream}
 unfoldable pub use Rattle.held.specs.Places.{every}
@@ -12,7 +12,7 @@ pub use Rattle.held.specs.Places.{lazyDepth, zeroed}
 -- "Writer: position at most the buffer's length, held at most 8 and at most depth, depth to 255, ids to `ID_MAX`, unused places zero
 -- (these are tested too)."
 unfoldable pub soundStream : OStream → ℕ → Bool
-soundStream s size = soundWriter (s .offset) (s .depth) (s .npending) (s .pending) size
+soundStream s size = soundFor (s .offset) (s .depth) (s .npending) (s .pending) size
 
 -- the headers of the sequences that are held back, "outermost first"
 unfoldable pub heldBytes : OStream → List ℕ

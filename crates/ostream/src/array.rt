@@ -2,25 +2,25 @@
 use crate::Answer;
 use crate::OStream;
 use crate::Written;
-use checked::fp32_array;
-use checked::fp32_bits_array;
-use checked::fp64_array;
-use checked::fp64_bits_array;
-use checked::signed_array;
-use checked::unsigned_array;
 use held::tagged;
-use straight::at_ease_with;
-use straight::put_signeds;
-use straight::put_unsigneds;
 use types::ARRAY_MAX;
 use types::T_VARINTARRAY_SIGNED;
 use types::T_VARINTARRAY_UNSIGNED;
+use write_at_once::at_ease_with;
+use write_at_once::put_signeds;
+use write_at_once::put_unsigneds;
+use write_slowly::fp32_array;
+use write_slowly::fp32_bits_array;
+use write_slowly::fp64_array;
+use write_slowly::fp64_bits_array;
+use write_slowly::signed_array;
+use write_slowly::unsigned_array;
 ghost use mathlib.Core.Path.{_≡_};
 ghost use mathlib.Core.List.{map};
 ghost use lib.ListN.{length};
 ghost use lib.Ieee.{binary32, binary64, toBits};
 ghost use Rattle.layout.specs.Field.{fp32, fp64};
-ghost use Rattle.ostream.specs.Emission.{leftBy, written};
+ghost use Rattle.ostream.specs.Emission.{resultOf, written};
 ghost use Rattle.ostream.specs.Calls.{unsignedArrayCall, signedArrayCall, floatArrayCall};
 
 impl OStream {
@@ -32,12 +32,12 @@ impl OStream {
         items: &[u64],
         place: usize,
     ) -> Written
-        ensures { λ r. ⌜ leftBy r (now (buf .exit)) ≡ written (unsignedArrayCall self (length (now (buf .entry))) id (now (items .entry))) self (now (buf .entry)) place ⌝ }
+        ensures { λ r. ⌜ resultOf r (now (buf .exit)) ≡ written (unsignedArrayCall self (length (now (buf .entry))) id (now (items .entry))) self (now (buf .entry)) place ⌝ }
     {
         if 0 < place {
-            return self.anew()
+            return self.rebuilt()
                 .write_array_unsigned_slowly(buf, id, items, place)
-                .anew();
+                .rebuilt();
         }
         if at_ease_with(self.depth, self.npending, id, items.len(), ARRAY_MAX) {
             let places = self.pending;
@@ -56,12 +56,12 @@ impl OStream {
                 };
             }
         }
-        self.anew()
+        self.rebuilt()
             .write_array_unsigned_slowly(buf, id, items, place)
-            .anew()
+            .rebuilt()
     }
 
-    // The same from any state and place.
+    // The slow form of `write_array_unsigned`, from any state and place.
     fn write_array_unsigned_slowly(
         self,
         buf: &mut [u8],
@@ -69,7 +69,7 @@ impl OStream {
         items: &[u64],
         place: usize,
     ) -> Written
-        ensures { λ r. ⌜ leftBy r (now (buf .exit)) ≡ written (unsignedArrayCall self (length (now (buf .entry))) id (now (items .entry))) self (now (buf .entry)) place ⌝ }
+        ensures { λ r. ⌜ resultOf r (now (buf .exit)) ≡ written (unsignedArrayCall self (length (now (buf .entry))) id (now (items .entry))) self (now (buf .entry)) place ⌝ }
     {
         let size = buf.len();
         let places = self.pending;
@@ -94,12 +94,12 @@ impl OStream {
         items: &[i64],
         place: usize,
     ) -> Written
-        ensures { λ r. ⌜ leftBy r (now (buf .exit)) ≡ written (signedArrayCall self (length (now (buf .entry))) id (now (items .entry))) self (now (buf .entry)) place ⌝ }
+        ensures { λ r. ⌜ resultOf r (now (buf .exit)) ≡ written (signedArrayCall self (length (now (buf .entry))) id (now (items .entry))) self (now (buf .entry)) place ⌝ }
     {
         if 0 < place {
-            return self.anew()
+            return self.rebuilt()
                 .write_array_signed_slowly(buf, id, items, place)
-                .anew();
+                .rebuilt();
         }
         if at_ease_with(self.depth, self.npending, id, items.len(), ARRAY_MAX) {
             let places = self.pending;
@@ -118,12 +118,12 @@ impl OStream {
                 };
             }
         }
-        self.anew()
+        self.rebuilt()
             .write_array_signed_slowly(buf, id, items, place)
-            .anew()
+            .rebuilt()
     }
 
-    // The same from any state and place.
+    // The slow form of `write_array_signed`, from any state and place.
     fn write_array_signed_slowly(
         self,
         buf: &mut [u8],
@@ -131,7 +131,7 @@ impl OStream {
         items: &[i64],
         place: usize,
     ) -> Written
-        ensures { λ r. ⌜ leftBy r (now (buf .exit)) ≡ written (signedArrayCall self (length (now (buf .entry))) id (now (items .entry))) self (now (buf .entry)) place ⌝ }
+        ensures { λ r. ⌜ resultOf r (now (buf .exit)) ≡ written (signedArrayCall self (length (now (buf .entry))) id (now (items .entry))) self (now (buf .entry)) place ⌝ }
     {
         let size = buf.len();
         let places = self.pending;
@@ -156,7 +156,7 @@ impl OStream {
         items: &[u32],
         place: usize,
     ) -> Written
-        ensures { λ r. ⌜ leftBy r (now (buf .exit)) ≡ written (floatArrayCall self (length (now (buf .entry))) id fp32 (now (items .entry))) self (now (buf .entry)) place ⌝ }
+        ensures { λ r. ⌜ resultOf r (now (buf .exit)) ≡ written (floatArrayCall self (length (now (buf .entry))) id fp32 (now (items .entry))) self (now (buf .entry)) place ⌝ }
     {
         let size = buf.len();
         let places = self.pending;
@@ -181,7 +181,7 @@ impl OStream {
         items: &[f32],
         place: usize,
     ) -> Written
-        ensures { λ r. ⌜ leftBy r (now (buf .exit)) ≡ written (floatArrayCall self (length (now (buf .entry))) id fp32 (map (toBits binary32) (now (items .entry)))) self (now (buf .entry)) place ⌝ }
+        ensures { λ r. ⌜ resultOf r (now (buf .exit)) ≡ written (floatArrayCall self (length (now (buf .entry))) id fp32 (map (toBits binary32) (now (items .entry)))) self (now (buf .entry)) place ⌝ }
     {
         let size = buf.len();
         let places = self.pending;
@@ -206,7 +206,7 @@ impl OStream {
         items: &[u64],
         place: usize,
     ) -> Written
-        ensures { λ r. ⌜ leftBy r (now (buf .exit)) ≡ written (floatArrayCall self (length (now (buf .entry))) id fp64 (now (items .entry))) self (now (buf .entry)) place ⌝ }
+        ensures { λ r. ⌜ resultOf r (now (buf .exit)) ≡ written (floatArrayCall self (length (now (buf .entry))) id fp64 (now (items .entry))) self (now (buf .entry)) place ⌝ }
     {
         let size = buf.len();
         let places = self.pending;
@@ -231,7 +231,7 @@ impl OStream {
         items: &[f64],
         place: usize,
     ) -> Written
-        ensures { λ r. ⌜ leftBy r (now (buf .exit)) ≡ written (floatArrayCall self (length (now (buf .entry))) id fp64 (map (toBits binary64) (now (items .entry)))) self (now (buf .entry)) place ⌝ }
+        ensures { λ r. ⌜ resultOf r (now (buf .exit)) ≡ written (floatArrayCall self (length (now (buf .entry))) id fp64 (map (toBits binary64) (now (items .entry)))) self (now (buf .entry)) place ⌝ }
     {
         let size = buf.len();
         let places = self.pending;

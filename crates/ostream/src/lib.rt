@@ -21,13 +21,12 @@ ghost use Prim.Native.Nat.{_≤_};
 ghost use mathlib.Core.Bool.{true, false};
 ghost use lib.ListN.{length};
 ghost use Rattle.ostream.specs.Stream.{lazyDepth, soundStream, committed, opened};
-ghost use Rattle.ostream.specs.Straight.{Clears, settled, unwritten, countedAt};
+ghost use Rattle.ostream.specs.Private.{Clears, settled, unwritten, countedAt};
 ghost use Rattle.ostream.specs.Emission.{refused};
 ghost use Rattle.ostream.specs.Buffer.{opening, draining, changing};
 
 // A writer's state. `offset` is where the next byte goes; `depth` counts the open sequences; `pending` has the ids of the innermost
-// `npending` of them, whose headers are held back, and zero elsewhere. (The order of the fields leaves no gap between them: a copy of a
-// gap goes through memory.)
+// `npending` of them, whose headers are held back, and zero elsewhere. (The fields' order is for speed.)
 pub struct OStream {
     pub offset: usize,
     pub pending: [u32; LAZY_SEQ_DEPTH],
@@ -59,15 +58,15 @@ pub struct Counted {
 }
 
 impl Written {
-    // The same, made anew from its fields: what a call that is not inlined leaves stands in memory, and should not keep the state there.
-    fn anew(self) -> Written
+    // What a call comes to, rebuilt from its fields (docs/PERFORMANCE.md).
+    fn rebuilt(self) -> Written
         ensures { λ r. ⌜ r ≡ self ⌝ }
     {
         let answer = self.answer;
         let stream = self.stream;
         Written {
             answer,
-            stream: stream.anew(),
+            stream: stream.rebuilt(),
         }
     }
 }
@@ -75,8 +74,8 @@ impl Written {
 impl OStream {
     // ---- states and answers
 
-    // The same state, made anew from its fields, for a call that is not inlined: so that this one's own stays in registers.
-    fn anew(self) -> OStream
+    // The state, rebuilt from its fields, likewise.
+    fn rebuilt(self) -> OStream
         ensures { λ r. ⌜ r ≡ self ⌝ }
     {
         let pending = self.pending;
@@ -191,7 +190,7 @@ impl OStream {
         OStream::install(0)
     }
 
-    // The same, with the buffer's first bytes reserved.
+    // A writer over the buffer, which is not drained, with its first bytes reserved.
     pub fn with_offset(buf: &[u8], offset: usize) -> Written
         ensures { λ r. ⌜ r ≡ opening (length (now (buf .entry))) offset false ⌝ }
     {

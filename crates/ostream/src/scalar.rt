@@ -2,17 +2,17 @@
 use crate::Answer;
 use crate::OStream;
 use crate::Written;
-use checked::varint_field;
 use held::tagged;
-use straight::at_ease;
-use straight::put_pair;
 use types::T_VARINT_SIGNED;
 use types::T_VARINT_UNSIGNED;
 use varint::zigzag_encode;
+use write_at_once::at_ease;
+use write_at_once::put_pair;
+use write_slowly::varint_field;
 ghost use mathlib.Core.Path.{_≡_};
 ghost use lib.ListN.{length};
 ghost use Rattle.layout.specs.Limits.{pick};
-ghost use Rattle.ostream.specs.Emission.{leftBy, written};
+ghost use Rattle.ostream.specs.Emission.{resultOf, written};
 ghost use Rattle.ostream.specs.Calls.{varintCall, unsignedCall, signedCall, booleanCall};
 
 fn bit(b: bool) -> u64
@@ -31,12 +31,12 @@ impl OStream {
         value: u64,
         place: usize,
     ) -> Written
-        ensures { λ r. ⌜ leftBy r (now (buf .exit)) ≡ written (varintCall self (length (now (buf .entry))) id wire value) self (now (buf .entry)) place ⌝ }
+        ensures { λ r. ⌜ resultOf r (now (buf .exit)) ≡ written (varintCall self (length (now (buf .entry))) id wire value) self (now (buf .entry)) place ⌝ }
     {
         if 0 < place {
-            return self.anew()
+            return self.rebuilt()
                 .write_varint_field_slowly(buf, id, wire, value, place)
-                .anew();
+                .rebuilt();
         }
         if at_ease(self.depth, self.npending, id) {
             let places = self.pending;
@@ -49,12 +49,12 @@ impl OStream {
                 };
             }
         }
-        self.anew()
+        self.rebuilt()
             .write_varint_field_slowly(buf, id, wire, value, place)
-            .anew()
+            .rebuilt()
     }
 
-    // The same from any state and place. (Read field by field, the state need not wait until its fields are stored.)
+    // The slow form of `write_varint_field`, from any state and place.
     fn write_varint_field_slowly(
         self,
         buf: &mut [u8],
@@ -63,9 +63,9 @@ impl OStream {
         value: u64,
         place: usize,
     ) -> Written
-        ensures { λ r. ⌜ leftBy r (now (buf .exit)) ≡ written (varintCall self (length (now (buf .entry))) id wire value) self (now (buf .entry)) place ⌝ }
+        ensures { λ r. ⌜ resultOf r (now (buf .exit)) ≡ written (varintCall self (length (now (buf .entry))) id wire value) self (now (buf .entry)) place ⌝ }
     {
-        let s = self.anew();
+        let s = self.rebuilt();
         let size = buf.len();
         let places = s.pending;
         let outcome = varint_field(
@@ -84,21 +84,21 @@ impl OStream {
 
     // An unsigned integer.
     pub fn write_unsigned(mut self, buf: &mut [u8], id: u32, value: u64, place: usize) -> Written
-        ensures { λ r. ⌜ leftBy r (now (buf .exit)) ≡ written (unsignedCall self (length (now (buf .entry))) id value) self (now (buf .entry)) place ⌝ }
+        ensures { λ r. ⌜ resultOf r (now (buf .exit)) ≡ written (unsignedCall self (length (now (buf .entry))) id value) self (now (buf .entry)) place ⌝ }
     {
         self.write_varint_field(buf, id, T_VARINT_UNSIGNED, value, place)
     }
 
     // A signed integer.
     pub fn write_signed(mut self, buf: &mut [u8], id: u32, value: i64, place: usize) -> Written
-        ensures { λ r. ⌜ leftBy r (now (buf .exit)) ≡ written (signedCall self (length (now (buf .entry))) id value) self (now (buf .entry)) place ⌝ }
+        ensures { λ r. ⌜ resultOf r (now (buf .exit)) ≡ written (signedCall self (length (now (buf .entry))) id value) self (now (buf .entry)) place ⌝ }
     {
         self.write_varint_field(buf, id, T_VARINT_SIGNED, zigzag_encode(value), place)
     }
 
     // A boolean, as an unsigned 0 or 1.
     pub fn write_boolean(mut self, buf: &mut [u8], id: u32, value: bool, place: usize) -> Written
-        ensures { λ r. ⌜ leftBy r (now (buf .exit)) ≡ written (booleanCall self (length (now (buf .entry))) id value) self (now (buf .entry)) place ⌝ }
+        ensures { λ r. ⌜ resultOf r (now (buf .exit)) ≡ written (booleanCall self (length (now (buf .entry))) id value) self (now (buf .entry)) place ⌝ }
     {
         self.write_unsigned(buf, id, bit(value), place)
     }

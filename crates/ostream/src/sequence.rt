@@ -9,20 +9,20 @@ use fields::put_marker;
 use held::add_id;
 use held::drop_id;
 use held::tagged;
-use straight::closes_at_ease;
-use straight::put_end;
 use types::ID_MAX;
 use types::LAZY_SEQ_DEPTH;
 use types::MAX_DEPTH;
 use types::T_SEQUENCE_START;
+use write_at_once::closes_at_ease;
+use write_at_once::put_end;
 ghost use mathlib.Core.Path.{_≡_};
 ghost use Prim.Native.Nat.{_≤_, _<_};
 ghost use mathlib.Core.Bool.{true};
 ghost use lib.ListN.{length};
 ghost use Rattle.layout.specs.Limits.{base};
 ghost use Rattle.ostream.specs.Stream.{lazyDepth, soundStream, holding, dropped};
-ghost use Rattle.ostream.specs.Straight.{holds};
-ghost use Rattle.ostream.specs.Emission.{leftBy, written};
+ghost use Rattle.ostream.specs.Private.{holds};
+ghost use Rattle.ostream.specs.Emission.{resultOf, written};
 ghost use Rattle.ostream.specs.Calls.{beginCall, endCall, endKeepCall};
 
 impl OStream {
@@ -70,7 +70,7 @@ impl OStream {
 
     // A sequence is opened, and its header held back until it has content.
     pub fn write_sequence_begin_lazy(mut self, buf: &mut [u8], id: u32, place: usize) -> Written
-        ensures { λ r. ⌜ leftBy r (now (buf .exit)) ≡ written (beginCall self (length (now (buf .entry))) id) self (now (buf .entry)) place ⌝ }
+        ensures { λ r. ⌜ resultOf r (now (buf .exit)) ≡ written (beginCall self (length (now (buf .entry))) id) self (now (buf .entry)) place ⌝ }
     {
         if place == 0 && self.can_hold(buf.len(), id) {
             return Written {
@@ -81,9 +81,9 @@ impl OStream {
         self.begin_slowly(buf, id, place)
     }
 
-    // The same from any state and place.
+    // The slow form of `write_sequence_begin_lazy`, from any state and place.
     fn begin_slowly(self, buf: &mut [u8], id: u32, place: usize) -> Written
-        ensures { λ r. ⌜ leftBy r (now (buf .exit)) ≡ written (beginCall self (length (now (buf .entry))) id) self (now (buf .entry)) place ⌝ }
+        ensures { λ r. ⌜ resultOf r (now (buf .exit)) ≡ written (beginCall self (length (now (buf .entry))) id) self (now (buf .entry)) place ⌝ }
     {
         let size = buf.len();
         let check = check_begin(self.sound(size), self.depth, id);
@@ -102,10 +102,10 @@ impl OStream {
 
     // The last opened sequence is closed; one that is held back vanishes.
     pub fn write_sequence_end(mut self, buf: &mut [u8], place: usize) -> Written
-        ensures { λ r. ⌜ leftBy r (now (buf .exit)) ≡ written (endCall self (length (now (buf .entry)))) self (now (buf .entry)) place ⌝ }
+        ensures { λ r. ⌜ resultOf r (now (buf .exit)) ≡ written (endCall self (length (now (buf .entry)))) self (now (buf .entry)) place ⌝ }
     {
         if 0 < place {
-            return self.anew().end_slowly(buf, place).anew();
+            return self.rebuilt().end_slowly(buf, place).rebuilt();
         }
         if closes_at_ease(self.depth, self.npending) {
             let places = self.pending;
@@ -119,12 +119,12 @@ impl OStream {
                 };
             }
         }
-        self.anew().end_slowly(buf, place).anew()
+        self.rebuilt().end_slowly(buf, place).rebuilt()
     }
 
-    // The same from any state and place.
+    // The slow form of `write_sequence_end`, from any state and place.
     fn end_slowly(self, buf: &mut [u8], place: usize) -> Written
-        ensures { λ r. ⌜ leftBy r (now (buf .exit)) ≡ written (endCall self (length (now (buf .entry)))) self (now (buf .entry)) place ⌝ }
+        ensures { λ r. ⌜ resultOf r (now (buf .exit)) ≡ written (endCall self (length (now (buf .entry)))) self (now (buf .entry)) place ⌝ }
     {
         let check = check_end(self.sound(buf.len()), self.depth);
         let error = check.error;
@@ -140,7 +140,7 @@ impl OStream {
     // The held headers and a close. (Both callers have made the tests of a close.)
     fn close(self, buf: &mut [u8], place: usize) -> Written
         requires { ⌜ (soundStream self (length (now buf)) ≡ true) × (0 < self .depth) ⌝ }
-        ensures { λ r. ⌜ leftBy r (now (buf .exit)) ≡ written (endKeepCall self (length (now (buf .entry)))) self (now (buf .entry)) place ⌝ }
+        ensures { λ r. ⌜ resultOf r (now (buf .exit)) ≡ written (endKeepCall self (length (now (buf .entry)))) self (now (buf .entry)) place ⌝ }
     {
         let size = buf.len();
         let places = self.pending;
@@ -150,7 +150,7 @@ impl OStream {
 
     // The last opened sequence is closed, and written even where it is empty.
     pub fn write_sequence_end_keep(mut self, buf: &mut [u8], place: usize) -> Written
-        ensures { λ r. ⌜ leftBy r (now (buf .exit)) ≡ written (endKeepCall self (length (now (buf .entry)))) self (now (buf .entry)) place ⌝ }
+        ensures { λ r. ⌜ resultOf r (now (buf .exit)) ≡ written (endKeepCall self (length (now (buf .entry)))) self (now (buf .entry)) place ⌝ }
     {
         let check = check_end(self.sound(buf.len()), self.depth);
         let error = check.error;

@@ -257,7 +257,7 @@ impl Output {
         }
     }
 
-    // The same of the rarer outputs; that none is longer than OUTPUT_MAX is known by its length.
+    // The rarer outputs; that none is longer than OUTPUT_MAX is known by its length.
     fn put_bounded(self, buf: &mut [u8], pos: usize) -> usize
         requires { ⌜ pos + outputMost ≤ length (now buf) ⌝ }
         ensures { λ r. ⌜ (r ≡ reached (now (buf .entry)) pos (outputBytes self)) × (now (buf .exit) ≡ put (now (buf .entry)) pos (outputBytes self)) × (length (outputBytes self) ≤ outputMost) ⌝ }

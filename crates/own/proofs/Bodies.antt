@@ -17,7 +17,7 @@ use Rattle.layout.specs.Field.{unsigned, signed, payload, unsignedArray, signed
 use Rattle.layout.specs.Copy.{fieldBytes}
 use Rattle.layout.specs.Message.{All, Bytes, depthAfter}
 use Rattle.varint.proofs.Zigzag.{zigzag-unzigzag}
-use Rattle.own.specs.Own.{AsIs, Numbers, Number, Body}
+use Rattle.own.specs.Own.{OwnFields, Numbers, Number, Body}
 use Rattle.own.proofs.Spans.{bytes-drop, bytes-front}
 use Rattle.own.proofs.Runs.{fields-one}
 
@@ -157,15 +157,15 @@ module _ (c : ℕ) (xs ys : List ℕ) (h : (c ≤ base .count) × (xs ≡ shorte
 headed : (h : ℕ) (w : Wire) → h % 8 ≡ wireNumber w → shortest h ≡ header (h / 8) w
 headed h w e = let s : h ≡ h / 8 * 8 + wireNumber w = omega arith in ap shortest s
 
-pub with-header : (h d : ℕ) (w : Wire) (bs : List ℕ) → h / 8 ≤ base .id → h % 8 ≡ wireNumber w → Body w bs → AsIs base d (shortest h ++ bs) d
-with-header h d w bs i e b = subst (λ (x : List ℕ). AsIs base d (x ++ bs) d) (sym (headed h w e)) (b (h / 8) d i)
+pub with-header : (h d : ℕ) (w : Wire) (bs : List ℕ) → h / 8 ≤ base .id → h % 8 ≡ wireNumber w → Body w bs → OwnFields base d (shortest h ++ bs) d
+with-header h d w bs i e b = subst (λ (x : List ℕ). OwnFields base d (x ++ bs) d) (sym (headed h w e)) (b (h / 8) d i)
 
-pub opens : (h d : ℕ) → h / 8 ≤ base .id → h % 8 ≡ 6 → d < base .depth → AsIs base d (shortest h ++ []) (d + 1)
+pub opens : (h d : ℕ) → h / 8 ≤ base .id → h % 8 ≡ 6 → d < base .depth → OwnFields base d (shortest h ++ []) (d + 1)
 unfolding fieldBytes depthAfter
 opens h d i e l =
-    subst (λ (n : ℕ). AsIs base d (shortest h ++ []) n) (sym (add-one d))
+    subst (λ (n : ℕ). OwnFields base d (shortest h ++ []) n) (sym (add-one d))
     (fields-one base d (begin (h / 8)) _ i l (append-nil (shortest h) ∙ headed h T-begin e))
 
-pub closes : (h d : ℕ) → h ≡ 7 → 0 < d → AsIs base d (shortest h ++ []) (d - 1)
+pub closes : (h d : ℕ) → h ≡ 7 → 0 < d → OwnFields base d (shortest h ++ []) (d - 1)
 unfolding fieldBytes depthAfter
 closes h d e l = fields-one base d (end 0) _ (omega arith) l (append-nil (shortest h) ∙ ap shortest e)

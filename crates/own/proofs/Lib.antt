@@ -3,4 +3,4 @@ pub mod Spans
 pub mod Varints
 pub mod Runs
 pub mod Bodies
-pub mod Places
+pub mod Parts

@@ -9,7 +9,7 @@ use lib.Bits.{bitOr}
 use lib.Dec.{ltb, lit<}
 use lib.ListN.{length, drop, getD}
 use borrow.Author.Tests.{ltb-true, ltb-false}
-use Rattle.layout.specs.Limits.{base, lastPlace, lastBound}
+use Rattle.layout.specs.Limits.{base, lastByte, lastBound}
 use Rattle.layout.specs.Varint.{digit, shortest}
 use Rattle.varint.specs.declared.Acc.{Acc}
 use Rattle.varint.specs.declared.Push.the-variants.{More, Value}
@@ -41,7 +41,7 @@ one-ends t at i e h l =
 
 pub record Under (t : List ℕ) (at i k v : ℕ) : Type 0 where
   pub place : i ≡ at + k
-  pub few : k ≤ lastPlace base
+  pub few : k ≤ lastByte base
   pub small : v < 128 ^ k
   pub bytes : List ℕ
   pub split : drop at t ≡ bytes ++ drop i t
@@ -89,7 +89,7 @@ module _ {t : List ℕ} {at i k v : ℕ} (u : Under t at i k v) (h : i < length 
   longer : drop at t ≡ (u .bytes ++ (getD t i 0 ∷ [])) ++ drop (i + 1) t
   longer = u .split ∙ ap (λ (l : List ℕ). u .bytes ++ l) (one-byte t i h) ∙ sym (append-assoc (u .bytes) (getD t i 0 ∷ []) (drop (i + 1) t))
 
-  pub under-more : k < lastPlace base → 128 ≤ getD t i 0 → getD t i 0 < 256 → Under t at (i + 1) (k + 1) (v + digit k (getD t i 0))
+  pub under-more : k < lastByte base → 128 ≤ getD t i 0 → getD t i 0 < 256 → Under t at (i + 1) (k + 1) (v + digit k (getD t i 0))
   under-more f l g =
       record {
         place = omega (arith, u .place);
@@ -133,17 +133,17 @@ module _ {t : List ℕ} {at i : ℕ} (s : Going t at i) where
   pub going-from : at ≤ i
   going-from = omega (arith, s .under .place)
 
-  pub going-more : i < length t → 128 ≤ getD t i 0 → getD t i 0 < 256 → i - at < lastPlace base → Going t at (i + 1)
+  pub going-more : i < length t → 128 ≤ getD t i 0 → getD t i 0 < 256 → i - at < lastByte base → Going t at (i + 1)
   going-more h l g f =
       record { taken = s .taken + 1; value = s .value + digit (s .taken) (getD t i 0); under = under-more (s .under) h (omega (arith, s .under .place)) l g }
 
   ending : (h : i < length t) → getD t i 0 < 128 → 0 < getD t i 0 → s .value + digit (s .taken) (getD t i 0) < 2 ^ base .bits → Ends t at Number (i + 1)
   ending h l g w = reaches (omega arith) (stretch-as (under-value (s .under) h l g) (λ bs q. (s .value + digit (s .taken) (getD t i 0), w, q)))
 
-  pub going-ends : i < length t → getD t i 0 < 128 → (getD t i 0 ≡ 0 → ⊥) → i - at < lastPlace base → Ends t at Number (i + 1)
+  pub going-ends : i < length t → getD t i 0 < 128 → (getD t i 0 ≡ 0 → ⊥) → i - at < lastByte base → Ends t at Number (i + 1)
   going-ends h l g f = ending h l (omega arith) (within base (s .taken) (s .value) (getD t i 0) (s .under .small) (omega (arith, s .under .place)))
 
-  pub going-last : i < length t → getD t i 0 ≡ 1 → lastPlace base ≤ i - at → Ends t at Number (i + 1)
+  pub going-last : i < length t → getD t i 0 ≡ 1 → lastByte base ≤ i - at → Ends t at Number (i + 1)
   going-last h e f =
       ending h (omega arith) (omega arith)
       (within-last base (s .taken) (s .value) (getD t i 0) (s .under .small) (omega (arith, s .under .place, s .under .few)) (omega arith))
@@ -155,19 +155,19 @@ record Last (a : Acc) (b v : ℕ) : Type 0 where
   is : v ≡ a .value + digit (a .taken) b
 
 record More-of (a : Acc) (b : ℕ) (n : Acc) : Type 0 where
-  few : a .taken < lastPlace base
+  few : a .taken < lastByte base
   above : 128 ≤ b
   taken : n .taken ≡ a .taken + 1
   is : n .value ≡ a .value + digit (a .taken) b
 
-module _ (a : Acc) (b : ℕ) (k : a .taken ≤ lastPlace base) (s : a .value < 128 ^ (a .taken)) where
+module _ (a : Acc) (b : ℕ) (k : a .taken ≤ lastByte base) (s : a .value < 128 ^ (a .taken)) where
   sum : bitOr (a .value) (digit (a .taken) b) ≡ a .value + digit (a .taken) b
   sum = joined (a .value) b (a .taken) s
 
   was-last : (v : ℕ) → pushed base a b ≡ Value v → Last a b v
-  was-last v e = go (ltb (a .taken) (lastPlace base)) refl (ltb b 128) refl (ltb b (lastBound base)) refl
+  was-last v e = go (ltb (a .taken) (lastByte base)) refl (ltb b 128) refl (ltb b (lastBound base)) refl
     where
-      go : (x : Bool) → ltb (a .taken) (lastPlace base) ≡ x → (y : Bool) → ltb b 128 ≡ y → (z : Bool) → ltb b (lastBound base) ≡ z → Last a b v
+      go : (x : Bool) → ltb (a .taken) (lastByte base) ≡ x → (y : Bool) → ltb b 128 ≡ y → (z : Bool) → ltb b (lastBound base) ≡ z → Last a b v
       go true p true q z r =
           let f = pushed-ends base a b (ltb-true _ _ p) (ltb-true _ _ q) ∙ e in
           let g : bitOr (a .value) (digit (a .taken) b) ≡ v = cc in
@@ -175,15 +175,15 @@ module _ (a : Acc) (b : ℕ) (k : a .taken ≤ lastPlace base) (s : a .value < 1
       go true p false q z r = absurd (let f = pushed-on base a b (ltb-true _ _ p) (ltb-false _ _ q) ∙ e in let z : _≡_ {A = ℕ} 0 1 = cc in omega arith)
       go false p y q true r =
           let f = pushed-last base a b (ltb-false _ _ p) (ltb-true _ _ r) ∙ e in
-          let g : bitOr (a .value) (digit (lastPlace base) b) ≡ v = cc in
-          let i : a .taken ≡ lastPlace base = omega (arith, ltb-false (a .taken) (lastPlace base) p) in
+          let g : bitOr (a .value) (digit (lastByte base) b) ≡ v = cc in
+          let i : a .taken ≡ lastByte base = omega (arith, ltb-false (a .taken) (lastByte base) p) in
           record { below = omega (arith, ltb-true b (lastBound base) r); is = sym g ∙ ap (λ (j : ℕ). bitOr (a .value) (digit j b)) (sym i) ∙ sum }
       go false p y q false r = absurd (let f = pushed-over base a b (ltb-false _ _ p) (ltb-false _ _ r) ∙ e in let z : _≡_ {A = ℕ} 0 1 = cc in omega arith)
 
   was-more : (n : Acc) → pushed base a b ≡ More n → More-of a b n
-  was-more n e = go (ltb (a .taken) (lastPlace base)) refl (ltb b 128) refl (ltb b (lastBound base)) refl
+  was-more n e = go (ltb (a .taken) (lastByte base)) refl (ltb b 128) refl (ltb b (lastBound base)) refl
     where
-      go : (x : Bool) → ltb (a .taken) (lastPlace base) ≡ x → (y : Bool) → ltb b 128 ≡ y → (z : Bool) → ltb b (lastBound base) ≡ z → More-of a b n
+      go : (x : Bool) → ltb (a .taken) (lastByte base) ≡ x → (y : Bool) → ltb b 128 ≡ y → (z : Bool) → ltb b (lastBound base) ≡ z → More-of a b n
       go true p true q z r = absurd (let f = pushed-ends base a b (ltb-true _ _ p) (ltb-true _ _ q) ∙ e in let z : _≡_ {A = ℕ} 0 1 = cc in omega arith)
       go true p false q z r =
           let f = pushed-on base a b (ltb-true _ _ p) (ltb-false _ _ q) ∙ e in

@@ -12,7 +12,7 @@ use Rattle.layout.specs.Message.{All}
 use Rattle.laws.specs.Legal.{Legal, Balanced}
 
 -- bytes that are whole fields in their shortest form, from one depth to another
-pub record AsIs (L : Limits) (d : ℕ) (bs : List ℕ) (e : ℕ) : Type 0 where
+pub record OwnFields (L : Limits) (d : ℕ) (bs : List ℕ) (e : ℕ) : Type 0 where
   pub fields : List Field
   pub legal : All (Legal L) fields
   pub balanced : Balanced L d fields e
@@ -31,7 +31,7 @@ Number bs = (v : ℕ) × (v < 2 ^ base .bits) × (bs ≡ shortest v)
 
 -- what makes a field in its shortest form of a header of this type, whatever the id; the depth stays
 abbrev pub Body : Wire → List ℕ → Type 0
-Body w bs = (id d : ℕ) → id ≤ base .id → AsIs base d (header id w ++ bs) d
+Body w bs = (id d : ℕ) → id ≤ base .id → OwnFields base d (header id w ++ bs) d
 
 -- the bytes of t from one place to another are such
 pub record Stretch (t : List ℕ) (at i : ℕ) (P : List ℕ → Type 0) : Type 0 where

@@ -9,13 +9,13 @@ ghost use lib.ListN.{length, take};
 ghost use Rattle.layout.specs.Limits.{base};
 ghost use Rattle.layout.specs.Varint.{shortest};
 ghost use Rattle.layout.specs.Field.{T-fixlen, T-unsigneds, T-signeds, T-floats};
-ghost use Rattle.own.specs.Own.{AsIs, Numbers, Number, Body, Stretch, Ends};
+ghost use Rattle.own.specs.Own.{OwnFields, Numbers, Number, Body, Stretch, Ends};
 use types::ARRAY_MAX;
 use types::FIXLEN_MAX;
 use types::ID_MAX;
 use types::MAX_DEPTH;
 use varint::Acc;
-use varint::LAST_PLACE;
+use varint::LAST_BYTE;
 use varint::Push;
 
 // Fields: how many bytes they have, and the depth after them.
@@ -50,14 +50,14 @@ struct Next {
 
 // ---- varints
 
-// A varint whose value is not asked for. It has two callers, so that the compiler keeps it out of line.
+// A varint whose value is not asked for, out of line.
 fn long_number_at(t: &[u8], at: usize) -> usize
     ensures { λ r. ⌜ Ends (now (t .entry)) at Number r ⌝ }
 {
     let mut i = at;
     while i < t.len() {
         let b = t[i];
-        if i - at < LAST_PLACE as usize {
+        if i - at < LAST_BYTE as usize {
             if b < 128 {
                 if i == at {
                     return i + 1;
@@ -98,7 +98,7 @@ fn number_at(t: &[u8], at: usize) -> usize
     long_number_at(t, at)
 }
 
-// A varint with its value, out of line as well.
+// A varint with its value, out of line.
 fn long_value_at(t: &[u8], at: usize) -> Found
     ensures { λ r. ⌜ Ends (now (t .entry)) at (λ bs. bs ≡ shortest (r .value)) (r .end) ⌝ }
 {
@@ -315,7 +315,7 @@ fn float_array_at(t: &[u8], at: usize) -> usize
 // What follows the header h.
 fn body_at(t: &[u8], at: usize, h: u64, depth: u8) -> Next
     requires { ⌜ (at ≤ length (now t)) × (h / 8 ≤ base .id) ⌝ }
-    ensures { λ r. ⌜ Ends (now (t .entry)) at (λ bs. AsIs base depth (shortest h ++ bs) (r .depth)) (r .at) ⌝ }
+    ensures { λ r. ⌜ Ends (now (t .entry)) at (λ bs. OwnFields base depth (shortest h ++ bs) (r .depth)) (r .at) ⌝ }
 {
     match h % 8 {
         0 | 1 => Next {
@@ -360,7 +360,7 @@ fn body_at(t: &[u8], at: usize, h: u64, depth: u8) -> Next
 
 // The place after a scalar of two bytes, or 0.
 fn small_at(t: &[u8], at: usize) -> usize
-    ensures { λ r. ⌜ Ends (now (t .entry)) at (λ bs. (d : ℕ) → AsIs base d bs d) r ⌝ }
+    ensures { λ r. ⌜ Ends (now (t .entry)) at (λ bs. (d : ℕ) → OwnFields base d bs d) r ⌝ }
 {
     if at < t.len() {
         if at + 1 < t.len() {
@@ -378,7 +378,7 @@ fn small_at(t: &[u8], at: usize) -> usize
 }
 
 fn field_at(t: &[u8], at: usize, depth: u8) -> Next
-    ensures { λ r. ⌜ Ends (now (t .entry)) at (λ bs. AsIs base depth bs (r .depth)) (r .at) ⌝ }
+    ensures { λ r. ⌜ Ends (now (t .entry)) at (λ bs. OwnFields base depth bs (r .depth)) (r .at) ⌝ }
 {
     let small = small_at(t, at);
     if 0 < small {
@@ -395,7 +395,7 @@ fn field_at(t: &[u8], at: usize, depth: u8) -> Next
 
 // How far whole fields in their shortest form go, from this depth on; none where the first isn't so, or isn't whole.
 pub fn fields(bytes: &[u8], depth: u8) -> Run
-    ensures { λ r. ⌜ (r .len ≤ length (now (bytes .entry))) × AsIs base depth (take (r .len) (now (bytes .entry))) (r .depth) ⌝ }
+    ensures { λ r. ⌜ (r .len ≤ length (now (bytes .entry))) × OwnFields base depth (take (r .len) (now (bytes .entry))) (r .depth) ⌝ }
 {
     let mut at = 0;
     let mut d = depth;

@@ -9,7 +9,7 @@ use lib.Seq.{paste}
 use lib.Dec.{eqb}
 use borrow.Author.Tests.{lt-ltb, le-ltb, le-leb, lt-leb, eq-eqb, ne-eqb}
 use Rattle.payload.specs.declared.PayloadAcc.{PayloadAcc}
-use Rattle.payload.specs.Gather.{Gathered, nothing, inChunk, inBuffer, number, fresh, begun, untouched, owed, copied, atOnce, accepted, gathered}
+use Rattle.payload.specs.Gather.{Gathered, nothing, inChunk, inBuffer, number, fresh, begun, untouched, owed, copied, holdsWhole, accepted, gathered}
 
 -- ---- the copy, of n bytes into what is then b′
 
@@ -35,11 +35,11 @@ module _ (a : PayloadAcc) (b : List ℕ) (total offset : ℕ) (chunk : List ℕ)
     too-long h = simp (e, lt-ltb _ _ h)
 
     module _ (h : total ≤ length b) where
-      pub whole-chunk : atOnce total offset (length chunk) ≡ true → untouched (inChunk total) (record { len = 0; complete = true }) b ≡ accepted a b total offset chunk
+      pub whole-chunk : holdsWhole total offset (length chunk) ≡ true → untouched (inChunk total) (record { len = 0; complete = true }) b ≡ accepted a b total offset chunk
       unfolding accepted
       whole-chunk w = simp (e, le-ltb _ _ h, w)
 
-      module _ (w : atOnce total offset (length chunk) ≡ false) where
+      module _ (w : holdsWhole total offset (length chunk) ≡ false) where
         pub elsewhere : (offset ≡ a .len → ⊥) → untouched nothing a b ≡ accepted a b total offset chunk
         unfolding accepted
         elsewhere d = simp (e, le-ltb _ _ h, w, ne-eqb _ _ d)

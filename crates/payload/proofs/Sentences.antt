@@ -9,7 +9,7 @@ use lib.ListN.{length, drop}
 use lib.Seq.{paste, paste-zero, drop-paste, drop-drop}
 use borrow.Author.Tests.{le-leb, ne-eqb, leb-true, leb-false}
 use Rattle.payload.specs.declared.PayloadAcc.{PayloadAcc}
-use Rattle.payload.specs.Gather.{Gathered, nothing, inChunk, inBuffer, number, fresh, begun, untouched, owed, copied, atOnce, accepted, gathered}
+use Rattle.payload.specs.Gather.{Gathered, nothing, inChunk, inBuffer, number, fresh, begun, untouched, owed, copied, holdsWhole, accepted, gathered}
 use Rattle.payload.proofs.Cases.{over-already, too-long, whole-chunk, elsewhere, next, in-order, begun-within, either}
 
 -- nothing is owed of a total that shrank
@@ -43,11 +43,11 @@ module _ (a : PayloadAcc) (b : List ℕ) (total : ℕ) (chunk : List ℕ) (s : a
   pub forgets : gathered a b total 0 chunk ≡ gathered fresh b total 0 chunk
   forgets = in-order a b total 0 chunk s ∙ sym (in-order fresh b total 0 chunk (omega arith))
 
-  -- "If the first chunk holds the whole, the answer is that part of the chunk and the buffer is untouched."
+  -- "If the first chunk holds the whole, the answer is that part of the chunk and the buffer is untouched".
   pub in-one-chunk : total ≤ length b → total ≤ length chunk → gathered a b total 0 chunk ≡ untouched (inChunk total) (record { len = 0; complete = true }) b
   in-one-chunk f h = in-order a b total 0 chunk s ∙ sym (whole-chunk fresh b total 0 chunk refl f (le-leb _ _ h))
 
-  -- "Number 4 .. the buffer is unaltered, and the state too but for that reset": at offset 0,
+  -- Number 4: "the buffer is unaltered, and the state too but for that reset": at offset 0,
   pub refused-at-start : length b < total → gathered a b total 0 chunk ≡ untouched (number 4) fresh b
   refused-at-start h = in-order a b total 0 chunk s ∙ sym (too-long fresh b total 0 chunk refl h)
 
@@ -62,12 +62,13 @@ module _ (a : PayloadAcc) (b : List ℕ) (total : ℕ) (chunk : List ℕ) (s : a
     pub refused-later : a .complete ≡ false → length b < total → gathered a b total offset chunk ≡ untouched (number 4) a b
     refused-later e h = goes-on ∙ sym (too-long a b total offset chunk e h)
 
-    -- "A chunk .. with offset above 0 after completion, answers nothing yet."
+    -- "A chunk at any other offset than the length held, or one with offset above 0 after completion, answers "nothing yet"": after
+    -- completion,
     pub after-completion : a .complete ≡ true → gathered a b total offset chunk ≡ untouched nothing a b
     after-completion e = goes-on ∙ sym (over-already a b total offset chunk e)
 
     module _ (e : a .complete ≡ false) (f : total ≤ length b) where
-      -- "A chunk at any other offset than the length held .. answers nothing yet."
+      -- and at another offset than the length held.
       pub other-offset : (offset ≡ a .len → ⊥) → gathered a b total offset chunk ≡ untouched nothing a b
       other-offset d = goes-on ∙ sym (elsewhere a b total offset chunk e f (ap (λ (t : Bool). t && leb total (length chunk)) not-start) d)
 
@@ -87,7 +88,7 @@ unfolding accepted
 accepted-kept a b total offset chunk s =
     either (Kept b total) (a .complete) (λ e. record { beyond = refl }) λ e.
     either (Kept b total) (ltb (length b) total) (λ e. record { beyond = refl }) λ e.
-    either (Kept b total) (atOnce total offset (length chunk)) (λ e. record { beyond = refl }) λ e.
+    either (Kept b total) (holdsWhole total offset (length chunk)) (λ e. record { beyond = refl }) λ e.
     either (Kept b total) (eqb offset (a .len)) (λ e. record { beyond = copy-within a b total chunk s }) λ e. record { beyond = refl }
 
 pub none-beyond : (a : PayloadAcc) (b : List ℕ) (total offset : ℕ) (chunk : List ℕ) → a .len ≤ length b → drop total (gathered a b total offset chunk .buf) ≡ drop total b

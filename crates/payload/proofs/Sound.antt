@@ -9,7 +9,7 @@ use lib.ListN.{length}
 use lib.Seq.{paste, length-paste}
 use borrow.Author.Tests.{le-leb, leb-true, ltb-false}
 use Rattle.payload.specs.declared.PayloadAcc.{PayloadAcc}
-use Rattle.payload.specs.Gather.{Gathered, sound, fresh, begun, owed, copied, atOnce, accepted, gathered}
+use Rattle.payload.specs.Gather.{Gathered, sound, fresh, begun, owed, copied, holdsWhole, accepted, gathered}
 use Rattle.payload.proofs.Cases.{in-order, begun-within, either}
 
 pub sound-fresh : (b : List ℕ) → sound fresh b ≡ true
@@ -30,7 +30,7 @@ unfolding accepted
 accepted-within a b total offset chunk h =
     either Within (a .complete) (λ e. record { held = h }) λ e.
     either Within (ltb (length b) total) (λ e. record { held = h }) λ fits.
-    either Within (atOnce total offset (length chunk)) (λ e. record { held = omega arith }) λ e.
+    either Within (holdsWhole total offset (length chunk)) (λ e. record { held = omega arith }) λ e.
     either Within (eqb offset (a .len)) (λ e. copied-within a b total chunk h (ltb-false _ _ fits)) λ e. record { held = h }
 
 pub sound-kept : (a : PayloadAcc) (b : List ℕ) (total offset : ℕ) (chunk : List ℕ) → sound a b ≡ true

@@ -122,8 +122,8 @@ module _ (a : PayloadAcc) (b : List ℕ) (total : ℕ) (p : List ℕ) (s : sound
   starts-split h = starts ∙ next fresh b total 0 p refl fits (lt-leb _ _ h) refl
 
 -- a payload whole in its one chunk
-at-once-told : (b p w : List ℕ) → w ≡ p → told (untouched (inChunk (length w)) (record { len = 0; complete = true }) b) p ≡ whole w
-at-once-told b p w e =
+holds-whole-told : (b p w : List ℕ) → w ≡ p → told (untouched (inChunk (length w)) (record { len = 0; complete = true }) b) p ≡ whole w
+holds-whole-told b p w e =
     let s : 0 ≤ length b = omega arith in
     let f : length p ≤ length p = omega arith in
     ap (λ (y : List ℕ). told (untouched (inChunk (length y)) (record { len = 0; complete = true }) b) p) e ∙ simp (le-leb _ _ s, le-leb _ _ f, take-length p, e)
@@ -132,12 +132,12 @@ at-once-told b p w e =
 pub whole-at-last : (a : PayloadAcc) (b : List ℕ) (ps : List (List ℕ)) → Pieces ps → sound a b ≡ true → length (joined ps) ≤ length b
     → outcomes (handedWhole a b ps) ≡ atLast (length ps) (joined ps)
 unfolding handed
-whole-at-last a b ps empty s h = first-outcome a b 0 0 [] [] _ (starts-whole a b 0 [] s h (omega arith)) (at-once-told b [] [] refl) refl
+whole-at-last a b ps empty s h = first-outcome a b 0 0 [] [] _ (starts-whole a b 0 [] s h (omega arith)) (holds-whole-told b [] [] refl) refl
 whole-at-last a b ps (split (one {x} {p})) s h =
     let q : List ℕ = x ∷ p in
     let j : q ++ [] ≡ q = append-nil q in
     let k : length (q ++ []) ≡ length q = ap length j in
-    first-outcome a b (length (q ++ [])) 0 q [] _ (starts-whole a b (length (q ++ [])) q s h (omega arith)) (at-once-told b q (q ++ []) j) refl
+    first-outcome a b (length (q ++ [])) 0 q [] _ (starts-whole a b (length (q ++ [])) q s h (omega arith)) (holds-whole-told b q (q ++ []) j) refl
 whole-at-last a b ps (split (more {x} {p} {ps = rest} t)) s h =
     let q : List ℕ = x ∷ p in
     let total : ℕ = length (q ++ joined rest) in

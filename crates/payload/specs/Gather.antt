@@ -32,9 +32,9 @@ pub record Gathered : Type 0 where
   pub acc : PayloadAcc
   pub buf : List ℕ
 
--- The same of the code's result, and of the buffer as the call leaves it.
-abbrev pub leftBy : Fed → List ℕ → Gathered
-leftBy r b = record { said = saidOf (r .answer); acc = r .acc; buf = b }
+-- The code's result and the buffer as the call leaves it, as such a record.
+abbrev pub resultOf : Fed → List ℕ → Gathered
+resultOf r b = record { said = saidOf (r .answer); acc = r .acc; buf = b }
 
 -- "Gatherer: length held at most the lent buffer's."
 abbrev pub sound : PayloadAcc → List ℕ → Bool
@@ -67,17 +67,17 @@ copied a b total chunk =
     }
 
 -- "If the first chunk holds the whole"
-abbrev pub atOnce : ℕ → ℕ → ℕ → Bool
-atOnce total offset given = eqb offset 0 && leb total given
+abbrev pub holdsWhole : ℕ → ℕ → ℕ → Bool
+holdsWhole total offset given = eqb offset 0 && leb total given
 
 -- A state that is sound and has forgotten what it had to: one after completion says "nothing yet"; then comes number 4; then "the answer is that
--- part of the chunk and the buffer is untouched"; "a chunk at any other offset than the length held .. answers nothing yet".
+-- part of the chunk and the buffer is untouched"; "a chunk at any other offset than the length held" has "nothing yet".
 unfoldable pub accepted : PayloadAcc → List ℕ → ℕ → ℕ → List ℕ → Gathered
 unfolding copied
 accepted a b total offset chunk =
     cond (a .complete) (untouched nothing a b)
     (cond (ltb (length b) total) (untouched (number 4) a b)
-    (cond (atOnce total offset (length chunk)) (untouched (inChunk total) (record { len = 0; complete = true }) b)
+    (cond (holdsWhole total offset (length chunk)) (untouched (inChunk total) (record { len = 0; complete = true }) b)
     (cond (eqb offset (a .len)) (copied a b total chunk)
     (untouched nothing a b))))
 

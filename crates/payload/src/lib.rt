@@ -6,7 +6,7 @@ ghost use mathlib.Core.Bool.{false};
 ghost use Prim.Native.Nat.{_+_, _≤_};
 ghost use lib.ListN.{length};
 ghost use lib.Seq.{paste};
-ghost use Rattle.payload.specs.Gather.{saidOf, leftBy, fresh, begun, owed, atOnce, accepted, copied, gathered, firstOf, partOf};
+ghost use Rattle.payload.specs.Gather.{saidOf, resultOf, fresh, begun, owed, holdsWhole, accepted, copied, gathered, firstOf, partOf};
 
 // How much of the current payload the lent buffer holds, and whether that payload was already whole.
 pub struct PayloadAcc {
@@ -27,7 +27,7 @@ pub struct Fed {
     pub acc: PayloadAcc,
 }
 
-// A loop with one counter and no test but its own, which the compiler turns into a copy in blocks.
+// The first n bytes of src into buf, from pos on.
 fn copy_in(buf: &mut [u8], pos: usize, src: &[u8], n: usize)
     requires { ⌜ (pos + n ≤ length (now buf)) × (n ≤ length (now src)) ⌝ }
     ensures { λ r. ⌜ now (buf .exit) ≡ paste (now (buf .entry)) pos (now (src .entry)) n ⌝ }
@@ -51,8 +51,8 @@ fn owing(held: usize, total: usize, given: usize) -> usize
 }
 
 // Whether a chunk of so many bytes holds the whole payload.
-fn at_once(total: usize, offset: usize, given: usize) -> bool
-    ensures { λ r. ⌜ r ≡ atOnce total offset given ⌝ }
+fn holds_whole(total: usize, offset: usize, given: usize) -> bool
+    ensures { λ r. ⌜ r ≡ holdsWhole total offset given ⌝ }
 {
     offset == 0 && total <= given
 }
@@ -83,7 +83,7 @@ impl PayloadAcc {
     // The next bytes of the payload held, and no more than it owes.
     fn append(mut self, buf: &mut [u8], total: usize, chunk: &[u8]) -> Fed
         requires { ⌜ (self .len ≤ length (now buf)) × (total ≤ length (now buf)) × (self .complete ≡ false) ⌝ }
-        ensures { λ r. ⌜ leftBy r (now (buf .exit)) ≡ copied self (now (buf .entry)) total (now (chunk .entry)) ⌝ }
+        ensures { λ r. ⌜ resultOf r (now (buf .exit)) ≡ copied self (now (buf .entry)) total (now (chunk .entry)) ⌝ }
     {
         let held = self.len;
         let n = owing(held, total, chunk.len());
@@ -106,7 +106,7 @@ impl PayloadAcc {
     // The order of the tests is 01's: a payload already whole, number 4, whole in the chunk, another offset than the length held.
     fn accept(mut self, buf: &mut [u8], total: usize, offset: usize, chunk: &[u8]) -> Fed
         requires { ⌜ self .len ≤ length (now buf) ⌝ }
-        ensures { λ r. ⌜ leftBy r (now (buf .exit)) ≡ accepted self (now (buf .entry)) total offset (now (chunk .entry)) ⌝ }
+        ensures { λ r. ⌜ resultOf r (now (buf .exit)) ≡ accepted self (now (buf .entry)) total offset (now (chunk .entry)) ⌝ }
     {
         if self.complete {
             return Fed {
@@ -120,7 +120,7 @@ impl PayloadAcc {
                 acc: self,
             };
         }
-        if at_once(total, offset, chunk.len()) {
+        if holds_whole(total, offset, chunk.len()) {
             self.len = 0;
             self.complete = true;
             return Fed {
@@ -139,9 +139,9 @@ impl PayloadAcc {
 
     // Takes one piece of a payload of `total` bytes: the chunk, which starts at `offset` in it.
     pub fn feed(self, buf: &mut [u8], total: usize, offset: usize, chunk: &[u8]) -> Fed
-        ensures { λ r. ⌜ leftBy r (now (buf .exit)) ≡ gathered self (now (buf .entry)) total offset (now (chunk .entry)) ⌝ }
+        ensures { λ r. ⌜ resultOf r (now (buf .exit)) ≡ gathered self (now (buf .entry)) total offset (now (chunk .entry)) ⌝ }
     {
-        // Built from its fields: a copied struct takes its padding along, through memory, and over small pieces that costs more than their bytes.
+        // Rebuilt from its fields (docs/PERFORMANCE.md).
         let held = PayloadAcc {
             len: self.len,
             complete: self.complete,

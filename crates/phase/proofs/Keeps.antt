@@ -12,7 +12,7 @@ use Rattle.layout.specs.Field.{T-unsigned, T-signed, T-fixlen, T-unsigneds, T-s
 use Rattle.layout.specs.Event.{Event}
 use Rattle.machine.specs.Machine.{Phase, inHeader, inUnsigned, inSigned, inWord, inUnsignedCount, inSignedCount, inFloatCount, inArrayWord, inFloat, inPayload}
 use Rattle.machine.specs.Machine.{Stepped, nextOr, atWire, atHeader, atPayload, atSubtype, atWord, atUnsignedCount, atSignedCount, atFloatCount, atElement, atArrayWord, atUnsigned, atSigned, atFloat, within, step}
-use Rattle.machine.specs.Call.{reading}
+use Rattle.machine.specs.Calls.{reading}
 use Rattle.varint.specs.declared.Acc.{Acc}
 use Rattle.varint.specs.declared.Push.{Push}
 use Rattle.varint.specs.declared.Push.the-variants.{More, Value, Overlong}

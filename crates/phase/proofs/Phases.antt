@@ -14,7 +14,7 @@ use Rattle.layout.specs.Limits.{Limits}
 use Rattle.layout.specs.Field.{Width, Raw, bytesOf, fp32, fp64, string, blob}
 use Rattle.machine.specs.Machine as machine
 use Rattle.machine.specs.Machine.{inHeader, inUnsigned, inSigned, inWord, inUnsignedCount, inSignedCount, inFloatCount, inArrayWord, inFloat, inPayload, idle, nextOr, firstOr}
-use Rattle.machine.specs.Call.{State, reading, owing, broke}
+use Rattle.machine.specs.Calls.{State, reading, owing, broke}
 use Rattle.types.specs.declared.FloatType.{FloatType}
 use Rattle.types.specs.declared.FloatType.the-variants as Floats
 use Rattle.types.specs.declared.RawType.{RawType}

@@ -7,8 +7,8 @@ use Rattle.layout.specs.Limits.{Limits}
 use Rattle.layout.specs.Field.{Raw}
 use Rattle.machine.specs.Machine as machine
 use Rattle.machine.specs.Machine.{inHeader, inUnsigned, inSigned, inWord, inUnsignedCount, inSignedCount, inFloatCount, inArrayWord, inFloat, inPayload}
-use Rattle.machine.specs.Call.{reading, scan, scanned, paceOf, byte}
-use Rattle.machine.specs.Call as pieces
+use Rattle.machine.specs.Calls.{reading, scan, scanned, paceOf, byte}
+use Rattle.machine.specs.Calls as pieces
 
 pub scan-byte : (L : Limits) (n d : ℕ) (p : machine.Phase) (b : ℕ) (bs : List ℕ) → paceOf p ≡ byte → scan L n d p (b ∷ bs) ≡ scanned (suc n) (machine.step L d p b) (λ d′ p′. scan L (suc n) d′ p′ bs)
 unfolding scan

@@ -6,7 +6,7 @@ use Rattle.layout.specs.Limits.{Limits}
 use Rattle.layout.specs.Field.{bytesOf}
 use Rattle.machine.specs.Machine as machine
 use Rattle.machine.specs.Machine.{inHeader, inUnsigned, inSigned, inWord, inUnsignedCount, inSignedCount, inFloatCount, inArrayWord, inFloat, inPayload}
-use Rattle.machine.specs.Call.{State, reading, owing, broke}
+use Rattle.machine.specs.Calls.{State, reading, owing, broke}
 use Rattle.types.specs.Types.{width, floatType, rawSort, rawType}
 use Rattle.varint.specs.declared.Acc.{Acc}
 use Rattle.varint.specs.Varint.{soundAcc}
@@ -65,7 +65,7 @@ carriedOf st = carriedAt (depthOf st)
 
 -- "Only numbers in force are tested. Reader: id to `ID_MAX`, depth to 255; within a varint k bytes taken, 0 to 9, value below 2 to the 7k;
 -- within a float fewer bytes than its width, value below 256 to that number; elements left to 2,147,483,647; within a payload, total 1
--- to 2,147,483,647 and offset below it." "A broken reader has no number in force."
+-- to 2,147,483,647 and offset below it." "A broken reader has no number in force".
 abbrev pub idIn : Limits → ℕ → Bool
 idIn L id = leb id (L .id)
 

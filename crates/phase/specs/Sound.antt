@@ -5,7 +5,7 @@ use mathlib.Core.List.{[], _∷_}
 use Rattle.layout.specs.Limits.{Limits}
 use Rattle.layout.specs.Field.{bytesOf}
 use Rattle.machine.specs.Machine.{Phase, inHeader, inUnsigned, inSigned, inWord, inUnsignedCount, inSignedCount, inFloatCount, inArrayWord, inFloat, inPayload, Stepped, on, bad}
-use Rattle.machine.specs.Call.{State, reading, owing, broke, paceOf, byte, raisedState}
+use Rattle.machine.specs.Calls.{State, reading, owing, broke, paceOf, byte, raisedState}
 use Rattle.varint.specs.Varint.{Sound}
 use Rattle.event.specs.Event.{declared}
 

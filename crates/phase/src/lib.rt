@@ -144,8 +144,8 @@ pub fn sound(phase: Phase) -> bool
     }
 }
 
-// A varint under way, made anew from its numbers.
-fn acc_anew(a: Acc) -> Acc
+// A varint under way, rebuilt from its numbers.
+fn acc_rebuilt(a: Acc) -> Acc
     ensures { λ r. ⌜ r ≡ a ⌝ }
 {
     Acc {
@@ -154,19 +154,19 @@ fn acc_anew(a: Acc) -> Acc
     }
 }
 
-// A phase, made anew from its numbers: docs/PERFORMANCE.md says why.
-pub fn anew(phase: Phase) -> Phase
+// A phase, rebuilt from its numbers: docs/PERFORMANCE.md says why.
+pub fn rebuilt(phase: Phase) -> Phase
     ensures { λ r. ⌜ r ≡ phase ⌝ }
 {
     match phase {
-        Phase::Header(a) => Phase::Header(acc_anew(a)),
-        Phase::Unsigned(id, left, a) => Phase::Unsigned(id, left, acc_anew(a)),
-        Phase::Signed(id, left, a) => Phase::Signed(id, left, acc_anew(a)),
-        Phase::Word(id, a) => Phase::Word(id, acc_anew(a)),
-        Phase::UnsignedCount(id, a) => Phase::UnsignedCount(id, acc_anew(a)),
-        Phase::SignedCount(id, a) => Phase::SignedCount(id, acc_anew(a)),
-        Phase::FloatCount(id, a) => Phase::FloatCount(id, acc_anew(a)),
-        Phase::ArrayWord(id, count, a) => Phase::ArrayWord(id, count, acc_anew(a)),
+        Phase::Header(a) => Phase::Header(acc_rebuilt(a)),
+        Phase::Unsigned(id, left, a) => Phase::Unsigned(id, left, acc_rebuilt(a)),
+        Phase::Signed(id, left, a) => Phase::Signed(id, left, acc_rebuilt(a)),
+        Phase::Word(id, a) => Phase::Word(id, acc_rebuilt(a)),
+        Phase::UnsignedCount(id, a) => Phase::UnsignedCount(id, acc_rebuilt(a)),
+        Phase::SignedCount(id, a) => Phase::SignedCount(id, acc_rebuilt(a)),
+        Phase::FloatCount(id, a) => Phase::FloatCount(id, acc_rebuilt(a)),
+        Phase::ArrayWord(id, count, a) => Phase::ArrayWord(id, count, acc_rebuilt(a)),
         Phase::Float(id, w, left, k, v) => Phase::Float(id, w, left, k, v),
         Phase::Payload(id, r, total, offset) => Phase::Payload(id, r, total, offset),
         Phase::Empty(id, r) => Phase::Empty(id, r),

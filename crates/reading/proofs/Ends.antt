@@ -9,8 +9,8 @@ use mathlib.Core.List.{List, [], _∷_}
 use lib.ListN.{length, drop}
 use Rattle.layout.specs.Limits.{Limits, pick}
 use Rattle.layout.specs.Event as layout
-use Rattle.machine.specs.Call as machine
-use Rattle.machine.specs.Call.{State, reading, owing, broke, call}
+use Rattle.machine.specs.Calls as machine
+use Rattle.machine.specs.Calls.{State, reading, owing, broke, call}
 use Rattle.machine.specs.Run.{Ending, ended, unfinished}
 use Rattle.machine.proofs.Ends.{turns, one-empty, call-nearer}
 use Rattle.types.specs.Types.{refusal}
@@ -27,7 +27,7 @@ use Rattle.reading.specs.Feeds.{Fed, feeds, feed}
 -- ---- one call
 
 -- an event of the reader's is the machine's
-event-from : (k : ℕ) (a : machine.Answer) (e : Events.Event) → answerIn k a ≡ Event e → (x : layout.Event) × (a ≡ machine.event x)
+event-from : (k : ℕ) (a : machine.Said) (e : Events.Event) → answerIn k a ≡ Event e → (x : layout.Event) × (a ≡ machine.event x)
 event-from k (machine.event x) e h = (x, refl)
 event-from k (machine.verdict v) e h = let z : _≡_ {A = ℕ} 0 1 = cc in absurd (omega arith)
 event-from k machine.invalid e h = let z : _≡_ {A = ℕ} 0 1 = cc in absurd (omega arith)

@@ -17,9 +17,9 @@ use Rattle.layout.specs.Message.{All, Bytes, complete, incomplete, eventsOf, ve
 use Rattle.layout.proofs.Joined.{joined-run}
 use Rattle.machine.specs.Machine.{Phase, inHeader, inUnsigned, inSigned, inWord, inUnsignedCount, inSignedCount, inFloatCount, inArrayWord, inFloat, inPayload}
 use Rattle.machine.specs.Machine.{Stepped, on, bad, nextOr, atWire, atHeader, atPayload, atSubtype, atWord, atUnsignedCount, atSignedCount, atFloatCount}
-use Rattle.machine.specs.Machine.{atElement, atArrayWord, atUnsigned, atSigned, within, atFloat, step, ending, judge}
-use Rattle.machine.specs.Call.{State, reading, owing, broke, fresh, Answer, event, verdict, invalid, Called, verdictAt, Pace, byte, bulk, paceOf, piece, scanned, scan, call}
-use Rattle.machine.specs.Call.{standingOf, standing}
+use Rattle.machine.specs.Machine.{atElement, atArrayWord, atUnsigned, atSigned, within, atFloat, step, ending, verdictAfter}
+use Rattle.machine.specs.Calls.{State, reading, owing, broke, fresh, Said, event, verdict, invalid, Called, verdictAt, Pace, byte, bulk, paceOf, piece, scanned, scan, call}
+use Rattle.machine.specs.Calls.{standingOf, standing}
 use Rattle.machine.specs.Run.{given, due, Follows, Ending, ended, unfinished, Chunk, calls, Heard, status, seen, chunks, verdictsOf, heardOf, heardAll, readOf, lastHeard, join}
 use Rattle.machine.proofs.Calls.{call-follows, fresh-follows}
 use Rattle.machine.proofs.Runs.{standingWith, standing-is, reads, verdicts-last, joined-injective}
@@ -67,13 +67,13 @@ small-within d overrun p g h = tt
 
 -- ---- an answer, and how calls end
 
-abbrev pub Ranged : List ℕ → ℕ → Answer → Type 0
+abbrev pub Ranged : List ℕ → ℕ → Said → Type 0
 Ranged c n (event e) = InRange c (n - covered e) e
 Ranged c n (verdict v) = Unit {0}
 Ranged c n invalid = Unit {0}
 
 -- the machine's last answer as the reader's
-abbrev final : Ending Answer → Ending Rattle.istream.specs.declared.Answer.Answer
+abbrev final : Ending Said → Ending Rattle.istream.specs.declared.Answer.Answer
 final (ended (event e)) = unfinished
 final (ended (verdict v)) = ended (Answers.Status (statusIn v))
 final (ended invalid) = ended (Answers.Refused (refusal 2))
@@ -83,12 +83,12 @@ abbrev image : Chunk → Fed
 image r = record { events = r .events; read = r .read; answer = final (r .answer); stream = streamIn (r .state) }
 
 -- a verdict that comes with an answer is complete or incomplete
-abbrev Plain : Answer → Type 0
+abbrev Plain : Said → Type 0
 Plain (event e) = Unit {0}
 Plain (verdict v) = (n : ℕ) → told n (ended (Answers.Status (statusIn v))) ≡ status v
 Plain invalid = Unit {0}
 
-abbrev PlainEnd : Ending Answer → Type 0
+abbrev PlainEnd : Ending Said → Type 0
 PlainEnd (ended a) = Plain a
 PlainEnd unfinished = Unit {0}
 
@@ -98,6 +98,19 @@ record Follow (L : Limits) (bs : List ℕ) (es : List Event) (s : IStream) : Typ
   is : s ≡ streamIn state
   sound : SoundState L state
   follows : Follows L bs es state
+
+-- ---- bytes
+
+pub each-byte : (c : List ℕ) → Bytes c → (i : ℕ) → getD c i 0 < 256
+each-byte [] h zero = omega arith
+each-byte [] h (suc i) = omega arith
+each-byte (b ∷ bs) h zero = h .0
+each-byte (b ∷ bs) h (suc i) = each-byte bs (h .1) i
+
+pub bytes-drop : (k : ℕ) (c : List ℕ) → Bytes c → Bytes (drop k c)
+bytes-drop zero c h = h
+bytes-drop (suc k) [] h = tt
+bytes-drop (suc k) (b ∷ bs) h = bytes-drop k bs (h .1)
 
 module _ (L : Limits) where
   small-wire : (d id : ℕ) (t : Wire) → SmallStep (atWire L d id t)
@@ -219,23 +232,12 @@ module _ (L : Limits) where
   fed-is (owing d id r) c h = sym (fed-sound L (streamIn (owing d id r)) (owing d id r) c (state-of-stream (owing d id r)) tt (sound-is L (owing d id r) h))
   fed-is broke c h = sym (fed-broken L (streamIn broke) c refl)
 
-  pub each-byte : (c : List ℕ) → Bytes c → (i : ℕ) → getD c i 0 < 256
-  each-byte [] h zero = omega arith
-  each-byte [] h (suc i) = omega arith
-  each-byte (b ∷ bs) h zero = h .0
-  each-byte (b ∷ bs) h (suc i) = each-byte bs (h .1) i
-
   pub call-sound : (st : State) (c : List ℕ) → SoundState L st → Bytes c → SoundState L (call L st c .state)
   unfolding fedIn
   call-sound st c h b =
       let k : soundStream L (fedOf L (streamIn st) c .stream) ≡ true = feed-keeps L (streamIn st) c (each-byte c b) (sound-is L st h) in
       let e : soundStream L (streamIn (call L st c .state)) ≡ true = sym (ap (λ (r : Given.Fed). soundStream L (r .stream)) (fed-is st c h)) ∙ k in
       subst (SoundState L) (state-of-stream (call L st c .state)) (is-sound L (streamIn (call L st c .state)) e)
-
-  pub bytes-drop : (k : ℕ) (c : List ℕ) → Bytes c → Bytes (drop k c)
-  bytes-drop zero c h = h
-  bytes-drop (suc k) [] h = tt
-  bytes-drop (suc k) (b ∷ bs) h = bytes-drop k bs (h .1)
 
   -- ---- a chunk
 
@@ -249,7 +251,7 @@ module _ (L : Limits) where
       ]
 
   -- by the machine's answer
-  after-is : (n : ℕ) (c : List ℕ) (k : ℕ) (a : Answer) (st : State) → Ranged c k a → feeds L n (streamIn st) (drop k c) ≡ image (calls L n st (drop k c))
+  after-is : (n : ℕ) (c : List ℕ) (k : ℕ) (a : Said) (st : State) → Ranged c k a → feeds L n (streamIn st) (drop k c) ≡ image (calls L n st (drop k c))
       → after n c (record { read = k; answer = answerIn k a; stream = streamIn st })
       ≡ image
       (elim a as (λ x. Chunk) [
@@ -280,7 +282,7 @@ module _ (L : Limits) where
       let r = call L st c in
       by-answer (r .answer) (call-sound st c h b) (calls-sound n (r .state) (drop (r .read) c) (call-sound st c h b) (bytes-drop (r .read) c b))
     where
-      by-answer : (a : Answer) → SoundState L (call L st c .state) → SoundState L (calls L n (call L st c .state) (drop (call L st c .read) c) .state)
+      by-answer : (a : Said) → SoundState L (call L st c .state) → SoundState L (calls L n (call L st c .state) (drop (call L st c .read) c) .state)
           → SoundState L
           ((elim a as (λ x. Chunk) [
             | event e ↦ Rattle.machine.specs.Run.more e (call L st c .read) (calls L n (call L st c .state) (drop (call L st c .read) c))
@@ -298,7 +300,7 @@ module _ (L : Limits) where
   plain-pick false n = refl
 
   plain-at : (d : ℕ) (p : Phase) (n : ℕ) → told n (ended (Answers.Status (statusIn (verdictAt d p)))) ≡ status (verdictAt d p)
-  unfolding judge ending
+  unfolding verdictAfter ending
   plain-at d (inHeader zero v) n = plain-pick (eqb d 0) n
   plain-at d (inHeader (suc k) v) n = refl
   plain-at d (inUnsigned id left k v) n = refl
@@ -338,7 +340,7 @@ module _ (L : Limits) where
   plain-calls zero st c = tt
   plain-calls (suc n) st c = by-answer (call L st c .answer) (plain-call st c) (plain-calls n (call L st c .state) (drop (call L st c .read) c))
     where
-      by-answer : (a : Answer) → Plain a → PlainEnd (calls L n (call L st c .state) (drop (call L st c .read) c) .answer)
+      by-answer : (a : Said) → Plain a → PlainEnd (calls L n (call L st c .state) (drop (call L st c .read) c) .answer)
           → PlainEnd
           ((elim a as (λ x. Chunk) [
             | event e ↦ Rattle.machine.specs.Run.more e (call L st c .read) (calls L n (call L st c .state) (drop (call L st c .read) c))
@@ -349,7 +351,7 @@ module _ (L : Limits) where
       by-answer (verdict v) s t = s
       by-answer invalid s t = s
 
-  told-is : (n : ℕ) (a : Ending Answer) → PlainEnd a → told n (final a) ≡ seen n a
+  told-is : (n : ℕ) (a : Ending Said) → PlainEnd a → told n (final a) ≡ seen n a
   told-is n (ended (event e)) h = refl
   told-is n (ended (verdict v)) h = h n
   told-is n (ended invalid) h = refl
@@ -406,7 +408,7 @@ module _ (L : Limits) where
 
   -- ---- any calls
 
-  given-is : (c : List ℕ) (k : ℕ) (a : Answer) → Ranged c k a → givenBy c (answerIn k a) ≡ given a
+  given-is : (c : List ℕ) (k : ℕ) (a : Said) → Ranged c k a → givenBy c (answerIn k a) ≡ given a
   given-is c k (event e) g = ap (λ (x : Event). x ∷ []) (declared-back c (k - covered e) e g)
   given-is c k (verdict v) g = refl
   given-is c k invalid g = refl

@@ -6,7 +6,7 @@ use lib.ListN.{length, take, drop}
 use Rattle.layout.specs.Limits.{Limits}
 use Rattle.layout.specs.Event as layout
 use Rattle.layout.specs.Message.{complete, incomplete, Bytes}
-use Rattle.machine.specs.Call.{fresh}
+use Rattle.machine.specs.Calls.{fresh}
 use Rattle.machine.specs.Run.{Ending, ended, unfinished, Heard, status, refused, nothing}
 use Rattle.types.specs.Types.{numberOf}
 use Rattle.event.specs.Event.{eventOf}

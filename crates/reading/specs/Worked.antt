@@ -5,8 +5,8 @@ use mathlib.Core.Path.{_≡_, refl}
 use mathlib.Core.List.{List, [], _∷_}
 use Rattle.layout.specs.Limits.{base}
 use Rattle.layout.specs.Varint.{push}
-use Rattle.machine.specs.Machine.{atHeader, atWord, atUnsignedCount, atSignedCount, atFloatCount, atArrayWord, atUnsigned, atSigned, within, atFloat, atByte, step, ending, judge}
-use Rattle.machine.specs.Call.{fresh, broke, standing, scanned, scan, call}
+use Rattle.machine.specs.Machine.{atHeader, atWord, atUnsignedCount, atSignedCount, atFloatCount, atArrayWord, atUnsigned, atSigned, within, atFloat, atByte, step, ending, verdictAfter}
+use Rattle.machine.specs.Calls.{fresh, broke, standing, scanned, scan, call}
 use Rattle.types.specs.Types.{refusal}
 use Rattle.varint.specs.Varint.{soundAcc}
 use Rattle.event.specs.declared.Event.the-variants.{Unsigned}
@@ -59,5 +59,5 @@ table =
     ∷ []
 
 pub worked : saidAll table ≡ table
-unfolding fedOf fedIn statusOf standing soundStream soundAcc call scan scanned step within atHeader atWord atUnsignedCount atSignedCount atFloatCount atArrayWord atUnsigned atSigned atFloat atByte ending judge push
+unfolding fedOf fedIn statusOf standing soundStream soundAcc call scan scanned step within atHeader atWord atUnsignedCount atSignedCount atFloatCount atArrayWord atUnsigned atSigned atFloat atByte ending verdictAfter push
 worked = refl

@@ -7,7 +7,7 @@ use lib.ListN.{length}
 use Rattle.layout.specs.Field.{Raw}
 use Rattle.layout.specs.Event.{Event, Unsigned, Signed, Float, Piece, Fixlen, Array, Begin, End, cutFrom, cutPiece, cut, bytewise}
 use Rattle.payload.specs.Run.{joined, Split, one, more}
-use Rattle.reassembly.specs.Pieces.{pieceEvents, NoPiece, Next}
+use Rattle.reassembly.specs.Pieces.{pieceEvents, NotPiece, Next}
 
 -- ---- where an event that is no piece stands
 
@@ -19,11 +19,11 @@ pub record At (x : Event) (es : List Event) (pre post : List Event) : Type 0 whe
   pub posts : bytewise after ≡ post
 
 -- the bytes of a piece stand before it
-past-bytes : (id : ℕ) (r : Raw) (total o : ℕ) (bs : List ℕ) (x : Event) → NoPiece x → (rest pre post : List Event) → cutFrom id r total o bs ++ rest ≡ pre ++ (x ∷ post)
+past-bytes : (id : ℕ) (r : Raw) (total o : ℕ) (bs : List ℕ) (x : Event) → NotPiece x → (rest pre post : List Event) → cutFrom id r total o bs ++ rest ≡ pre ++ (x ∷ post)
     → (pre′ : List Event) × (pre ≡ cutFrom id r total o bs ++ pre′) × (rest ≡ pre′ ++ (x ∷ post))
 unfolding cutFrom
 past-bytes id r total o [] x n rest pre post e = (pre, refl, e)
-past-bytes id r total o (b ∷ bs) x n rest [] post e = let z : Piece id r total o (b ∷ []) ≡ x = cc in absurd (subst NoPiece (sym z) n)
+past-bytes id r total o (b ∷ bs) x n rest [] post e = let z : Piece id r total o (b ∷ []) ≡ x = cc in absurd (subst NotPiece (sym z) n)
 past-bytes id r total o (b ∷ bs) x n rest (y ∷ pre) post e =
     let z : Piece id r total o (b ∷ []) ≡ y = cc in
     let t : cutFrom id r total (suc o) bs ++ rest ≡ pre ++ (x ∷ post) = cc in
@@ -31,7 +31,7 @@ past-bytes id r total o (b ∷ bs) x n rest (y ∷ pre) post e =
     (q .0, ap (λ (l : List Event). y ∷ l) (q .1) ∙ ap (λ (y : Event). y ∷ (cutFrom id r total (suc o) bs ++ q .0)) (sym z), q .2)
 
 -- one event before it
-one-before : (x y : Event) (es pre post : List Event) → cut y ≡ y ∷ [] → NoPiece x → (y ∷ []) ++ bytewise es ≡ pre ++ (x ∷ post)
+one-before : (x y : Event) (es pre post : List Event) → cut y ≡ y ∷ [] → NotPiece x → (y ∷ []) ++ bytewise es ≡ pre ++ (x ∷ post)
     → ((pre′ : List Event) → bytewise es ≡ pre′ ++ (x ∷ post) → At x es pre′ post) → At x (y ∷ es) pre post
 unfolding bytewise
 one-before x y es [] post c n e go =
@@ -51,7 +51,7 @@ one-before x y es (w ∷ pre) post c n e go =
     }
 
 -- a piece before it
-piece-before : (id : ℕ) (r : Raw) (total o b : ℕ) (bs : List ℕ) (x : Event) (es pre post : List Event) → NoPiece x → cutFrom id r total o (b ∷ bs) ++ bytewise es ≡ pre ++ (x ∷ post)
+piece-before : (id : ℕ) (r : Raw) (total o b : ℕ) (bs : List ℕ) (x : Event) (es pre post : List Event) → NotPiece x → cutFrom id r total o (b ∷ bs) ++ bytewise es ≡ pre ++ (x ∷ post)
     → ((pre′ : List Event) → bytewise es ≡ pre′ ++ (x ∷ post) → At x es pre′ post) → At x (Piece id r total o (b ∷ bs) ∷ es) pre post
 unfolding bytewise cut cutPiece
 piece-before id r total o b bs x es pre post n e go =
@@ -69,7 +69,7 @@ no-more : (x : Event) (pre post : List Event) → [] ≡ pre ++ (x ∷ post) →
 no-more x [] post e = let z : _≡_ {A = ℕ} 0 1 = cc in omega arith
 no-more x (y ∷ pre) post e = let z : _≡_ {A = ℕ} 0 1 = cc in omega arith
 
-pub found : (x : Event) (es pre post : List Event) → NoPiece x → bytewise es ≡ pre ++ (x ∷ post) → At x es pre post
+pub found : (x : Event) (es pre post : List Event) → NotPiece x → bytewise es ≡ pre ++ (x ∷ post) → At x es pre post
 unfolding bytewise cut cutPiece
 found x [] pre post n e = absurd (no-more x pre post e)
 found x (Unsigned id v ∷ es) pre post n e = one-before x (Unsigned id v) es pre post refl n e (λ p t. found x es p post n t)
@@ -92,7 +92,7 @@ first-part id r total o [] bs X post n e =
     let z : o ≡ o + 0 = omega arith in
     (bs, refl, e ∙ ap (λ (m : ℕ). cutFrom id r total m bs ++ post) z)
 first-part id r total o (c ∷ cs) [] X [] n e = let z : _≡_ {A = ℕ} 0 1 = cc in absurd (omega arith)
-first-part id r total o (c ∷ cs) [] X (y ∷ post) n e = let z : y ≡ Piece id r total o (c ∷ []) = cc in absurd (subst NoPiece z n)
+first-part id r total o (c ∷ cs) [] X (y ∷ post) n e = let z : y ≡ Piece id r total o (c ∷ []) = cc in absurd (subst NotPiece z n)
 first-part id r total o (c ∷ cs) (b ∷ bs) X post n e =
     let z : c ≡ b = cc in
     let t : cutFrom id r total (suc o) cs ++ X ≡ cutFrom id r total (suc o) bs ++ post = cc in

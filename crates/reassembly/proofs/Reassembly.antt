@@ -9,7 +9,7 @@ use Rattle.layout.specs.Limits.{Limits}
 use Rattle.layout.specs.Field.{Raw, raw}
 use Rattle.layout.specs.Event.{Event, Unsigned, Signed, Float, Piece, Fixlen, Array, Begin, End, cutFrom, cutPiece, cut, bytewise}
 use Rattle.layout.specs.Message.{eventsOf}
-use Rattle.machine.specs.Call.{fresh}
+use Rattle.machine.specs.Calls.{fresh}
 use Rattle.machine.specs.Run.{chunks, join}
 use Rattle.machine.proofs.Runs.{reads}
 use Rattle.payload.specs.declared.PayloadAcc.{PayloadAcc}

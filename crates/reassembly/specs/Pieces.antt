@@ -9,17 +9,17 @@ unfoldable pub pieceEvents : ℕ → Raw → ℕ → ℕ → List (List ℕ) →
 pieceEvents id r total o [] = []
 pieceEvents id r total o (p ∷ ps) = Piece id r total o p ∷ pieceEvents id r total (o + length p) ps
 
-abbrev pub NoPiece : Event → Type 0
-NoPiece (Unsigned id n) = Unit {0}
-NoPiece (Signed id z) = Unit {0}
-NoPiece (Float id w x) = Unit {0}
-NoPiece (Piece id r total o bs) = ⊥
-NoPiece (Fixlen id s total) = Unit {0}
-NoPiece (Array id k n) = Unit {0}
-NoPiece (Begin id) = Unit {0}
-NoPiece End = Unit {0}
+abbrev pub NotPiece : Event → Type 0
+NotPiece (Unsigned id n) = Unit {0}
+NotPiece (Signed id z) = Unit {0}
+NotPiece (Float id w x) = Unit {0}
+NotPiece (Piece id r total o bs) = ⊥
+NotPiece (Fixlen id s total) = Unit {0}
+NotPiece (Array id k n) = Unit {0}
+NotPiece (Begin id) = Unit {0}
+NotPiece End = Unit {0}
 
 -- what comes after a payload: the end, or another field
 abbrev pub Next : List Event → Type 0
 Next [] = Unit {0}
-Next (e ∷ es) = NoPiece e
+Next (e ∷ es) = NotPiece e

@@ -6,7 +6,7 @@ use Rattle.layout.specs.Limits.{Limits}
 use Rattle.layout.specs.Event as layout
 use Rattle.machine.specs.Machine as machine
 use Rattle.machine.specs.Machine.{on, bad}
-use Rattle.machine.specs.Call.{State, reading, owing, broke, raisedState}
+use Rattle.machine.specs.Calls.{State, reading, owing, broke, raisedState}
 use Rattle.types.specs.declared.RawType.{RawType}
 use Rattle.types.specs.declared.RawType.the-variants as Raws
 use Rattle.event.specs.declared.Event.{Event}

@@ -94,7 +94,11 @@ pub fn announced(carried: Carried, id: u32, r: RawType, len: u64) -> Stepped
     }
     let total = len as u32;
     if total == 0 {
-        Stepped::Raised(Event::Fixlen(id, r.fixlen(), 0), Phase::Empty(id, r), carried)
+        Stepped::Raised(
+            Event::Fixlen(id, r.fixlen(), 0),
+            Phase::Empty(id, r),
+            carried,
+        )
     } else {
         Stepped::Raised(
             Event::Fixlen(id, r.fixlen(), total),

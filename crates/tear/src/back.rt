@@ -1,4 +1,4 @@
-// One reading of a torn message: a sum over the lines of its events, as `events` prints them, and whether it is complete.
+// One reading of a torn message: a sum over the lines of its events, as `list_events` prints them, and whether it is complete.
 use crate::draw;
 use lines::Verdict;
 use listing::Listing;

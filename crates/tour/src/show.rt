@@ -19,7 +19,7 @@ pub fn title(word: &[u8]) {
     io::write_all(STDOUT_FILENO, b"\n");
 }
 
-// An event's lines, as the program `events` prints them.
+// An event's lines, as the program `list_events` prints them.
 pub fn event(event: Event, chunk: &[u8]) {
     let mut text = io::buffer();
     let end = lines::put_event(&mut text, 0, chunk, event);

@@ -12,6 +12,7 @@ use istream::Answer;
 use istream::Fed;
 use istream::IStream;
 use istream::Status;
+use phase::Carried;
 use phase::Phase;
 use types::FloatType;
 use types::RawType;
@@ -60,7 +61,9 @@ fn phase(desk: &[u64]) -> Phase {
 pub fn reader(desk: &[u64]) -> IStream {
     IStream {
         phase: phase(desk),
-        depth: byte(word(desk, 1)),
+        carried: Carried {
+            depth: byte(word(desk, 1)),
+        },
     }
 }
 
@@ -103,7 +106,7 @@ pub fn store(stream: IStream, desk: &mut [u64]) {
     lay(
         desk,
         0,
-        &[w[0], stream.depth as u64, w[1], w[2], w[3], w[4], w[5]],
+        &[w[0], stream.carried.depth as u64, w[1], w[2], w[3], w[4], w[5]],
     );
 }
 

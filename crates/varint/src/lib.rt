@@ -13,7 +13,7 @@ ghost use Rattle.varint.specs.Varint.{soundAcc, start, pushed};
 // Most bytes of a varint, and the place of the last of them, counted from 0.
 pub const VARINT_MAX: usize = 10;
 
-pub const LAST_PLACE: u8 = 9;
+pub const LAST_BYTE: u8 = 9;
 
 // A varint under way: how many bytes it had, and what they came to.
 pub struct Acc {
@@ -49,7 +49,7 @@ impl Acc {
     {
         let taken = self.taken;
         let value = self.value;
-        if LAST_PLACE < taken {
+        if LAST_BYTE < taken {
             return false;
         }
         value >> (taken * 7) == 0
@@ -62,7 +62,7 @@ impl Acc {
     {
         let taken = self.taken;
         let held = self.value;
-        if taken < LAST_PLACE {
+        if taken < LAST_BYTE {
             let value = held | payload_at(b, taken);
             if b < 128 {
                 Push::Value(value)

@@ -15,7 +15,7 @@ use Rattle.layout.specs.Event.{Event}
 use Rattle.layout.specs.Reading.{Reading, raise, given, follow, becoming, lowFrom}
 use Rattle.layout.specs.Field.{Raw, Field}
 use Rattle.layout.specs.Message.{scalar, elements, payloadFrom, payloadOf, depthAfter}
-use Rattle.whole.specs.Whole.{ends, deep, onward, skips}
+use Rattle.whole.specs.Whole.{ends, deep, followed, skips}
 
 -- ---- values that become fields which keep the depth
 
@@ -44,17 +44,17 @@ ended d f es short = refl
 ended d f es (broken rest) = refl
 
 ends-given : {A B : Type 0} (d : ℕ) (o : Outcome A) (e : A → List Event) (f : A → B → B) (r : List ℕ → Reading B) →
-    ends d (given o (λ x rest. raise (e x) (becoming (f x) (r rest))) .outcome) ≡ onward (ends d o) (λ rest. ends d (r rest .outcome))
-unfolding given onward ends
+    ends d (given o (λ x rest. raise (e x) (becoming (f x) (r rest))) .outcome) ≡ followed (ends d o) (λ rest. ends d (r rest .outcome))
+unfolding given followed ends
 ends-given d (whole a rest) e f r = ended d (f a) (r rest .events) (r rest .outcome)
 ends-given d short e f r = refl
 ends-given d (broken rest) e f r = refl
 
-onward-same : (o : Outcome ℕ) (f g : List ℕ → Outcome ℕ) → ((bs : List ℕ) → f bs ≡ g bs) → onward o f ≡ onward o g
-unfolding onward
-onward-same (whole d rest) f g h = h rest
-onward-same short f g h = refl
-onward-same (broken rest) f g h = refl
+followed-same : (o : Outcome ℕ) (f g : List ℕ → Outcome ℕ) → ((bs : List ℕ) → f bs ≡ g bs) → followed o f ≡ followed o g
+unfolding followed
+followed-same (whole d rest) f g h = h rest
+followed-same short f g h = refl
+followed-same (broken rest) f g h = refl
 
 -- n elements that end where varints do
 pub ends-elements : {A : Type 0} (d : ℕ) (p : List ℕ → Outcome A) (e : A → Event) (n : ℕ) (bs : List ℕ) → ((bs : List ℕ) → ends d (p bs) ≡ ends d (varint base bs)) →
@@ -63,8 +63,8 @@ unfolding elements skips ends
 ends-elements d p e zero bs h = refl
 ends-elements d p e (suc n) bs h =
     ends-given d (p bs) (λ x. e x ∷ []) (λ x xs. x ∷ xs) (elements p e n)
-    ∙ ap (λ (o : Outcome ℕ). onward o (λ rest. ends d (elements p e n rest .outcome))) (h bs)
-    ∙ onward-same (ends d (varint base bs)) _ _ (λ rest. ends-elements d p e n rest h)
+    ∙ ap (λ (o : Outcome ℕ). followed o (λ rest. ends d (elements p e n rest .outcome))) (h bs)
+    ∙ followed-same (ends d (varint base bs)) _ _ (λ rest. ends-elements d p e n rest h)
 
 -- ---- n bytes
 
@@ -85,27 +85,27 @@ hop-cons d n b bs = go (leb n (length bs)) refl
     go false e = let h : length bs < n = leb-false _ _ e in hop-short d n bs h ∙ sym (hop-short d (suc n) (b ∷ bs) (omega arith))
 
 -- a bytes and b bytes
-hop-hop : (d a b : ℕ) (bs : List ℕ) → onward (hop d a bs) (λ rest. hop d b rest) ≡ hop d (a + b) bs
-unfolding onward
+hop-hop : (d a b : ℕ) (bs : List ℕ) → followed (hop d a bs) (λ rest. hop d b rest) ≡ hop d (a + b) bs
+unfolding followed
 hop-hop d a b bs = go (leb a (length bs)) refl (leb (a + b) (length bs)) refl
   where
-    go : (x : Bool) → leb a (length bs) ≡ x → (y : Bool) → leb (a + b) (length bs) ≡ y → onward (hop d a bs) (λ rest. hop d b rest) ≡ hop d (a + b) bs
+    go : (x : Bool) → leb a (length bs) ≡ x → (y : Bool) → leb (a + b) (length bs) ≡ y → followed (hop d a bs) (λ rest. hop d b rest) ≡ hop d (a + b) bs
     go true p true q =
         let h : a ≤ length bs = leb-true _ _ p in
         let k : a + b ≤ length bs = leb-true _ _ q in
-        ap (λ (o : Outcome ℕ). onward o (λ rest. hop d b rest)) (hops d a bs h)
+        ap (λ (o : Outcome ℕ). followed o (λ rest. hop d b rest)) (hops d a bs h)
         ∙ hops d b (drop a bs) (omega (arith, length-drop a bs))
         ∙ ap (λ (l : List ℕ). whole d l) (drop-drop b a bs)
         ∙ sym (hops d (a + b) bs k)
     go true p false q =
         let h : a ≤ length bs = leb-true _ _ p in
         let k : length bs < a + b = leb-false _ _ q in
-        ap (λ (o : Outcome ℕ). onward o (λ rest. hop d b rest)) (hops d a bs h)
+        ap (λ (o : Outcome ℕ). followed o (λ rest. hop d b rest)) (hops d a bs h)
         ∙ hop-short d b (drop a bs) (omega (arith, length-drop a bs))
         ∙ sym (hop-short d (a + b) bs k)
     go false p y q =
         let h : length bs < a = leb-false _ _ p in
-        ap (λ (o : Outcome ℕ). onward o (λ rest. hop d b rest)) (hop-short d a bs h)
+        ap (λ (o : Outcome ℕ). followed o (λ rest. hop d b rest)) (hop-short d a bs h)
         ∙ sym (hop-short d (a + b) bs (omega arith))
 
 -- a float's bytes, a payload's, and those of n floats
@@ -134,7 +134,7 @@ ends-floats d w e zero bs = let z : 0 ≡ 0 * w = omega arith in sym (hops d 0 b
 ends-floats d w e (suc n) bs =
     let s : w + n * w ≡ suc n * w = omega arith in
     ends-given d (lowFrom w 0 0 bs) (λ x. e x ∷ []) (λ x xs. x ∷ xs) (elements (lowFrom w 0 0) e n)
-    ∙ ap (λ (o : Outcome ℕ). onward o (λ rest. ends d (elements (lowFrom w 0 0) e n rest .outcome))) (ends-low d w 0 0 bs)
-    ∙ onward-same (hop d w bs) _ _ (λ rest. ends-floats d w e n rest)
+    ∙ ap (λ (o : Outcome ℕ). followed o (λ rest. ends d (elements (lowFrom w 0 0) e n rest .outcome))) (ends-low d w 0 0 bs)
+    ∙ followed-same (hop d w bs) _ _ (λ rest. ends-floats d w e n rest)
     ∙ hop-hop d w (n * w) bs
     ∙ ap (λ (m : ℕ). hop d m bs) s

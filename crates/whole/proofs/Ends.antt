@@ -22,9 +22,9 @@ use Rattle.whole.specs.declared.Land.the-variants as Lands
 use Rattle.whole.proofs.Found as found
 use Rattle.whole.proofs.Land as land
 use Rattle.whole.proofs.Varints.{one-reaches}
-use Rattle.whole.specs.Whole.{Reaches, Passes, landIn, landPast, leftBy, ends, deep, onward, skips}
+use Rattle.whole.specs.Whole.{Reaches, Passes, landIn, landPast, noValue, ends, deep, followed, skips}
 
-pub else-short : (f : Found) → OneOf (0 ∷ 1 ∷ []) (tagOf found.the-type f) → Lands.Short ≡ leftBy f
+pub else-short : (f : Found) → OneOf (0 ∷ 1 ∷ []) (tagOf found.the-type f) → Lands.Short ≡ noValue f
 else-short (Founds.Value v i) h = refl
 else-short Founds.Short h = refl
 else-short (Founds.Broken i) h = absurd (miss (0 ∷ 1 ∷ []) 2 tt h)
@@ -39,7 +39,7 @@ else-checked t at ok o (Founds.Broken i) h r = record { same = ap (checked ok) (
 
 -- .. and nothing follows
 pub else-given : (t : List ℕ) (at : ℕ) (o : Outcome ℕ) (f : Found) (k : ℕ → List ℕ → Reading Field) → OneOf (1 ∷ 2 ∷ []) (tagOf found.the-type f) →
-    Reaches t at o f → Passes t at (λ d. deep d (given o k .outcome)) (leftBy f)
+    Reaches t at o f → Passes t at (λ d. deep d (given o k .outcome)) (noValue f)
 unfolding given deep
 else-given t at o (Founds.Value v i) k h r = absurd (miss (1 ∷ 2 ∷ []) 0 tt h)
 else-given t at o Founds.Short k h r = record { same = λ d. ap (λ (o : Outcome ℕ). deep d (given o k .outcome)) (r .same); past = tt }
@@ -52,12 +52,12 @@ landed-before t at i Lands.Short h p = tt
 landed-before t at i (Lands.Broken j) h p = p
 
 -- no place reached: nothing follows
-pub else-onward : (t : List ℕ) (d : ℕ) (o : Outcome ℕ) (l : Land) (k : List ℕ → Outcome ℕ) → OneOf (1 ∷ 2 ∷ []) (tagOf land.the-type l) →
-    o ≡ landIn t d l → onward o k ≡ landIn t d l
-unfolding onward
-else-onward t d o (Lands.At i) k h e = absurd (miss (1 ∷ 2 ∷ []) 0 tt h)
-else-onward t d o Lands.Short k h e = ap (λ (o : Outcome ℕ). onward o k) e
-else-onward t d o (Lands.Broken i) k h e = ap (λ (o : Outcome ℕ). onward o k) e
+pub else-followed : (t : List ℕ) (d : ℕ) (o : Outcome ℕ) (l : Land) (k : List ℕ → Outcome ℕ) → OneOf (1 ∷ 2 ∷ []) (tagOf land.the-type l) →
+    o ≡ landIn t d l → followed o k ≡ landIn t d l
+unfolding followed
+else-followed t d o (Lands.At i) k h e = absurd (miss (1 ∷ 2 ∷ []) 0 tt h)
+else-followed t d o Lands.Short k h e = ap (λ (o : Outcome ℕ). followed o k) e
+else-followed t d o (Lands.Broken i) k h e = ap (λ (o : Outcome ℕ). followed o k) e
 
 -- the place after a value
 pub reaches-inside : {t : List ℕ} {at : ℕ} {o : Outcome ℕ} {f : Found} {v i : ℕ} → f ≡ Founds.Value v i → Reaches t at o f → i ≤ length t
@@ -94,28 +94,28 @@ pub record Skipped (t : List ℕ) (at n i left : ℕ) : Type 0 where
 pub skipped-start : (t : List ℕ) (at n : ℕ) → at ≤ length t → Skipped t at n at n
 skipped-start t at n h = record { from = omega arith; to = h; same = λ d. refl }
 
-one-more : (d left : ℕ) (bs : List ℕ) → 0 < left → skips base d left bs ≡ onward (ends d (varint base bs)) (λ rest. skips base d (left - 1) rest)
+one-more : (d left : ℕ) (bs : List ℕ) → 0 < left → skips base d left bs ≡ followed (ends d (varint base bs)) (λ rest. skips base d (left - 1) rest)
 unfolding skips
 one-more d zero bs h = absurd (omega arith)
 one-more d (suc m) bs h =
     let e : m ≡ suc m - 1 = omega arith in
-    ap (λ (k : ℕ). onward (ends d (varint base bs)) (λ rest. skips base d k rest)) e
+    ap (λ (k : ℕ). followed (ends d (varint base bs)) (λ rest. skips base d k rest)) e
 
 module _ {t : List ℕ} {at n i left : ℕ} (s : Skipped t at n i left) (h : 0 < left) (l : Land) (p : Passes t i (λ d. ends d (varint base (drop i t))) l) where
   pub skipped-next : (j : ℕ) → l ≡ Lands.At j → Skipped t at n j (left - 1)
-  unfolding onward
+  unfolding followed
   skipped-next j e =
       let q : Passes t i (λ d. ends d (varint base (drop i t))) (Lands.At j) = subst (Passes t i (λ d. ends d (varint base (drop i t)))) e p in
       record {
         from = omega (arith, s .from, q .past .0);
         to = q .past .1;
-        same = λ d. s .same d ∙ one-more d left (drop i t) h ∙ ap (λ (o : Outcome ℕ). onward o (λ rest. skips base d (left - 1) rest)) (q .same d);
+        same = λ d. s .same d ∙ one-more d left (drop i t) h ∙ ap (λ (o : Outcome ℕ). followed o (λ rest. skips base d (left - 1) rest)) (q .same d);
       }
 
   pub skipped-else : OneOf (1 ∷ 2 ∷ []) (tagOf land.the-type l) → Passes t at (λ d. skips base d n (drop at t)) l
   skipped-else g =
       record {
-        same = λ d. s .same d ∙ one-more d left (drop i t) h ∙ else-onward t d (ends d (varint base (drop i t))) l (λ rest. skips base d (left - 1) rest) g (p .same d);
+        same = λ d. s .same d ∙ one-more d left (drop i t) h ∙ else-followed t d (ends d (varint base (drop i t))) l (λ rest. skips base d (left - 1) rest) g (p .same d);
         past = landed-before t at i l (s .from) (p .past);
       }
 

@@ -18,14 +18,14 @@ use Rattle.layout.specs.Reading.{Reading, raise, given, follow, becoming}
 use Rattle.layout.specs.Field.{Field, Wire, wireOf, unsigneds, signeds, unsigned, signed, unsignedArray, signedArray}
 use Rattle.layout.specs.Field.{T-unsigneds, T-begin, T-end}
 use Rattle.layout.specs.Message.{headerOf, countOf, unzigzagged, signedVarint, elements, body, field, depthAfter}
-use Rattle.layout.specs.Message.{Fields, prepend, fieldsFrom, message, complete, incomplete, brokenAt, judged, verdictOf}
+use Rattle.layout.specs.Message.{Fields, prepend, fieldsFrom, message, complete, incomplete, brokenAt, verdictBy, verdictOf}
 use Rattle.whole.specs.declared.Found.{Found}
 use Rattle.whole.specs.declared.Found.the-variants as Founds
 use Rattle.whole.specs.declared.Land.{Land}
 use Rattle.whole.specs.declared.Land.the-variants as Lands
 use Rattle.whole.specs.declared.Next.{Next}
 use Rattle.whole.specs.declared.Next.the-variants as Nexts
-use Rattle.whole.specs.Whole.{Reaches, Passes, Goes, nextPast, ends, deep, afterBody, afterField, leftBy, deepened}
+use Rattle.whole.specs.Whole.{Reaches, Passes, Goes, nextPast, ends, deep, afterBody, afterField, noValue, deepened}
 use Rattle.whole.proofs.Found as found
 use Rattle.whole.proofs.Bodies.{deep-scalar, deep-becoming, ends-elements}
 
@@ -123,7 +123,7 @@ module _ {t : List ℕ} {at : ℕ} (d : ℕ) where
         past = gone-before t (at + 1) i r (omega (arith, p .past .0)) (g (h / 8) .past);
       }
 
-  pub field-else : (f : Found) (r : Next) → OneOf (1 ∷ 2 ∷ []) (tagOf found.the-type f) → Reaches t at (headerOf base (drop at t)) f → r ≡ deepened d (leftBy f) →
+  pub field-else : (f : Found) (r : Next) → OneOf (1 ∷ 2 ∷ []) (tagOf found.the-type f) → Reaches t at (headerOf base (drop at t)) f → r ≡ deepened d (noValue f) →
       Goes t (at + 1) (afterField d (drop at t)) r
   unfolding afterField field given deep
   field-else (Founds.Value v i) r h q e = absurd (miss (1 ∷ 2 ∷ []) 0 tt h)
@@ -145,41 +145,41 @@ pub record Left (t : List ℕ) (at d : ℕ) : Type 0 where
   pub inside : at ≤ length t
   pub fuel : ℕ
   pub enough : length (drop at t) ≤ fuel
-  pub same : verdictOf base t ≡ judged (length t) (fieldsFrom base fuel d (drop at t) .outcome)
+  pub same : verdictOf base t ≡ verdictBy (length t) (fieldsFrom base fuel d (drop at t) .outcome)
 
 pub left-start : (t : List ℕ) → Left t 0 0
 unfolding verdictOf message
 left-start t = record { inside = omega arith; fuel = length t; enough = omega arith; same = refl }
 
 -- one field's end and depth decide what follows
-judged-prepend : (n : ℕ) (x : Field) (es : List Event) (o : Outcome Fields) → judged n (becoming (prepend x) (record { events = es; outcome = o }) .outcome) ≡ judged n o
-unfolding judged follow
+judged-prepend : (n : ℕ) (x : Field) (es : List Event) (o : Outcome Fields) → verdictBy n (becoming (prepend x) (record { events = es; outcome = o }) .outcome) ≡ verdictBy n o
+unfolding verdictBy follow
 judged-prepend n x es (whole fs rest) = refl
 judged-prepend n x es short = refl
 judged-prepend n x es (broken rest) = refl
 
 module _ (n d m : ℕ) (es : List Event) where
   next-whole : (o : Outcome Field) (e : ℕ) (rest : List ℕ) → deep d o ≡ whole e rest →
-      judged n (follow es o (λ x rest. becoming (prepend x) (fieldsFrom base m (depthAfter d x) rest)) .outcome) ≡ judged n (fieldsFrom base m e rest .outcome)
+      verdictBy n (follow es o (λ x rest. becoming (prepend x) (fieldsFrom base m (depthAfter d x) rest)) .outcome) ≡ verdictBy n (fieldsFrom base m e rest .outcome)
   unfolding deep follow
   next-whole (whole x bs) e rest k =
       let a : depthAfter d x ≡ e = cc in
       let b : bs ≡ rest = cc in
       judged-prepend n x (fieldsFrom base m (depthAfter d x) bs .events) (fieldsFrom base m (depthAfter d x) bs .outcome)
-      ∙ ap (λ (e : ℕ). judged n (fieldsFrom base m e bs .outcome)) a
-      ∙ ap (λ (bs : List ℕ). judged n (fieldsFrom base m e bs .outcome)) b
+      ∙ ap (λ (e : ℕ). verdictBy n (fieldsFrom base m e bs .outcome)) a
+      ∙ ap (λ (bs : List ℕ). verdictBy n (fieldsFrom base m e bs .outcome)) b
   next-whole short e rest k = absurd (let z : _≡_ {A = ℕ} 0 1 = cc in omega arith)
   next-whole (broken bs) e rest k = absurd (let z : _≡_ {A = ℕ} 0 1 = cc in omega arith)
 
-  next-short : (o : Outcome Field) → deep d o ≡ short → judged n (follow es o (λ x rest. becoming (prepend x) (fieldsFrom base m (depthAfter d x) rest)) .outcome) ≡ incomplete
-  unfolding deep follow judged
+  next-short : (o : Outcome Field) → deep d o ≡ short → verdictBy n (follow es o (λ x rest. becoming (prepend x) (fieldsFrom base m (depthAfter d x) rest)) .outcome) ≡ incomplete
+  unfolding deep follow verdictBy
   next-short (whole x bs) k = absurd (let z : _≡_ {A = ℕ} 0 1 = cc in omega arith)
   next-short short k = refl
   next-short (broken bs) k = absurd (let z : _≡_ {A = ℕ} 0 1 = cc in omega arith)
 
   next-broken : (o : Outcome Field) (rest : List ℕ) → deep d o ≡ broken rest →
-      judged n (follow es o (λ x rest. becoming (prepend x) (fieldsFrom base m (depthAfter d x) rest)) .outcome) ≡ brokenAt (n - length rest)
-  unfolding deep follow judged
+      verdictBy n (follow es o (λ x rest. becoming (prepend x) (fieldsFrom base m (depthAfter d x) rest)) .outcome) ≡ brokenAt (n - length rest)
+  unfolding deep follow verdictBy
   next-broken (whole x bs) rest k = absurd (let z : _≡_ {A = ℕ} 0 1 = cc in omega arith)
   next-broken short rest k = absurd (let z : _≡_ {A = ℕ} 0 1 = cc in omega arith)
   next-broken (broken bs) rest k = let b : bs ≡ rest = cc in ap (λ (l : List ℕ). brokenAt (n - length l)) b
@@ -198,8 +198,8 @@ fueled (suc m) d bs h l =
     unfolded m d bs h ∙ ap (λ (k : ℕ). follow (field base d bs .events) (field base d bs .outcome) (λ x rest. becoming (prepend x) (fieldsFrom base k (depthAfter d x) rest))) e
 
 module _ {t : List ℕ} {at d : ℕ} (s : Left t at d) (h : at < length t) where
-  turned : verdictOf base t ≡ judged (length t) (follow (field base d (drop at t) .events) (field base d (drop at t) .outcome) (λ x rest. becoming (prepend x) (fieldsFrom base (s .fuel - 1) (depthAfter d x) rest)) .outcome)
-  turned = s .same ∙ ap (λ (r : Reading Fields). judged (length t) (r .outcome)) (fueled (s .fuel) d (drop at t) (omega (arith, length-drop at t)) (s .enough))
+  turned : verdictOf base t ≡ verdictBy (length t) (follow (field base d (drop at t) .events) (field base d (drop at t) .outcome) (λ x rest. becoming (prepend x) (fieldsFrom base (s .fuel - 1) (depthAfter d x) rest)) .outcome)
+  turned = s .same ∙ ap (λ (r : Reading Fields). verdictBy (length t) (r .outcome)) (fueled (s .fuel) d (drop at t) (omega (arith, length-drop at t)) (s .enough))
 
   pub left-next : (n : Next) (i e : ℕ) → n ≡ Nexts.At i e → Goes t (at + 1) (afterField d (drop at t)) n → Left t i e
   unfolding afterField
@@ -226,14 +226,14 @@ module _ {t : List ℕ} {at d : ℕ} (s : Left t at d) (h : at < length t) where
       sym (turned ∙ next-broken (length t) d (s .fuel - 1) (field base d (drop at t) .events) (field base d (drop at t) .outcome) (drop i t) (p .same) ∙ ap brokenAt c)
 
 -- the end
-none-left : (n k d : ℕ) → judged k (fieldsFrom base n d [] .outcome) ≡ pick (eqb d 0) complete incomplete
-unfolding judged fieldsFrom
+none-left : (n k d : ℕ) → verdictBy k (fieldsFrom base n d [] .outcome) ≡ pick (eqb d 0) complete incomplete
+unfolding verdictBy fieldsFrom
 none-left zero k d = refl
 none-left (suc n) k d = refl
 
 module _ {t : List ℕ} {at d : ℕ} (s : Left t at d) (h : length t ≤ at) where
   over : verdictOf base t ≡ pick (eqb d 0) complete incomplete
-  over = s .same ∙ ap (λ (bs : List ℕ). judged (length t) (fieldsFrom base (s .fuel) d bs .outcome)) (drop-of-length-le t h) ∙ none-left (s .fuel) (length t) d
+  over = s .same ∙ ap (λ (bs : List ℕ). verdictBy (length t) (fieldsFrom base (s .fuel) d bs .outcome)) (drop-of-length-le t h) ∙ none-left (s .fuel) (length t) d
 
   pub left-complete : d ≡ 0 → complete ≡ verdictOf base t
   left-complete e = sym (over ∙ ap (λ (b : Bool). pick b complete incomplete) (eq-eqb _ _ e))

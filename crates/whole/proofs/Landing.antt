@@ -21,7 +21,7 @@ use Rattle.whole.specs.declared.Found.{Found}
 use Rattle.whole.specs.declared.Found.the-variants as Founds
 use Rattle.whole.specs.declared.Land.{Land}
 use Rattle.whole.specs.declared.Land.the-variants as Lands
-use Rattle.whole.specs.Whole.{Reaches, Passes, deep, skips, afterBody, jumped, leftBy}
+use Rattle.whole.specs.Whole.{Reaches, Passes, deep, skips, afterBody, jumped, noValue}
 use Rattle.whole.proofs.Found as found
 use Rattle.whole.proofs.Ends.{landed-before, reaches-inside, else-given}
 use Rattle.whole.proofs.Bodies.{hop, hops, hop-short, ends-low, ends-payload, ends-floats, ends-elements, deep-scalar, deep-becoming}
@@ -144,7 +144,7 @@ module _ {t : List ℕ} {at : ℕ} {f : Found} {w i : ℕ} (e : f ≡ Founds.Val
 
 -- the else of each
 pub fixlen-else : {t : List ℕ} {at : ℕ} (f : Found) → OneOf (1 ∷ 2 ∷ []) (tagOf found.the-type f) → Reaches t at (varint base (drop at t)) f → (id : ℕ) →
-    Passes t at (afterBody id T-fixlen (drop at t)) (leftBy f)
+    Passes t at (afterBody id T-fixlen (drop at t)) (noValue f)
 unfolding afterBody body
 fixlen-else {t} {at} f h q id = else-given t at (varint base (drop at t)) f (λ w rest. fixlen base id (w / 8) (subtypeOf (w % 8)) rest) h q
 
@@ -187,12 +187,12 @@ module _ {t : List ℕ} {at : ℕ} {f : Found} {n i : ℕ} (e : f ≡ Founds.Val
   floats-then id r p = then t at (countOf base (drop at t)) f n i _ r e q p
 
 pub array-else : {t : List ℕ} {at : ℕ} (f : Found) → OneOf (1 ∷ 2 ∷ []) (tagOf found.the-type f) → Reaches t at (countOf base (drop at t)) f → (id : ℕ) →
-    Passes t at (afterBody id T-unsigneds (drop at t)) (leftBy f)
+    Passes t at (afterBody id T-unsigneds (drop at t)) (noValue f)
 unfolding afterBody body
 array-else {t} {at} f h q id = else-given t at (countOf base (drop at t)) f _ h q
 
 pub floats-else : {t : List ℕ} {at : ℕ} (f : Found) → OneOf (1 ∷ 2 ∷ []) (tagOf found.the-type f) → Reaches t at (countOf base (drop at t)) f → (id : ℕ) →
-    Passes t at (afterBody id T-floats (drop at t)) (leftBy f)
+    Passes t at (afterBody id T-floats (drop at t)) (noValue f)
 unfolding afterBody body
 floats-else {t} {at} f h q id = else-given t at (countOf base (drop at t)) f _ h q
 
@@ -228,5 +228,5 @@ module _ {t : List ℕ} {i : ℕ} {f : Found} {w j : ℕ} (e : f ≡ Founds.Valu
       (λ d. floats-break d id c (w / 8) (w % 8) (drop j t) (λ x y. a (omega arith)) (λ x y. b (omega arith))))
 
 pub floats-word-else : {t : List ℕ} {i : ℕ} (f : Found) → OneOf (1 ∷ 2 ∷ []) (tagOf found.the-type f) → Reaches t i (varint base (drop i t)) f → (id c : ℕ) →
-    Passes t i (λ d. deep d (given (varint base (drop i t)) (λ w rest. floatArrayOf id c (w / 8) (subtypeOf (w % 8)) rest) .outcome)) (leftBy f)
+    Passes t i (λ d. deep d (given (varint base (drop i t)) (λ w rest. floatArrayOf id c (w / 8) (subtypeOf (w % 8)) rest) .outcome)) (noValue f)
 floats-word-else {t} {i} f h q id c = else-given t i (varint base (drop i t)) f _ h q

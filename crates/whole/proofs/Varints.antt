@@ -8,7 +8,7 @@ use native.Mathlib.Omega.{arith}
 use lib.Dec.{lit<}
 use lib.ListN.{length, drop, getD, drop-of-length-le}
 use lib.Seq.{drop-cons}
-use Rattle.layout.specs.Limits.{base, lastPlace}
+use Rattle.layout.specs.Limits.{base, lastByte}
 use Rattle.layout.specs.Varint.{Outcome, whole, short, broken, Push, more, value, overrun, push, digit, varintFrom, varint}
 use Rattle.varint.specs.declared.Acc.{Acc}
 use Rattle.varint.specs.declared.Push.the-variants.{More, Value, Overlong}
@@ -97,11 +97,11 @@ module _ {t : List ℕ} {at i : ℕ} {a : Acc} (u : Under t at i a) where
   pub under-end : length t ≤ i → Reaches t at (varint base (drop at t)) Founds.Short
   under-end h = record { same = u .same ∙ out t i (a .taken) (a .value) h; past = tt }
 
--- the same with the value left out: the number of bytes is i - at
+-- within a varint whose value is not asked for: the number of its bytes is i - at
 pub record Skipping (t : List ℕ) (at i : ℕ) : Type 0 where
   pub from : at ≤ i
   pub to : i ≤ length t
-  pub few : i - at ≤ lastPlace base
+  pub few : i - at ≤ lastByte base
   pub value : ℕ
   pub same : varint base (drop at t) ≡ varintFrom base (i - at) value (drop i t)
 
@@ -112,7 +112,7 @@ skipping-start t at h =
 
 module _ {t : List ℕ} {at i : ℕ} (s : Skipping t at i) (h : i < length t) where
   -- this byte goes on
-  pub skipping-more : i - at < lastPlace base → 128 ≤ getD t i 0 → Skipping t at (i + 1)
+  pub skipping-more : i - at < lastByte base → 128 ≤ getD t i 0 → Skipping t at (i + 1)
   skipping-more l g =
       let b = getD t i 0 in
       let k : i - at + 1 ≡ i + 1 - at = omega (arith, s .from) in
@@ -130,13 +130,13 @@ module _ {t : List ℕ} {at i : ℕ} (s : Skipping t at i) (h : i < length t) wh
   unfolding ends
   ending n e = record { same = λ d. ap (ends d) (s .same ∙ done t i (i - at) (s .value) h n e); past = (omega (arith, s .from), omega arith) }
 
-  pub skipping-ends : i - at < lastPlace base → getD t i 0 < 128 → Passes t at (λ d. ends d (varint base (drop at t))) (Lands.At (i + 1))
+  pub skipping-ends : i - at < lastByte base → getD t i 0 < 128 → Passes t at (λ d. ends d (varint base (drop at t))) (Lands.At (i + 1))
   skipping-ends l g = ending _ (steps.ends base (i - at) (s .value) (getD t i 0) l g)
 
-  pub skipping-last : lastPlace base ≤ i - at → getD t i 0 ≤ 1 → Passes t at (λ d. ends d (varint base (drop at t))) (Lands.At (i + 1))
+  pub skipping-last : lastByte base ≤ i - at → getD t i 0 ≤ 1 → Passes t at (λ d. ends d (varint base (drop at t))) (Lands.At (i + 1))
   skipping-last l g = ending _ (steps.ends-last base (i - at) (s .value) (getD t i 0) l (omega arith))
 
-  pub skipping-over : lastPlace base ≤ i - at → 1 < getD t i 0 → Passes t at (λ d. ends d (varint base (drop at t))) (Lands.Broken (i + 1))
+  pub skipping-over : lastByte base ≤ i - at → 1 < getD t i 0 → Passes t at (λ d. ends d (varint base (drop at t))) (Lands.Broken (i + 1))
   unfolding ends
   skipping-over l g = record { same = λ d. ap (ends d) (s .same ∙ over t i (i - at) (s .value) h (steps.overruns base (i - at) (s .value) (getD t i 0) l g)); past = omega arith }
 

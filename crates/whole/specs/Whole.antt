@@ -40,15 +40,15 @@ deep d short = short
 deep d (broken rest) = broken rest
 
 -- one after another
-unfoldable pub onward : Outcome ℕ → (List ℕ → Outcome ℕ) → Outcome ℕ
-onward (whole d rest) f = f rest
-onward short f = short
-onward (broken rest) f = broken rest
+unfoldable pub followed : Outcome ℕ → (List ℕ → Outcome ℕ) → Outcome ℕ
+followed (whole d rest) f = f rest
+followed short f = short
+followed (broken rest) f = broken rest
 
 -- n varints
 unfoldable pub skips : Limits → ℕ → ℕ → List ℕ → Outcome ℕ
 skips L d zero bs = whole d bs
-skips L d (suc n) bs = onward (ends d (varint L bs)) (λ rest. skips L d n rest)
+skips L d (suc n) bs = followed (ends d (varint L bs)) (λ rest. skips L d n rest)
 
 -- what follows a header, at depth d
 unfoldable pub afterBody : ℕ → Wire → List ℕ → ℕ → Outcome ℕ
@@ -109,10 +109,10 @@ pub record Goes (t : List ℕ) (at : ℕ) (o : Outcome ℕ) (r : Next) : Type 0 
 abbrev pub jumped : List ℕ → ℕ → ℕ → Land
 jumped t at n = pick (leb n (length t - at)) (Lands.At (at + n)) Lands.Short
 
-abbrev pub leftBy : Found → Land
-leftBy (Founds.Value v i) = Lands.Short
-leftBy Founds.Short = Lands.Short
-leftBy (Founds.Broken i) = Lands.Broken i
+abbrev pub noValue : Found → Land
+noValue (Founds.Value v i) = Lands.Short
+noValue Founds.Short = Lands.Short
+noValue (Founds.Broken i) = Lands.Broken i
 
 abbrev pub deepened : ℕ → Land → Next
 deepened d (Lands.At i) = Nexts.At i d

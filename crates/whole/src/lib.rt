@@ -8,13 +8,13 @@ ghost use Rattle.layout.specs.Limits.{base};
 ghost use Rattle.layout.specs.Varint.{varint};
 ghost use Rattle.layout.specs.Field.{wireOf, T-fixlen, T-unsigneds, T-floats};
 ghost use Rattle.layout.specs.Message.{headerOf, countOf, verdictOf};
-ghost use Rattle.whole.specs.Whole.{Reaches, Passes, Goes, ends, skips, afterBody, afterField, jumped, leftBy, deepened, verdictIn};
+ghost use Rattle.whole.specs.Whole.{Reaches, Passes, Goes, ends, skips, afterBody, afterField, jumped, noValue, deepened, verdictIn};
 use types::ARRAY_MAX;
 use types::FIXLEN_MAX;
 use types::ID_MAX;
 use types::MAX_DEPTH;
 use varint::Acc;
-use varint::LAST_PLACE;
+use varint::LAST_BYTE;
 use varint::Push;
 
 // What a message comes to; a broken one with the number of bytes up to the offending one, which is counted.
@@ -47,7 +47,7 @@ enum Next {
 
 // ---- varints
 
-// Any varint. It has two callers, so that the compiler keeps it out of line and their tests for one byte in line.
+// Any varint, out of line.
 fn long_varint_at(t: &[u8], at: usize) -> Found
     requires { ⌜ at ≤ length (now t) ⌝ }
     ensures { λ r. ⌜ Reaches (now (t .entry)) at (varint base (drop at (now (t .entry)))) r ⌝ }
@@ -121,7 +121,7 @@ fn count_at(t: &[u8], at: usize) -> Found
     found
 }
 
-// A varint whose value is not asked for: its end, and the rule of the tenth byte. Out of line, as above.
+// A varint whose value is not asked for, out of line: its end, and the rule of the tenth byte.
 fn skip_at(t: &[u8], at: usize) -> Land
     requires { ⌜ at ≤ length (now t) ⌝ }
     ensures { λ r. ⌜ Passes (now (t .entry)) at (λ d. ends d (varint base (drop at (now (t .entry))))) r ⌝ }
@@ -129,7 +129,7 @@ fn skip_at(t: &[u8], at: usize) -> Land
     let mut i = at;
     while i < t.len() {
         let b = t[i];
-        if i - at < LAST_PLACE as usize {
+        if i - at < LAST_BYTE as usize {
             if b < 128 {
                 return Land::At(i + 1);
             }
@@ -193,8 +193,8 @@ fn jump(t: &[u8], at: usize, n: u64) -> Land
 }
 
 // The answer where no value was found.
-fn leave(f: Found) -> Land
-    ensures { λ r. ⌜ r ≡ leftBy f ⌝ }
+fn no_value(f: Found) -> Land
+    ensures { λ r. ⌜ r ≡ noValue f ⌝ }
 {
     if let Found::Broken(i) = f {
         Land::Broken(i)
@@ -209,7 +209,7 @@ fn fixlen_at(t: &[u8], at: usize) -> Land
 {
     let found = varint_at(t, at);
     let Found::Value(word, i) = found else {
-        return leave(found);
+        return no_value(found);
     };
     let n = word / 8;
     match word % 8 {
@@ -245,7 +245,7 @@ fn array_at(t: &[u8], at: usize) -> Land
 {
     let found = count_at(t, at);
     let Found::Value(n, i) = found else {
-        return leave(found);
+        return no_value(found);
     };
     skip_varints(t, i, n)
 }
@@ -261,11 +261,11 @@ fn float_array_at(t: &[u8], at: usize) -> Land
 {
     let count = count_at(t, at);
     let Found::Value(n, i) = count else {
-        return leave(count);
+        return no_value(count);
     };
     let found = varint_at(t, i);
     let Found::Value(word, j) = found else {
-        return leave(found);
+        return no_value(found);
     };
     if word == FP32_WORD {
         return jump(t, j, n * 4);
@@ -321,7 +321,7 @@ fn field_at(t: &[u8], at: usize, depth: u32) -> Next
 {
     let found = header_at(t, at);
     let Found::Value(h, i) = found else {
-        return at_depth(leave(found), depth);
+        return at_depth(no_value(found), depth);
     };
     body_at(t, i, h % 8, depth)
 }

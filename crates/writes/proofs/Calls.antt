@@ -10,10 +10,10 @@ use Rattle.layout.specs.Limits.{pick}
 use Rattle.types.specs.Types.{refusal}
 use Rattle.ostream.specs.declared.OStream.{OStream}
 use Rattle.ostream.specs.Stream.{at, soundStream}
-use Rattle.ostream.specs.Emission.{Test, Verdict, accepted, refusedWith, judged, Call, writtenBy, written}
+use Rattle.ostream.specs.Emission.{Test, Judgement, accepted, refusedWith, judged, Call, writtenBy, written}
 use Rattle.ostream.specs.Calls.{unsound, idTooLarge, tooDeep, noneOpen}
 use Rattle.ostream.specs.Buffer.{badBuffer, countedBy, draining, changing}
-use Rattle.writes.specs.Series.{callOf, numbersIn, numbersOf, writes, drains, changes, said}
+use Rattle.writes.specs.Series.{callOf, numbersIn, numbersOf, writes, drains, changes, returned}
 use Rattle.writes.specs.Written.{Write, puts, opens, closes, keeps, op}
 use Rattle.writes.specs.Public.{Public, writeUnsigned, writeSigned, writeBoolean, writeFixlen, writePayload, writeFloat, writeArrayUnsigned, writeArraySigned, writeArrayFloat}
 use Rattle.writes.specs.Public.{writeSequenceBeginLazy, writeSequenceEnd, writeSequenceEndKeep, writeOf, citedBy}
@@ -50,26 +50,26 @@ short-unsound s size h = simp (lt-leb _ _ h)
 short-tests : (s : OStream) (size : ℕ) (ts : List Test) → size < s .offset → judged (unsound s size ∷ ts) ≡ refusedWith (refusal 6)
 short-tests s size ts h = ap (λ (b : Bool). judged (record { fails = not b; error = refusal 6 } ∷ ts)) (short-unsound s size h)
 
-short-verdict : (w : Write) (s : OStream) (size : ℕ) → size < s .offset → judged (op w .tests s size) ≡ refusedWith (refusal 6)
-short-verdict (puts ts x) s size h = short-tests s size ts h
-short-verdict (opens id) s size h = short-tests s size (tooDeep s ∷ idTooLarge id ∷ []) h
-short-verdict closes s size h = short-tests s size (noneOpen s ∷ []) h
-short-verdict keeps s size h = short-tests s size (noneOpen s ∷ []) h
+short-judgement : (w : Write) (s : OStream) (size : ℕ) → size < s .offset → judged (op w .tests s size) ≡ refusedWith (refusal 6)
+short-judgement (puts ts x) s size h = short-tests s size ts h
+short-judgement (opens id) s size h = short-tests s size (tooDeep s ∷ idTooLarge id ∷ []) h
+short-judgement closes s size h = short-tests s size (noneOpen s ∷ []) h
+short-judgement keeps s size h = short-tests s size (noneOpen s ∷ []) h
 
 -- "Number 6: the writer state isn't sound for the lent buffer", so such calls may stand anywhere in a series.
-pub short-write : (w : Write) (s : OStream) (b : List ℕ) (place : ℕ) → length b < s .offset → said (writes (op w) b place) s .numbers ≡ 6 ∷ []
+pub short-write : (w : Write) (s : OStream) (b : List ℕ) (place : ℕ) → length b < s .offset → returned (writes (op w) b place) s .numbers ≡ 6 ∷ []
 unfolding written writtenBy
-short-write w s b place h = ap (λ (v : Verdict). numbersIn (writtenBy v (callOf (op w) s (length b)) s b place .said)) (short-verdict w s (length b) h)
+short-write w s b place h = ap (λ (v : Judgement). numbersIn (writtenBy v (callOf (op w) s (length b)) s b place .said)) (short-judgement w s (length b) h)
 
-pub short-drain : (s : OStream) (b : List ℕ) → length b < s .offset → said (drains b) s .numbers ≡ 6 ∷ []
+pub short-drain : (s : OStream) (b : List ℕ) → length b < s .offset → returned (drains b) s .numbers ≡ 6 ∷ []
 unfolding draining
-short-drain s b h = ap (λ (v : Verdict). numbersOf (countedBy v s 0 .answer)) (short-tests s (length b) [] h)
+short-drain s b h = ap (λ (v : Judgement). numbersOf (countedBy v s 0 .answer)) (short-tests s (length b) [] h)
 
 -- "Number 5 judges the new buffer there, then number 6 the state by the old one."
 pub short-change : (s : OStream) (old new : List ℕ) (o : ℕ) (drained : Bool) → length old < s .offset
-    → said (changes old new o drained) s .numbers ≡ pick (badBuffer (length new) o drained .fails) 5 6 ∷ []
+    → returned (changes old new o drained) s .numbers ≡ pick (badBuffer (length new) o drained .fails) 5 6 ∷ []
 unfolding changing
-short-change s old new o drained h = ap (λ (v : Verdict). numbersOf (countedBy (pick (badBuffer (length new) o drained .fails) (refusedWith (refusal 5)) v) s o .answer)) (short-tests s (length old) [] h) ∙ go (badBuffer (length new) o drained .fails)
+short-change s old new o drained h = ap (λ (v : Judgement). numbersOf (countedBy (pick (badBuffer (length new) o drained .fails) (refusedWith (refusal 5)) v) s o .answer)) (short-tests s (length old) [] h) ∙ go (badBuffer (length new) o drained .fails)
   where
     go : (t : Bool) → numbersOf (countedBy (pick t (refusedWith (refusal 5)) (refusedWith (refusal 6))) s o .answer) ≡ pick t 5 6 ∷ []
     go true = refl

@@ -1,5 +1,5 @@
 -- How many drains a series costs: "A message of n bytes costs at most n drains, the last flush included unless it has no byte to send,
--- where every buffer lent has at least one byte and starts at offset 0."
+-- where every buffer lent has at least one byte and starts at offset 0".
 use Prim.Native.Nat.{ℕ, suc, _+_, _≤_}
 use native.Mathlib.Omega.{arith}
 use mathlib.Core.Path.{_≡_, refl, sym, ap, _∙_, subst}
@@ -15,7 +15,7 @@ use Rattle.emit.specs.Put.{put}
 use Rattle.emit.proofs.Writes.{length-put}
 use Rattle.ostream.specs.declared.Count.the-variants as Counts
 use Rattle.ostream.specs.Stream.{at}
-use Rattle.ostream.proofs.Called.{is-sound}
+use Rattle.ostream.proofs.Calls.{is-sound}
 use Rattle.writes.specs.Series.{Op, Desk, Act, write, drain, change, aside, other, beside, none, counts, sending, writing, act, acts, Allowed, Lawful, Plain}
 use Rattle.writes.proofs.Runs.{whole, Fine, by-write, by-change, by-aside, by-other, drained-desk, keeps, kept, all-sent}
 

@@ -16,10 +16,10 @@ use Rattle.ostream.specs.declared.OStream.{OStream}
 use Rattle.ostream.specs.declared.Count.the-variants as Counts
 use Rattle.ostream.specs.declared.Counted.{Counted}
 use Rattle.ostream.specs.Stream.{at}
-use Rattle.ostream.specs.Emission.{Verdict, accepted, refusedWith}
-use Rattle.ostream.proofs.Called.{is-sound}
+use Rattle.ostream.specs.Emission.{Judgement, accepted, refusedWith}
+use Rattle.ostream.proofs.Calls.{is-sound}
 use Rattle.ostream.proofs.Buffers.{fits, change-taken}
-use Rattle.writes.specs.Series.{Op, verdict, outputBy, doneBy, Steady, outputs, Desk, Act, write, drain, change, aside, other, sending, writing, act, acts, none, Allowed, Lawful, Plain, Frees, next, Outcome, ended, underway, carried, Ends}
+use Rattle.writes.specs.Series.{Op, judgement, outputBy, doneBy, Steady, outputs, Desk, Act, write, drain, change, aside, other, sending, writing, act, acts, none, Allowed, Lawful, Plain, Frees, next, Ending, ended, unfinished, carried, Ends}
 use Rattle.writes.proofs.Runs.{Placed, Fine, outputs-at, outputs-first, placed-in, kept-all, kept-part, kept-none, by-write, drained-desk, keeps}
 
 -- Only an end is told as one: where the turns run out, none is.
@@ -27,7 +27,7 @@ pub carried-ended : (sink : Desk → Act) (n : ℕ) (d e : Desk) → carried sin
 unfolding carried
 carried-ended sink zero d e q = absurd (never q)
   where
-    never : underway ≡ ended e → ⊥
+    never : unfinished ≡ ended e → ⊥
     never q = let z : _≡_ {A = ℕ} 0 1 = cc in omega arith
 carried-ended sink (suc n) d e q = go (carried-ended sink n (act (next sink d) d) e) (d .ops) refl q
   where
@@ -35,7 +35,7 @@ carried-ended sink (suc n) d e q = go (carried-ended sink n (act (next sink d) d
     same q = cc
 
     go : (carried sink n (act (next sink d) d) ≡ ended e → e .ops ≡ []) → (ops : List Op) → d .ops ≡ ops
-        → elim (none ops) as (λ t. Outcome) [ true ↦ ended d | false ↦ carried sink n (act (next sink d) d) ] ≡ ended e → e .ops ≡ []
+        → elim (none ops) as (λ t. Ending) [ true ↦ ended d | false ↦ carried sink n (act (next sink d) d) ] ≡ ended e → e .ops ≡ []
     go ih [] f q = ap (λ (x : Desk). x .ops) (sym (same q)) ∙ f
     go ih (op ∷ ops) f q = ih q
 
@@ -92,7 +92,7 @@ module _ (d : Desk) (op : Op) (rest : List Op) (r : Ready d) (e : d .ops ≡ op 
   s = d .stream
 
   -- what is to be done, by what the tests say
-  to-do : (v : Verdict) → verdict op s ≡ v → d .place ≤ length (outputBy v op s) → toDo d ≡ length (outputBy v op s) - d .place + length (outputs (doneBy v op s) rest) + suc (length rest)
+  to-do : (v : Judgement) → judgement op s ≡ v → d .place ≤ length (outputBy v op s) → toDo d ≡ length (outputBy v op s) - d .place + length (outputs (doneBy v op s) rest) + suc (length rest)
   to-do v a p =
       ap (λ (l : List ℕ). length (drop (d .place) l) + length (d .ops)) (outputs-first d op rest f e v a)
       ∙ ap (λ (l : List Op). length (drop (d .place) (outputBy v op s ++ outputs (doneBy v op s) rest)) + length l) e
@@ -132,7 +132,7 @@ module _ (d : Desk) (op : Op) (rest : List Op) (r : Ready d) (e : d .ops ≡ op 
       ))
       (λ x a.
       let k = kept-none d op rest f e x a in
-      let p : d .place ≤ 0 = subst (λ (v : Verdict). d .place ≤ length (outputBy v op s)) a (subst (λ (ops : List Op). Placed (d .place) s ops) e (f .placed)) in
+      let p : d .place ≤ 0 = subst (λ (v : Judgement). d .place ≤ length (outputBy v op s)) a (subst (λ (ops : List Op). Placed (d .place) s ops) e (f .placed)) in
       (record { fine = k .fine; room = r .room }, inl (omega (arith, to-do (refusedWith x) a p))))
 
 -- ---- the end
@@ -169,7 +169,7 @@ module _ (sink : Desk → Act) (able : (d : Desk) → Frees (sink d)) where
     where
       by-turn : (m : ℕ) → 1 ≤ m → carried sink m d ≡ ended d
       by-turn zero h = absurd (not-suc-le-zero h)
-      by-turn (suc m) h = ap (λ (ops : List Op). elim (none ops) as (λ t. Outcome) [ true ↦ ended d | false ↦ carried sink m (act (next sink d) d) ]) e
+      by-turn (suc m) h = ap (λ (ops : List Op). elim (none ops) as (λ t. Ending) [ true ↦ ended d | false ↦ carried sink m (act (next sink d) d) ]) e
 
   step : (d : Desk) (op : Op) (rest : List Op) → d .ops ≡ op ∷ rest → Reaches (act (next sink d) d) → Reaches d
   unfolding acts Lawful carried
@@ -185,7 +185,7 @@ module _ (sink : Desk → Act) (able : (d : Desk) → Frees (sink d)) where
       by-turn : (m : ℕ) → suc (r .count) ≤ m → carried sink m d ≡ ended (acts (r .made) (act (next sink d) d))
       by-turn zero h = absurd (not-suc-le-zero h)
       by-turn (suc m) h =
-          ap (λ (ops : List Op). elim (none ops) as (λ t. Outcome) [ true ↦ ended d | false ↦ carried sink m (act (next sink d) d) ]) e
+          ap (λ (ops : List Op). elim (none ops) as (λ t. Ending) [ true ↦ ended d | false ↦ carried sink m (act (next sink d) d) ]) e
           ∙ r .ends .enough m (omega arith)
 
   freeing-on : (d : Desk) (op : Op) (rest : List Op) → d .ops ≡ op ∷ rest → d .full ≡ true → Reaches (act (sink d) d) → Reaches d

@@ -63,9 +63,9 @@ pub begun-refused : (b : List ℕ) (o : ℕ) (drained : Bool) (ws : List Write) 
 unfolding wholeRefused opened refusedOf
 begun-refused b o drained ws = by-opening (λ (d : Desk). wholeRefused d ≡ refusedOf ws) b o drained (opsOf ws) (λ h. refusals-at (opened 0) o (opsOf ws) (steady ws)) refl
 
-pub begun-left : (b : List ℕ) (o : ℕ) (drained : Bool) (ws : List Write) (p : ℕ) → lastState (series b o drained ws) p ≡ stateOf ws p
+pub begun-state : (b : List ℕ) (o : ℕ) (drained : Bool) (ws : List Write) (p : ℕ) → lastState (series b o drained ws) p ≡ stateOf ws p
 unfolding lastState opened stateOf
-begun-left b o drained ws p = by-opening (λ (d : Desk). lastState d p ≡ stateOf ws p) b o drained (opsOf ws) (λ h. finally-at (opened 0) o (opsOf ws) p (steady ws)) refl
+begun-state b o drained ws p = by-opening (λ (d : Desk). lastState d p ≡ stateOf ws p) b o drained (opsOf ws) (λ h. finally-at (opened 0) o (opsOf ws) p (steady ws)) refl
 
 pub begun-lean : (b : List ℕ) (drained : Bool) (ws : List Write) → 1 ≤ length b → Lean (series b 0 drained ws)
 begun-lean b drained ws h = by-opening Lean b 0 drained (opsOf ws) (λ l. lean []) (lean (5 ∷ []))

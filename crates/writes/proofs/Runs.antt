@@ -19,14 +19,14 @@ use Rattle.ostream.specs.declared.OStream.{OStream}
 use Rattle.ostream.specs.declared.Count.the-variants as Counts
 use Rattle.ostream.specs.declared.Counted.{Counted}
 use Rattle.ostream.specs.Stream.{at}
-use Rattle.ostream.specs.Emission.{Verdict, accepted, refusedWith, judged, Call, Left, through, full, number, untouched, emittedBy, emitted, writtenBy, written}
+use Rattle.ostream.specs.Emission.{Judgement, accepted, refusedWith, judged, Call, Result, through, full, number, untouched, emittedBy, emitted, writtenBy, written}
 use Rattle.ostream.specs.Calls.{unsound}
 use Rattle.ostream.specs.Buffer.{badBuffer, countedBy, draining, changing}
-use Rattle.ostream.proofs.Called.{is-sound}
+use Rattle.ostream.proofs.Calls.{is-sound}
 use Rattle.ostream.proofs.Buffers.{sound-at, drained-is, fit, change-refused, change-taken}
 use Rattle.ostream.proofs.Answers.{written-refused, written-through, written-full}
-use Rattle.writes.specs.Series.{Able, Op, callOf, verdict, outputBy, doneBy, numbersBy, Steady, outputs, refusals, finally, Desk, numbersIn, numbersOf, Other, writes, drains, changes}
-use Rattle.writes.specs.Series.{Act, write, drain, change, aside, other, wrote, beside, sending, writing, said, act, acts, Refusal, Allowed, Lawful}
+use Rattle.writes.specs.Series.{Able, Op, callOf, judgement, outputBy, doneBy, numbersBy, Steady, outputs, refusals, finally, Desk, numbersIn, numbersOf, Other, writes, drains, changes}
+use Rattle.writes.specs.Series.{Act, write, drain, change, aside, other, wrote, beside, sending, writing, returned, act, acts, Refusal, Allowed, Lawful}
 
 -- ---- what is kept
 
@@ -43,7 +43,7 @@ lastState d p = at (finally (d .stream) (d .ops)) p
 
 abbrev pub Placed : ℕ → OStream → List Op → Type 0
 Placed place s [] = place ≡ 0
-Placed place s (op ∷ ops) = place ≤ length (outputBy (verdict op s) op s)
+Placed place s (op ∷ ops) = place ≤ length (outputBy (judgement op s) op s)
 
 pub record Fine (d : Desk) : Type 0 where
   pub sound : Able (d .stream) (length (d .buf))
@@ -61,20 +61,20 @@ pub record Kept (d d′ : Desk) : Type 0 where
 -- ---- a write does not look at the position
 
 module _ (op : Op) (h : Steady op) (s : OStream) (p : ℕ) where
-  verdict-at : verdict op (at s p) ≡ verdict op s
-  verdict-at = h .tests s p p (le-refl p)
+  judgement-at : judgement op (at s p) ≡ judgement op s
+  judgement-at = h .tests s p p (le-refl p)
 
-  output-at : outputBy (verdict op (at s p)) op (at s p) ≡ outputBy (verdict op s) op s
-  output-at = ap (λ (v : Verdict). outputBy v op (at s p)) verdict-at ∙ go (verdict op s)
+  output-at : outputBy (judgement op (at s p)) op (at s p) ≡ outputBy (judgement op s) op s
+  output-at = ap (λ (v : Judgement). outputBy v op (at s p)) judgement-at ∙ go (judgement op s)
     where
-      go : (v : Verdict) → outputBy v op (at s p) ≡ outputBy v op s
+      go : (v : Judgement) → outputBy v op (at s p) ≡ outputBy v op s
       go accepted = h .outputs s p
       go (refusedWith e) = refl
 
-  done-at : (q : ℕ) → at (doneBy (verdict op (at s p)) op (at s p)) q ≡ at (doneBy (verdict op s) op s) q
-  done-at q = ap (λ (v : Verdict). at (doneBy v op (at s p)) q) verdict-at ∙ go (verdict op s)
+  done-at : (q : ℕ) → at (doneBy (judgement op (at s p)) op (at s p)) q ≡ at (doneBy (judgement op s) op s) q
+  done-at q = ap (λ (v : Judgement). at (doneBy v op (at s p)) q) judgement-at ∙ go (judgement op s)
     where
-      go : (v : Verdict) → at (doneBy v op (at s p)) q ≡ at (doneBy v op s) q
+      go : (v : Judgement) → at (doneBy v op (at s p)) q ≡ at (doneBy v op s) q
       go accepted = h .leaves s p q
       go (refusedWith e) = refl
 
@@ -82,28 +82,28 @@ pub outputs-at : (s : OStream) (p : ℕ) (ops : List Op) → All Steady ops → 
 unfolding outputs
 outputs-at s p [] h = refl
 outputs-at s p (op ∷ ops) h =
-    let x : OStream = doneBy (verdict op (at s p)) op (at s p) in
-    let y : OStream = doneBy (verdict op s) op s in
+    let x : OStream = doneBy (judgement op (at s p)) op (at s p) in
+    let y : OStream = doneBy (judgement op s) op s in
     ap (λ (l : List ℕ). l ++ outputs x ops) (output-at op (h .0) s p)
-    ∙ ap (λ (l : List ℕ). outputBy (verdict op s) op s ++ l)
+    ∙ ap (λ (l : List ℕ). outputBy (judgement op s) op s ++ l)
     (sym (outputs-at x 0 ops (h .1)) ∙ ap (λ (s : OStream). outputs s ops) (done-at op (h .0) s p 0) ∙ outputs-at y 0 ops (h .1))
 
 pub refusals-at : (s : OStream) (p : ℕ) (ops : List Op) → All Steady ops → refusals (at s p) ops ≡ refusals s ops
 unfolding refusals
 refusals-at s p [] h = refl
 refusals-at s p (op ∷ ops) h =
-    let x : OStream = doneBy (verdict op (at s p)) op (at s p) in
-    let y : OStream = doneBy (verdict op s) op s in
-    ap (λ (v : Verdict). numbersBy v ++ refusals x ops) (verdict-at op (h .0) s p)
-    ∙ ap (λ (l : List ℕ). numbersBy (verdict op s) ++ l)
+    let x : OStream = doneBy (judgement op (at s p)) op (at s p) in
+    let y : OStream = doneBy (judgement op s) op s in
+    ap (λ (v : Judgement). numbersBy v ++ refusals x ops) (judgement-at op (h .0) s p)
+    ∙ ap (λ (l : List ℕ). numbersBy (judgement op s) ++ l)
     (sym (refusals-at x 0 ops (h .1)) ∙ ap (λ (s : OStream). refusals s ops) (done-at op (h .0) s p 0) ∙ refusals-at y 0 ops (h .1))
 
 pub finally-at : (s : OStream) (p : ℕ) (ops : List Op) (q : ℕ) → All Steady ops → at (finally (at s p) ops) q ≡ at (finally s ops) q
 unfolding finally
 finally-at s p [] q h = refl
 finally-at s p (op ∷ ops) q h =
-    let x : OStream = doneBy (verdict op (at s p)) op (at s p) in
-    let y : OStream = doneBy (verdict op s) op s in
+    let x : OStream = doneBy (judgement op (at s p)) op (at s p) in
+    let y : OStream = doneBy (judgement op s) op s in
     sym (finally-at x 0 ops q (h .1)) ∙ ap (λ (s : OStream). at (finally s ops) q) (done-at op (h .0) s p 0) ∙ finally-at y 0 ops q (h .1)
 
 -- ---- a write
@@ -152,51 +152,51 @@ module _ (d : Desk) (op : Op) (rest : List Op) (f : Fine d) (e : d .ops ≡ op �
   inside = is-sound s (length b) (f .sound .0) .inside
 
   -- its tests say the same over this buffer
-  here : judged (k .tests) ≡ verdict op s
+  here : judged (k .tests) ≡ judgement op s
   here = steady .0 .tests s (s .offset) (length b) inside
 
-  placed : d .place ≤ length (outputBy (verdict op s) op s)
+  placed : d .place ≤ length (outputBy (judgement op s) op s)
   placed = subst (λ (ops : List Op). Placed (d .place) s ops) e (f .placed)
 
-  pub placed-in : verdict op s ≡ accepted → d .place ≤ length o
-  placed-in a = subst (λ (v : Verdict). d .place ≤ length (outputBy v op s)) a placed
+  pub placed-in : judgement op s ≡ accepted → d .place ≤ length o
+  placed-in a = subst (λ (v : Judgement). d .place ≤ length (outputBy v op s)) a placed
 
   -- the bytes in the buffer, with those that a write adds
   grown : (xs : List ℕ) → drop r (take (s .offset) b ++ xs) ≡ drop r (take (s .offset) b) ++ xs
   grown xs = drop-append-le r (take (s .offset) b) xs (omega (arith, length-take (s .offset) b, inside, f .reserved))
 
   -- what comes first, by what the tests say
-  pub outputs-first : (v : Verdict) → verdict op s ≡ v → outputs s (d .ops) ≡ outputBy v op s ++ outputs (doneBy v op s) rest
+  pub outputs-first : (v : Judgement) → judgement op s ≡ v → outputs s (d .ops) ≡ outputBy v op s ++ outputs (doneBy v op s) rest
   unfolding outputs
-  outputs-first v a = ap (outputs s) e ∙ ap (λ (v : Verdict). outputBy v op s ++ outputs (doneBy v op s) rest) a
+  outputs-first v a = ap (outputs s) e ∙ ap (λ (v : Judgement). outputBy v op s ++ outputs (doneBy v op s) rest) a
 
-  refusals-first : (v : Verdict) → verdict op s ≡ v → refusals s (d .ops) ≡ numbersBy v ++ refusals (doneBy v op s) rest
+  refusals-first : (v : Judgement) → judgement op s ≡ v → refusals s (d .ops) ≡ numbersBy v ++ refusals (doneBy v op s) rest
   unfolding refusals
-  refusals-first v a = ap (refusals s) e ∙ ap (λ (v : Verdict). numbersBy v ++ refusals (doneBy v op s) rest) a
+  refusals-first v a = ap (refusals s) e ∙ ap (λ (v : Judgement). numbersBy v ++ refusals (doneBy v op s) rest) a
 
-  finally-first : (v : Verdict) → verdict op s ≡ v → (q : ℕ) → at (finally s (d .ops)) q ≡ at (finally (doneBy v op s) rest) q
+  finally-first : (v : Judgement) → judgement op s ≡ v → (q : ℕ) → at (finally s (d .ops)) q ≡ at (finally (doneBy v op s) rest) q
   unfolding finally
-  finally-first v a q = ap (λ (ops : List Op). at (finally s ops) q) e ∙ ap (λ (v : Verdict). at (finally (doneBy v op s) rest) q) a
+  finally-first v a q = ap (λ (ops : List Op). at (finally s ops) q) e ∙ ap (λ (v : Judgement). at (finally (doneBy v op s) rest) q) a
 
-  whole-is : (v : Verdict) → verdict op s ≡ v → whole d ≡ d .sent ++ (drop r (take (s .offset) b) ++ drop (d .place) (outputBy v op s ++ outputs (doneBy v op s) rest))
+  whole-is : (v : Judgement) → judgement op s ≡ v → whole d ≡ d .sent ++ (drop r (take (s .offset) b) ++ drop (d .place) (outputBy v op s ++ outputs (doneBy v op s) rest))
   unfolding whole
   whole-is v a = ap (λ (l : List ℕ). d .sent ++ (drop r (take (s .offset) b) ++ drop (d .place) l)) (outputs-first v a)
 
   -- all of it goes
-  all-goes : verdict op s ≡ accepted → length o - d .place ≤ length b - s .offset
+  all-goes : judgement op s ≡ accepted → length o - d .place ≤ length b - s .offset
       → written k s b (d .place) ≡ record { said = through; stream = at (op .done s) (s .offset + (length o - d .place)); buf = put b (s .offset) (drop (d .place) o) }
   all-goes a g = written-through k s b (d .place) (here ∙ a) (placed-in a) g
 
   -- as much as there is room for
-  part-goes : verdict op s ≡ accepted → length b - s .offset < length o - d .place
+  part-goes : judgement op s ≡ accepted → length b - s .offset < length o - d .place
       → written k s b (d .place) ≡ record { said = full (d .place + (length b - s .offset)); stream = at s (length b); buf = put b (s .offset) (drop (d .place) o) }
   part-goes a g = written-full k s b (d .place) (here ∙ a) (placed-in a) g
 
   -- nothing goes
-  none-goes : (x : Error) → verdict op s ≡ refusedWith x → written k s b (d .place) ≡ untouched (numberOf x) s b
+  none-goes : (x : Error) → judgement op s ≡ refusedWith x → written k s b (d .place) ≡ untouched (numberOf x) s b
   none-goes x a = written-refused k s b (d .place) x (here ∙ a)
 
-  pub kept-all : verdict op s ≡ accepted → length o - d .place ≤ length b - s .offset
+  pub kept-all : judgement op s ≡ accepted → length o - d .place ≤ length b - s .offset
       → Kept d (wrote d rest through (at (op .done s) (s .offset + (length o - d .place))) (put b (s .offset) (drop (d .place) o)))
   unfolding whole wholeRefused lastState
   kept-all a g =
@@ -232,7 +232,7 @@ module _ (d : Desk) (op : Op) (rest : List Op) (f : Fine d) (e : d .ops ≡ op �
         left = λ q. finally-at (op .done s) (s .offset + (length o - d .place)) rest q (steady .1) ∙ sym (finally-first accepted a q);
       }
 
-  pub kept-part : verdict op s ≡ accepted → length b - s .offset < length o - d .place
+  pub kept-part : judgement op s ≡ accepted → length b - s .offset < length o - d .place
       → Kept d (wrote d rest (full (d .place + (length b - s .offset))) (at s (length b)) (put b (s .offset) (drop (d .place) o)))
   unfolding whole wholeRefused lastState
   kept-part a g =
@@ -256,7 +256,7 @@ module _ (d : Desk) (op : Op) (rest : List Op) (f : Fine d) (e : d .ops ≡ op �
               steady = f .steady;
               placed =
                   subst (λ (ops : List Op). Placed (d .place + room) (at s (length b)) ops) (sym e)
-                  (subst (λ (l : List ℕ). d .place + room ≤ length l) (sym (output-at op (steady .0) s (length b) ∙ ap (λ (v : Verdict). outputBy v op s) a)) (omega (arith, placed-in a)));
+                  (subst (λ (l : List ℕ). d .place + room ≤ length l) (sym (output-at op (steady .0) s (length b) ∙ ap (λ (v : Judgement). outputBy v op s) a)) (omega (arith, placed-in a)));
             };
         same =
             ap (λ (l : List ℕ). d .sent ++ (drop r l ++ drop (d .place + room) (outputs (at s (length b)) (d .ops)))) w
@@ -274,10 +274,10 @@ module _ (d : Desk) (op : Op) (rest : List Op) (f : Fine d) (e : d .ops ≡ op �
       least x y h = omega arith
 
   -- a refused one is passed over: it has written nothing, and its number is kept
-  pub kept-none : (x : Error) → verdict op s ≡ refusedWith x → Kept d (wrote d rest (number (numberOf x)) s b)
+  pub kept-none : (x : Error) → judgement op s ≡ refusedWith x → Kept d (wrote d rest (number (numberOf x)) s b)
   unfolding whole wholeRefused lastState
   kept-none x a =
-      let z : d .place ≤ 0 = subst (λ (v : Verdict). d .place ≤ length (outputBy v op s)) a placed in
+      let z : d .place ≤ 0 = subst (λ (v : Judgement). d .place ≤ length (outputBy v op s)) a placed in
       let y : 0 ≡ d .place = omega arith in
       record {
         fine = record { sound = f .sound; reserved = f .reserved; as-came = f .as-came; steady = steady .1; placed = at-start s rest };
@@ -288,24 +288,24 @@ module _ (d : Desk) (op : Op) (rest : List Op) (f : Fine d) (e : d .ops ≡ op �
 
 -- a write, by its answer
 pub by-write : (P : Desk → Type 0) (d : Desk) (op : Op) (rest : List Op) (f : Fine d) (e : d .ops ≡ op ∷ rest)
-    → (verdict op (d .stream) ≡ accepted → length (op .output (d .stream)) - d .place ≤ length (d .buf) - d .stream .offset
+    → (judgement op (d .stream) ≡ accepted → length (op .output (d .stream)) - d .place ≤ length (d .buf) - d .stream .offset
     → P (wrote d rest through (at (op .done (d .stream)) (d .stream .offset + (length (op .output (d .stream)) - d .place))) (put (d .buf) (d .stream .offset) (drop (d .place) (op .output (d .stream))))))
-    → (verdict op (d .stream) ≡ accepted → length (d .buf) - d .stream .offset < length (op .output (d .stream)) - d .place
+    → (judgement op (d .stream) ≡ accepted → length (d .buf) - d .stream .offset < length (op .output (d .stream)) - d .place
     → P (wrote d rest (full (d .place + (length (d .buf) - d .stream .offset))) (at (d .stream) (length (d .buf))) (put (d .buf) (d .stream .offset) (drop (d .place) (op .output (d .stream))))))
-    → ((x : Error) → verdict op (d .stream) ≡ refusedWith x → P (wrote d rest (number (numberOf x)) (d .stream) (d .buf)))
+    → ((x : Error) → judgement op (d .stream) ≡ refusedWith x → P (wrote d rest (number (numberOf x)) (d .stream) (d .buf)))
     → P (writing d (op ∷ rest))
 unfolding writing
 by-write P d op rest f e done part none =
-    go (verdict op (d .stream)) refl (leb (length (op .output (d .stream)) - d .place) (length (d .buf) - d .stream .offset)) refl
+    go (judgement op (d .stream)) refl (leb (length (op .output (d .stream)) - d .place) (length (d .buf) - d .stream .offset)) refl
   where
-    next : Left → Desk
+    next : Result → Desk
     next r = wrote d rest (r .said) (r .stream) (r .buf)
 
-    go : (v : Verdict) → verdict op (d .stream) ≡ v → (t : Bool) → leb (length (op .output (d .stream)) - d .place) (length (d .buf) - d .stream .offset) ≡ t
+    go : (v : Judgement) → judgement op (d .stream) ≡ v → (t : Bool) → leb (length (op .output (d .stream)) - d .place) (length (d .buf) - d .stream .offset) ≡ t
         → P (next (written (callOf op (d .stream) (length (d .buf))) (d .stream) (d .buf) (d .place)))
-    go accepted a true t = subst (λ (r : Left). P (next r)) (sym (all-goes d op rest f e a (leb-true _ _ t))) (done a (leb-true _ _ t))
-    go accepted a false t = subst (λ (r : Left). P (next r)) (sym (part-goes d op rest f e a (leb-false _ _ t))) (part a (leb-false _ _ t))
-    go (refusedWith x) a t u = subst (λ (r : Left). P (next r)) (sym (none-goes d op rest f e x a)) (none x a)
+    go accepted a true t = subst (λ (r : Result). P (next r)) (sym (all-goes d op rest f e a (leb-true _ _ t))) (done a (leb-true _ _ t))
+    go accepted a false t = subst (λ (r : Result). P (next r)) (sym (part-goes d op rest f e a (leb-false _ _ t))) (part a (leb-false _ _ t))
+    go (refusedWith x) a t u = subst (λ (r : Result). P (next r)) (sym (none-goes d op rest f e x a)) (none x a)
 
 kept-writing : (d : Desk) (ops : List Op) (f : Fine d) → d .ops ≡ ops → Kept d (writing d ops)
 unfolding writing
@@ -382,19 +382,19 @@ pub unaltered : (c : Call) (s : OStream) (b : List ℕ) (place : ℕ) → Refusa
 unfolding written writtenBy
 unaltered c s b place = go (judged (c .tests))
   where
-    go : (v : Verdict) → Refusal (numbersIn (writtenBy v c s b place .said)) → (writtenBy v c s b place .stream ≡ s) × (writtenBy v c s b place .buf ≡ b)
+    go : (v : Judgement) → Refusal (numbersIn (writtenBy v c s b place .said)) → (writtenBy v c s b place .stream ≡ s) × (writtenBy v c s b place .buf ≡ b)
     go accepted n = emitted-unaltered s b (c .output) place (c .done) n
     go (refusedWith e) n = (refl, refl)
 
-counted-unaltered : (v : Verdict) (s : OStream) (p : ℕ) → Refusal (numbersOf (countedBy v s p .answer)) → countedBy v s p .stream ≡ s
+counted-unaltered : (v : Judgement) (s : OStream) (p : ℕ) → Refusal (numbersOf (countedBy v s p .answer)) → countedBy v s p .stream ≡ s
 counted-unaltered accepted s p n = absurd (no-number (n .0) (n .1))
 counted-unaltered (refusedWith e) s p n = refl
 
-pub said-unaltered : (x : Other) (s : OStream) → Refusal (said x s .numbers) → said x s .stream ≡ s
+pub returned-unaltered : (x : Other) (s : OStream) → Refusal (returned x s .numbers) → returned x s .stream ≡ s
 unfolding draining changing
-said-unaltered (writes op b place) s n = unaltered (callOf op s (length b)) s b place n .0
-said-unaltered (drains b) s n = counted-unaltered (judged (unsound s (length b) ∷ [])) s 0 n
-said-unaltered (changes old new o drained) s n = counted-unaltered (judged (badBuffer (length new) o drained ∷ unsound s (length old) ∷ [])) s o n
+returned-unaltered (writes op b place) s n = unaltered (callOf op s (length b)) s b place n .0
+returned-unaltered (drains b) s n = counted-unaltered (judged (unsound s (length b) ∷ [])) s 0 n
+returned-unaltered (changes old new o drained) s n = counted-unaltered (judged (badBuffer (length new) o drained ∷ unsound s (length old) ∷ [])) s o n
 
 -- a call beside the series, by what it returns
 pub by-aside : (P : Desk → Type 0) (d : Desk) (op : Op) (place : ℕ) → Allowed (aside op place) d → ((numbers : List ℕ) → P (beside d (d .stream) (d .buf) numbers)) → P (act (aside op place) d)
@@ -402,13 +402,13 @@ unfolding act Allowed
 by-aside P d op place h p =
     let c : Call = callOf op (d .stream) (length (d .buf)) in
     let u = unaltered c (d .stream) (d .buf) place h in
-    let r : Left = written c (d .stream) (d .buf) place in
+    let r : Result = written c (d .stream) (d .buf) place in
     let ns : List ℕ = numbersIn (r .said) in
     subst (λ (s : OStream). P (beside d s (r .buf) ns)) (sym (u .0)) (subst (λ (b : List ℕ). P (beside d (d .stream) b ns)) (sym (u .1)) (p ns))
 
 pub by-other : (P : Desk → Type 0) (d : Desk) (x : Other) → Allowed (other x) d → ((numbers : List ℕ) → P (beside d (d .stream) (d .buf) numbers)) → P (act (other x) d)
 unfolding act Allowed
-by-other P d x h p = subst (λ (s : OStream). P (beside d s (d .buf) (said x (d .stream) .numbers))) (sym (said-unaltered x (d .stream) h)) (p (said x (d .stream) .numbers))
+by-other P d x h p = subst (λ (s : OStream). P (beside d s (d .buf) (returned x (d .stream) .numbers))) (sym (returned-unaltered x (d .stream) h)) (p (returned x (d .stream) .numbers))
 
 -- ---- the run
 
@@ -452,6 +452,6 @@ all-told as′ d f h e =
     sym (append-nil (x .refused)) ∙ ap (λ (ops : List Op). x .refused ++ refusals (x .stream) ops) (sym e) ∙ r .told
 
 -- And the state is the one that the accepted writes leave, but for its position.
-pub all-left : (as′ : List Act) (d : Desk) → Fine d → Lawful as′ d → acts as′ d .ops ≡ [] → (p : ℕ) → at (acts as′ d .stream) p ≡ lastState d p
+pub all-state : (as′ : List Act) (d : Desk) → Fine d → Lawful as′ d → acts as′ d .ops ≡ [] → (p : ℕ) → at (acts as′ d .stream) p ≡ lastState d p
 unfolding lastState finally
-all-left as′ d f h e p = let x = acts as′ d in ap (λ (ops : List Op). at (finally (x .stream) ops) p) (sym e) ∙ kept as′ d f h .left p
+all-state as′ d f h e p = let x = acts as′ d in ap (λ (ops : List Op). at (finally (x .stream) ops) p) (sym e) ∙ kept as′ d f h .left p

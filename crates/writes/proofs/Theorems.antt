@@ -11,12 +11,12 @@ use Rattle.ostream.specs.Stream.{at, opened}
 use Rattle.ostream.specs.Buffer.{opening}
 use Rattle.writes.specs.Series.{Desk, Act, drain, act, acts, Lawful, reservedBy, begun, Plain, Stays, Frees, Ends, join}
 use Rattle.writes.specs.Written.{itemBytes, Write, written, Accepted, series, messageOf, refusedOf, stateOf}
-use Rattle.writes.proofs.Runs.{whole, kept, all-sent, all-told, all-left}
+use Rattle.writes.proofs.Runs.{whole, kept, all-sent, all-told, all-state}
 use Rattle.writes.proofs.Drains.{lean-acts, few-drains}
 use Rattle.writes.proofs.Ends.{calling-ends}
 use Rattle.writes.proofs.Transfers.{first-drain}
 use Rattle.writes.proofs.Written.{taken-all, none-refused}
-use Rattle.writes.proofs.Opening.{begun-fine, begun-whole, begun-refused, begun-left, begun-lean}
+use Rattle.writes.proofs.Opening.{begun-fine, begun-whole, begun-refused, begun-state, begun-lean}
 
 -- Of an accepted series, what it comes to are all its writes, and none is refused.
 pub writes-accepted : (ws : List Write) → Accepted (opened 0) ws → (messageOf ws ≡ each itemBytes (written [] ws)) × (refusedOf ws ≡ [])
@@ -40,8 +40,8 @@ module _ (b : List ℕ) (o : ℕ) (drained : Bool) (ws : List Write) (as′ : Li
   writes-told e = all-told as′ (series b o drained ws) (begun-fine b o drained ws) lawful e ∙ begun-refused b o drained ws
 
   -- Depth and held ids are those that the accepted writes leave.
-  pub writes-left : now .ops ≡ [] → (p : ℕ) → at (now .stream) p ≡ stateOf ws p
-  writes-left e p = all-left as′ (series b o drained ws) (begun-fine b o drained ws) lawful e p ∙ begun-left b o drained ws p
+  pub writes-state : now .ops ≡ [] → (p : ℕ) → at (now .stream) p ≡ stateOf ws p
+  writes-state e p = all-state as′ (series b o drained ws) (begun-fine b o drained ws) lawful e p ∙ begun-state b o drained ws p
 
   -- Such runs exist. Wherever a schedule has come to, over a buffer of one byte or more: some number of turns, each a call or, at "full", a
   -- drain or another buffer with a byte free, comes to an end where no write is left, more turns change nothing, and bytes, numbers and
@@ -56,7 +56,7 @@ module _ (b : List ℕ) (o : ℕ) (drained : Bool) (ws : List Write) (as′ : Li
         e,
         all-sent more now (k .fine) m (e .no-more) ∙ k .same ∙ begun-whole b o drained ws,
         all-told more now (k .fine) m (e .no-more) ∙ k .told ∙ begun-refused b o drained ws,
-        λ p. all-left more now (k .fine) m (e .no-more) p ∙ k .left p ∙ begun-left b o drained ws p,
+        λ p. all-state more now (k .fine) m (e .no-more) p ∙ k .left p ∙ begun-state b o drained ws p,
       )
 
   -- "They go out with the first drain, after which writing starts at 0": over one buffer, the first drain sends the bytes that the opening

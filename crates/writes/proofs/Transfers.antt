@@ -40,7 +40,7 @@ data Transferred (r : List ℕ) (d : Desk) : Type 0 where
   waiting : d .transfers ≡ [] → d .sent ≡ [] → d .reserved ≡ r → Transferred r d
   gone : (m : List ℕ) (ms : List (List ℕ)) → d .transfers ≡ (r ++ m) ∷ ms → d .sent ≡ m ++ join ms → d .reserved ≡ [] → Transferred r d
 
--- the same desk as far as transfers go
+-- a desk whose transfers, and what they sent, are another's
 same-transfers : (r : List ℕ) (d x : Desk) → x .transfers ≡ d .transfers → x .sent ≡ d .sent → x .reserved ≡ d .reserved → Transferred r d → Transferred r x
 same-transfers r d x a b c (waiting t s v) = waiting (a ∙ t) (b ∙ s) (c ∙ v)
 same-transfers r d x a b c (gone m ms t s v) = gone m ms (a ∙ t) (b ∙ s) (c ∙ v)

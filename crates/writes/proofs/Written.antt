@@ -17,12 +17,12 @@ use Rattle.layout.specs.Copy.{fieldBytes}
 use Rattle.types.specs.Types.{refusal}
 use Rattle.ostream.specs.declared.OStream.{OStream}
 use Rattle.ostream.specs.Stream.{at, every, soundStream, lazyDepth, heldBytes, committed, holding, dropped}
-use Rattle.ostream.specs.Emission.{Test, Verdict, accepted, refusedWith, judged}
+use Rattle.ostream.specs.Emission.{Test, Judgement, accepted, refusedWith, judged}
 use Rattle.ostream.specs.Calls.{unsound, idTooLarge, tooDeep, noneOpen}
 use Rattle.answers.proofs.Checks.{passed}
-use Rattle.ostream.proofs.Called.{Sound, is-sound, both}
+use Rattle.ostream.proofs.Calls.{Sound, is-sound, both}
 use Rattle.ostream.proofs.Places.{length-zeroed}
-use Rattle.writes.specs.Series.{Able, verdict, outputBy, doneBy, numbersBy, Steady, outputs, refusals}
+use Rattle.writes.specs.Series.{Able, judgement, outputBy, doneBy, numbersBy, Steady, outputs, refusals}
 use Rattle.writes.specs.Written.{Item, field, itemBytes, Write, puts, opens, closes, keeps, begins, front, heldBack, written, op, opsOf, Accepted, takenBy, taken}
 
 -- ---- sound states
@@ -140,8 +140,8 @@ unfolding soundStream
 sound-anywhere s p size h = simp (le-leb p size h, le-leb (s .offset) (s .offset) (le-refl (s .offset)))
 
 -- so a write's tests, of which soundness comes first, say the same over every buffer that holds the position
-same-verdict : (s : OStream) (p size : ℕ) (ts : List Test) → p ≤ size → judged (unsound (at s p) size ∷ ts) ≡ judged (unsound s (s .offset) ∷ ts)
-same-verdict s p size ts h = ap (λ (b : Bool). judged (record { fails = not b; error = refusal 6 } ∷ ts)) (sound-anywhere s p size h)
+same-judgement : (s : OStream) (p size : ℕ) (ts : List Test) → p ≤ size → judged (unsound (at s p) size ∷ ts) ≡ judged (unsound s (s .offset) ∷ ts)
+same-judgement s p size ts h = ap (λ (b : Bool). judged (record { fails = not b; error = refusal 6 } ∷ ts)) (sound-anywhere s p size h)
 
 at-pick : (t : Bool) (a a′ b b′ : OStream) (q : ℕ) → at a q ≡ at a′ q → at b q ≡ at b′ q → at (pick t a b) q ≡ at (pick t a′ b′) q
 at-pick true a a′ b b′ q e f = e
@@ -155,7 +155,7 @@ puts-steady : (ts : List Test) (x : Item) → Steady (op (puts ts x))
 unfolding heldBytes committed
 puts-steady ts x =
     record {
-      tests = λ s p size l. same-verdict s p size ts l;
+      tests = λ s p size l. same-judgement s p size ts l;
       outputs = λ s p. refl;
       leaves = λ s p q. refl;
       sound = λ s size p q a t l. committed-able s size (s .depth) p q a (is-sound s size (a .0) .shallow) l;
@@ -165,13 +165,13 @@ opens-steady : (id : ℕ) → Steady (op (opens id))
 unfolding heldBytes committed holding
 opens-steady id =
     record {
-      tests = λ s p size l. same-verdict s p size (tooDeep s ∷ idTooLarge id ∷ []) l;
+      tests = λ s p size l. same-judgement s p size (tooDeep s ∷ idTooLarge id ∷ []) l;
       outputs = λ s p. refl;
       leaves = λ s p q. at-pick (ltb (s .npending) lazyDepth) (holding (at s p) id) (holding s id) (committed (at s p) (s .depth + 1)) (committed s (s .depth + 1)) q refl refl;
       sound = λ s size p q a t l. opened-able s size p q a t l;
     }
   where
-    opened-able : (s : OStream) (size p q : ℕ) → Able s size → verdict (op (opens id)) s ≡ accepted → p ≤ q
+    opened-able : (s : OStream) (size p q : ℕ) → Able s size → judgement (op (opens id)) s ≡ accepted → p ≤ q
         → Able (at (pick (ltb (s .npending) lazyDepth) (holding s id) (committed s (s .depth + 1))) p) q
     opened-able s size p q a t l =
         let x = passed (unsound s (s .offset)) (tooDeep s ∷ idTooLarge id ∷ []) t in
@@ -189,13 +189,13 @@ closes-steady : Steady (op closes)
 unfolding heldBytes committed dropped
 closes-steady =
     record {
-      tests = λ s p size l. same-verdict s p size (noneOpen s ∷ []) l;
+      tests = λ s p size l. same-judgement s p size (noneOpen s ∷ []) l;
       outputs = λ s p. refl;
       leaves = λ s p q. at-pick (eqb (s .npending) 0) (committed (at s p) (s .depth - 1)) (committed s (s .depth - 1)) (dropped (at s p)) (dropped s) q refl refl;
       sound = closed-able;
     }
   where
-    closed-able : (s : OStream) (size p q : ℕ) → Able s size → verdict (op closes) s ≡ accepted → p ≤ q → Able (at (pick (eqb (s .npending) 0) (committed s (s .depth - 1)) (dropped s)) p) q
+    closed-able : (s : OStream) (size p q : ℕ) → Able s size → judgement (op closes) s ≡ accepted → p ≤ q → Able (at (pick (eqb (s .npending) 0) (committed s (s .depth - 1)) (dropped s)) p) q
     closed-able s size p q a t l = by-held (eqb (s .npending) 0) refl
       where
         by-held : (b : Bool) → eqb (s .npending) 0 ≡ b → Able (at (pick b (committed s (s .depth - 1)) (dropped s)) p) q
@@ -206,7 +206,7 @@ keeps-steady : Steady (op keeps)
 unfolding heldBytes committed
 keeps-steady =
     record {
-      tests = λ s p size l. same-verdict s p size (noneOpen s ∷ []) l;
+      tests = λ s p size l. same-judgement s p size (noneOpen s ∷ []) l;
       outputs = λ s p. refl;
       leaves = λ s p q. refl;
       sound = λ s size p q a t l. committed-able s size (s .depth - 1) p q a (omega (arith, is-sound s size (a .0) .shallow)) l;
@@ -381,9 +381,9 @@ accepted-written keeps s ws h ih =
 pub outputs-written : (ws : List Write) (s : OStream) → Eight s → outputs s (opsOf ws) ≡ each itemBytes (written (held s) (taken s ws))
 unfolding outputs written each taken
 outputs-written [] s h = refl
-outputs-written (w ∷ ws) s h = go (outputs-written ws) (verdict (op w) s)
+outputs-written (w ∷ ws) s h = go (outputs-written ws) (judgement (op w) s)
   where
-    go : ((s : OStream) → Eight s → Rest s ws) → (v : Verdict) → outputBy v (op w) s ++ outputs (doneBy v (op w) s) (opsOf ws) ≡ each itemBytes (written (held s) (takenBy v w (taken (doneBy v (op w) s) ws)))
+    go : ((s : OStream) → Eight s → Rest s ws) → (v : Judgement) → outputBy v (op w) s ++ outputs (doneBy v (op w) s) (opsOf ws) ≡ each itemBytes (written (held s) (takenBy v w (taken (doneBy v (op w) s) ws)))
     go ih accepted = accepted-written w s ws h ih
     go ih (refusedWith e) = ih s h
 
@@ -391,19 +391,19 @@ outputs-written (w ∷ ws) s h = go (outputs-written ws) (verdict (op w) s)
 pub taken-all : (ws : List Write) (s : OStream) → Accepted s ws → taken s ws ≡ ws
 unfolding taken Accepted
 taken-all [] s h = refl
-taken-all (w ∷ ws) s h = ap (λ (v : Verdict). takenBy v w (taken (doneBy v (op w) s) ws)) (h .0) ∙ ap (λ (l : List Write). w ∷ l) (taken-all ws (op w .done s) (h .1))
+taken-all (w ∷ ws) s h = ap (λ (v : Judgement). takenBy v w (taken (doneBy v (op w) s) ws)) (h .0) ∙ ap (λ (l : List Write). w ∷ l) (taken-all ws (op w .done s) (h .1))
 
 pub none-refused : (ws : List Write) (s : OStream) → Accepted s ws → refusals s (opsOf ws) ≡ []
 unfolding refusals Accepted
 none-refused [] s h = refl
-none-refused (w ∷ ws) s h = ap (λ (v : Verdict). numbersBy v ++ refusals (doneBy v (op w) s) (opsOf ws)) (h .0) ∙ none-refused ws (op w .done s) (h .1)
+none-refused (w ∷ ws) s h = ap (λ (v : Judgement). numbersBy v ++ refusals (doneBy v (op w) s) (opsOf ws)) (h .0) ∙ none-refused ws (op w .done s) (h .1)
 
 -- the writes of any series that are accepted are an accepted series
 pub taken-accepted : (ws : List Write) (s : OStream) → Accepted s (taken s ws)
 unfolding taken Accepted
 taken-accepted [] s = tt
-taken-accepted (w ∷ ws) s = go (taken-accepted ws) (verdict (op w) s) refl
+taken-accepted (w ∷ ws) s = go (taken-accepted ws) (judgement (op w) s) refl
   where
-    go : ((s : OStream) → Accepted s (taken s ws)) → (v : Verdict) → verdict (op w) s ≡ v → Accepted s (takenBy v w (taken (doneBy v (op w) s) ws))
+    go : ((s : OStream) → Accepted s (taken s ws)) → (v : Judgement) → judgement (op w) s ≡ v → Accepted s (takenBy v w (taken (doneBy v (op w) s) ws))
     go ih accepted e = (e, ih (op w .done s))
     go ih (refusedWith x) e = ih s

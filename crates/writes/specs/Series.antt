@@ -15,7 +15,7 @@ use Rattle.ostream.specs.declared.Count.{Count}
 use Rattle.ostream.specs.declared.Count.the-variants as Counts
 use Rattle.ostream.specs.Stream.{at, soundStream, lazyDepth}
 use Rattle.ostream.specs.Emission as calls
-use Rattle.ostream.specs.Emission.{Test, Verdict, accepted, refusedWith, judged, Call, through, full, number, saidOf, written}
+use Rattle.ostream.specs.Emission.{Test, Judgement, accepted, refusedWith, judged, Call, through, full, number, saidOf, written}
 use Rattle.ostream.specs.Buffer.{opening, draining, changing}
 
 -- ---- a write
@@ -34,41 +34,41 @@ abbrev pub callOf : Op → OStream → ℕ → Call
 callOf op s size = record { tests = op .tests s size; output = op .output s; done = op .done s }
 
 -- What its tests say where it stands. The buffer is one that ends at the position: by `Steady`, any other that holds the position is as good.
-abbrev pub verdict : Op → OStream → Verdict
-verdict op s = judged (op .tests s (s .offset))
+abbrev pub judgement : Op → OStream → Judgement
+judgement op s = judged (op .tests s (s .offset))
 
 -- what it puts out and leaves there, and its number where it is refused: "state and buffer unaltered"
-abbrev pub outputBy : Verdict → Op → OStream → List ℕ
+abbrev pub outputBy : Judgement → Op → OStream → List ℕ
 outputBy accepted op s = op .output s
 outputBy (refusedWith e) op s = []
 
-abbrev pub doneBy : Verdict → Op → OStream → OStream
+abbrev pub doneBy : Judgement → Op → OStream → OStream
 doneBy accepted op s = op .done s
 doneBy (refusedWith e) op s = s
 
-abbrev pub numbersBy : Verdict → List ℕ
+abbrev pub numbersBy : Judgement → List ℕ
 numbersBy accepted = []
 numbersBy (refusedWith e) = numberOf e ∷ []
 
 -- It looks at depth and held ids, and at the position only to see that it lies in the buffer; and it leaves a sound state sound.
 pub record Steady (op : Op) : Type 0 where
-  pub tests : (s : OStream) (p size : ℕ) → p ≤ size → judged (op .tests (at s p) size) ≡ verdict op s
+  pub tests : (s : OStream) (p size : ℕ) → p ≤ size → judged (op .tests (at s p) size) ≡ judgement op s
   pub outputs : (s : OStream) (p : ℕ) → op .output (at s p) ≡ op .output s
   pub leaves : (s : OStream) (p q : ℕ) → at (op .done (at s p)) q ≡ at (op .done s) q
-  pub sound : (s : OStream) (size p q : ℕ) → Able s size → verdict op s ≡ accepted → p ≤ q → Able (at (op .done s) p) q
+  pub sound : (s : OStream) (size p q : ℕ) → Able s size → judgement op s ≡ accepted → p ≤ q → Able (at (op .done s) p) q
 
 -- The whole output of some writes, one after another, those that are refused passed over; the numbers of these; and the state that is left.
 unfoldable pub outputs : OStream → List Op → List ℕ
 outputs s [] = []
-outputs s (op ∷ ops) = outputBy (verdict op s) op s ++ outputs (doneBy (verdict op s) op s) ops
+outputs s (op ∷ ops) = outputBy (judgement op s) op s ++ outputs (doneBy (judgement op s) op s) ops
 
 unfoldable pub refusals : OStream → List Op → List ℕ
 refusals s [] = []
-refusals s (op ∷ ops) = numbersBy (verdict op s) ++ refusals (doneBy (verdict op s) op s) ops
+refusals s (op ∷ ops) = numbersBy (judgement op s) ++ refusals (doneBy (judgement op s) op s) ops
 
 unfoldable pub finally : OStream → List Op → OStream
 finally s [] = s
-finally s (op ∷ ops) = finally (doneBy (verdict op s) op s) ops
+finally s (op ∷ ops) = finally (doneBy (judgement op s) op s) ops
 
 -- ---- the caller's side
 
@@ -188,14 +188,14 @@ writing d (op ∷ rest) =
     wrote d rest (r .said) (r .stream) (r .buf)
 
 -- what a call with another buffer answers, as far as it is a refusal, and the state that it returns
-pub record Said : Type 0 where
+pub record Returned : Type 0 where
   pub numbers : List ℕ
   pub stream : OStream
 
-abbrev pub said : Other → OStream → Said
-said (writes op b place) s = let r = written (callOf op s (length b)) s b place in record { numbers = numbersIn (r .said); stream = r .stream }
-said (drains b) s = let r = draining s (length b) in record { numbers = numbersOf (r .answer); stream = r .stream }
-said (changes old new o drained) s = let r = changing s (length old) (length new) o drained in record { numbers = numbersOf (r .answer); stream = r .stream }
+abbrev pub returned : Other → OStream → Returned
+returned (writes op b place) s = let r = written (callOf op s (length b)) s b place in record { numbers = numbersIn (r .said); stream = r .stream }
+returned (drains b) s = let r = draining s (length b) in record { numbers = numbersOf (r .answer); stream = r .stream }
+returned (changes old new o drained) s = let r = changing s (length old) (length new) o drained in record { numbers = numbersOf (r .answer); stream = r .stream }
 
 unfoldable pub act : Act → Desk → Desk
 act write d = writing d (d .ops)
@@ -204,7 +204,7 @@ act (change b o drained) d = let r = changing (d .stream) (length (d .buf)) (len
 act (aside op place) d =
     let r = written (callOf op (d .stream) (length (d .buf))) (d .stream) (d .buf) place in
     beside d (r .stream) (r .buf) (numbersIn (r .said))
-act (other x) d = let r = said x (d .stream) in beside d (r .stream) (d .buf) (r .numbers)
+act (other x) d = let r = returned x (d .stream) in beside d (r .stream) (d .buf) (r .numbers)
 
 unfoldable pub acts : List Act → Desk → Desk
 acts [] d = d
@@ -220,13 +220,13 @@ Allowed write d = Unit {0}
 Allowed drain d = Unit {0}
 Allowed (change b o drained) d = Unit {0}
 Allowed (aside op place) d = Refusal (numbersIn (written (callOf op (d .stream) (length (d .buf))) (d .stream) (d .buf) place .said))
-Allowed (other x) d = Refusal (said x (d .stream) .numbers)
+Allowed (other x) d = Refusal (returned x (d .stream) .numbers)
 
 unfoldable pub Lawful : List Act → Desk → Type 0
 Lawful [] d = Unit {0}
 Lawful (a ∷ as′) d = Allowed a d × Lawful as′ (act a d)
 
--- "Every buffer lent has at least one byte and starts at offset 0."
+-- "Every buffer lent has at least one byte and starts at offset 0".
 abbrev pub Plain : Act → Type 0
 Plain write = Unit {0}
 Plain drain = Unit {0}
@@ -284,12 +284,12 @@ abbrev pub next : (Desk → Act) → Desk → Act
 next sink d = pick (d .full) (sink d) write
 
 -- Carrying on for a number of turns comes to the desk where no write is left; where the turns run out before, it is under way.
-pub data Outcome : Type 0 where
-  ended : Desk → Outcome
-  underway : Outcome
+pub data Ending : Type 0 where
+  ended : Desk → Ending
+  unfinished : Ending
 
-unfoldable pub carried : (Desk → Act) → ℕ → Desk → Outcome
-carried sink zero d = underway
+unfoldable pub carried : (Desk → Act) → ℕ → Desk → Ending
+carried sink zero d = unfinished
 carried sink (suc n) d = elim (none (d .ops)) [ true ↦ ended d | false ↦ carried sink n (act (next sink d) d) ]
 
 -- n turns are enough to come to the end e, and more change nothing

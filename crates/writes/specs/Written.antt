@@ -10,9 +10,9 @@ use Rattle.layout.specs.Field.{Field, Subtype, each, begin, end}
 use Rattle.layout.specs.Copy.{fieldBytes}
 use Rattle.ostream.specs.declared.OStream.{OStream}
 use Rattle.ostream.specs.Stream.{at, lazyDepth, opened}
-use Rattle.ostream.specs.Emission.{Test, Verdict, accepted, refusedWith, Call}
+use Rattle.ostream.specs.Emission.{Test, Judgement, accepted, refusedWith, Call}
 use Rattle.ostream.specs.Calls.{unsound, content, fixlenBytes, beginCall, endCall, endKeepCall}
-use Rattle.writes.specs.Series.{Op, verdict, doneBy, refusals, finally, Desk, begun}
+use Rattle.writes.specs.Series.{Op, judgement, doneBy, refusals, finally, Desk, begun}
 
 -- what stands in a message: a field of the layout, or what the general fixed-length writer was given, at any length
 pub data Item : Type 0 where
@@ -71,16 +71,16 @@ opsOf (w ∷ ws) = op w ∷ opsOf ws
 -- a series in which each write's tests pass where it stands
 unfoldable pub Accepted : OStream → List Write → Type 0
 Accepted s [] = Unit {0}
-Accepted s (w ∷ ws) = (verdict (op w) s ≡ accepted) × Accepted (op w .done s) ws
+Accepted s (w ∷ ws) = (judgement (op w) s ≡ accepted) × Accepted (op w .done s) ws
 
 -- the accepted ones of any series
-abbrev pub takenBy : Verdict → Write → List Write → List Write
+abbrev pub takenBy : Judgement → Write → List Write → List Write
 takenBy accepted w ws = w ∷ ws
 takenBy (refusedWith e) w ws = ws
 
 unfoldable pub taken : OStream → List Write → List Write
 taken s [] = []
-taken s (w ∷ ws) = takenBy (verdict (op w) s) w (taken (doneBy (verdict (op w) s) (op w) s) ws)
+taken s (w ∷ ws) = takenBy (judgement (op w) s) w (taken (doneBy (judgement (op w) s) (op w) s) ws)
 
 -- a writer opened over a buffer, and the writes that it is to make
 abbrev pub series : List ℕ → ℕ → Bool → List Write → Desk

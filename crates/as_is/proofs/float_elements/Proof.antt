@@ -32,7 +32,7 @@ mul-t12 c = record { fits = omega (arith, within c, long c) }
 
 returns : tie.Need-returns
 returns c =
-    let f : Fits w8 (c .before .before .before .before .args .depth) = search needs in
+    let f : Fits w8 (c .before .before .before .before .args .carried .depth) = search needs in
     by-phase _ _ _ _ _ _ (c .before .floats .ensures)
     (floats-ahead _ _ _ _ _ _ (omega (arith, f .fits)) (c .before .before .before .before .pre .0) (c .before .before .before .before .pre .1 .0) (c .before .before .before .before .pre .1 .1) (c .before .before .some-floats .ensures .0) (within c) (c .before .before .before .before .args .w) (λ j. c .before .before .before .shared-slice-known .given j .fits) (all-of c) (float-width (c .before .before .before .before .args .w) .0))
 

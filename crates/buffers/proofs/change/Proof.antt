@@ -1,9 +1,9 @@
 -- `buffers::change`: 5 by the new buffer, then 6 by the old one; else the old position, and the offset.
 use mathlib.Core.Bool.{Bool, not}
 use mathlib.Core.Path.{_≡_, sym, ap, _∙_}
-use Rattle.answers.specs.Judged.{Verdict, judged, checkOf}
+use Rattle.answers.specs.Judged.{Judgement, judged, checkOf}
 use Rattle.answers.proofs.Checks.{check-passes, check-fails}
-use Rattle.held.specs.Places.{soundWriter}
+use Rattle.held.specs.Places.{soundFor}
 use Rattle.buffers.specs.Moved.{movedBy, changeTests}
 use borrow.Author.Needs.{needs}
 use Rattle.buffers.proofs.change.Statement.{statement}
@@ -13,21 +13,21 @@ use Rattle.buffers.proofs.change.Lts as lts
 use Rattle.answers.proofs.check_change.Reads as check-change-reads
 use Rattle.held.proofs.sound_for.Reads as sound-for-reads
 
-abbrev verdict : tie.After-check-change → Verdict
-verdict c = let a = c .before .before .args in judged (changeTests (soundWriter (a .pos) (a .depth) (a .held) (a .places) (a .old)) (a .new) (a .offset) (a .drained))
+abbrev judgement : tie.After-check-change → Judgement
+judgement c = let a = c .before .before .args in judged (changeTests (soundFor (a .pos) (a .depth) (a .held) (a .places) (a .old)) (a .new) (a .offset) (a .drained))
 
-judges : (c : tie.After-check-change) → c .check-change .result ≡ checkOf (verdict c)
+judges : (c : tie.After-check-change) → c .check-change .result ≡ checkOf (judgement c)
 judges c = let a = c .before .before .args in c .check-change .ensures ∙ ap (λ (sound : Bool). checkOf (judged (changeTests sound (a .new) (a .offset) (a .drained)))) (c .before .sound-for .ensures)
 
 returns : tie.Need-returns
 returns c =
     let a = c .before .before .before .args in
-    sym (ap (λ (v : Verdict). movedBy v (a .pos) (a .offset)) (check-passes (verdict (c .before)) _ (judges (c .before)) (ap not (c .if1 .taken))))
+    sym (ap (λ (v : Judgement). movedBy v (a .pos) (a .offset)) (check-passes (judgement (c .before)) _ (judges (c .before)) (ap not (c .if1 .taken))))
 
 returns-2 : tie.Need-returns-2
 returns-2 c =
     let a = c .before .before .before .args in
-    sym (ap (λ (v : Verdict). movedBy v (a .pos) (a .offset)) (check-fails (verdict (c .before)) _ (judges (c .before)) (ap not (c .if1 .left))))
+    sym (ap (λ (v : Judgement). movedBy v (a .pos) (a .offset)) (check-fails (judgement (c .before)) _ (judges (c .before)) (ap not (c .if1 .left))))
 
 pub change-spec : {M : Type 1} → statement M
 change-spec =

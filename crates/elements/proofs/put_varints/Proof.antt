@@ -8,7 +8,7 @@ use Rattle.layout.specs.Limits.{base, longest}
 use Rattle.layout.specs.Varint.{shortest}
 use Rattle.varint.proofs.Shortest.{length-longest, length-some}
 use Rattle.emit.proofs.Segments.{all-left}
-use Rattle.elements.proofs.Onward.{Onward, drop-shifted, onward-start, onward-next, onward-end, onward-went}
+use Rattle.elements.proofs.Resumed.{Resumed, drop-shifted, resumed-start, resumed-next, resumed-end, resumed-went}
 use Rattle.elements.proofs.put_varints.Statement.{statement}
 use Rattle.elements.proofs.put_varints.Tie as tie
 use Rattle.elements.proofs.put_varints.Reads as reads
@@ -21,7 +21,7 @@ returns : tie.Need-returns
 returns c = all-left (c .before .before .before .before .before .before .before .args .cursor) _ _ _ _ (c .before .before .before .before .if1 .taken) (c .before .before .varints-from .ensures)
 
 returns-2 : tie.Need-returns-2
-returns-2 c = onward-end shortest _ _ _ _ _ _ _ (onward-start shortest _ (c .before .before .before .before .before .args .cursor) _ _ _ (c .before .before .before .before .before .pre) (c .before .varints-out .ensures)) (c .if2 .taken)
+returns-2 c = resumed-end shortest _ _ _ _ _ _ _ (resumed-start shortest _ (c .before .before .before .before .before .args .cursor) _ _ _ (c .before .before .before .before .before .pre) (c .before .varints-out .ensures)) (c .if2 .taken)
 
 -- fewer bytes of the first varint are out than it has, which are no more than the longest has
 short : (c : tie.After-put-whole-arg) → c .before .before .before .varints-out .result .part < length (shortest (getD (c .before .before .before .before .before .before .before .args .items .now) (c .before .before .before .varints-out .result .whole) 0))
@@ -31,13 +31,13 @@ few : (c : tie.After-put-whole-arg) → c .before .before .before .varints-out .
 few c = let i = c .before .before .before .varints-out .result .whole in let k = short c in let l = length-longest base (getD (c .before .before .before .before .before .before .before .args .items .now) i 0) (c .before .shared-slice-known2 .given i .fits) in omega arith
 
 -- the first is out
-begun : (c : tie.After-slice-known3) → Onward shortest (c .before .before .before .before .before .before .before .before .before .before .args .items .now) (c .before .before .before .before .before .before .before .before .before .before .args .cursor) (c .before .before .before .before .before .before .before .before .before .before .args .buf .now) (c .before .before .put-whole .last .0) (c .before .before .put-whole .result) (c .before .before .before .before .before .before .varints-out .result .whole + 1) 0
+begun : (c : tie.After-slice-known3) → Resumed shortest (c .before .before .before .before .before .before .before .before .before .before .args .items .now) (c .before .before .before .before .before .before .before .before .before .before .args .cursor) (c .before .before .before .before .before .before .before .before .before .before .args .buf .now) (c .before .before .put-whole .last .0) (c .before .before .put-whole .result) (c .before .before .before .before .before .before .varints-out .result .whole + 1) 0
 begun c =
     let o = c .before .before .before .before .before .before .varints-out in
-    onward-next shortest _ _ _ _ _ _ _ (onward-start shortest _ (c .before .before .before .before .before .before .before .before .before .before .args .cursor) _ _ _ (c .before .before .before .before .before .before .before .before .before .before .pre) (o .ensures)) length-some 0 _ _ _ (c .before .before .before .before .before .if2 .left) (sym (drop-shifted (o .result .part) _ (short (c .before .before .before)))) (c .before .before .put-whole .ensures)
+    resumed-next shortest _ _ _ _ _ _ _ (resumed-start shortest _ (c .before .before .before .before .before .before .before .before .before .before .args .cursor) _ _ _ (c .before .before .before .before .before .before .before .before .before .before .pre) (o .ensures)) length-some 0 _ _ _ (c .before .before .before .before .before .if2 .left) (sym (drop-shifted (o .result .part) _ (short (c .before .before .before)))) (c .before .before .put-whole .ensures)
 
 returns-3 : tie.Need-returns-3
-returns-3 c = onward-went shortest _ _ _ _ _ _ (begun (c .before .before .before .before)) _ _ (c .before .before .varints-from2 .ensures)
+returns-3 c = resumed-went shortest _ _ _ _ _ _ (begun (c .before .before .before .before)) _ _ (c .before .before .varints-from2 .ensures)
 
 pub put-varints-spec : {M : Type 1} → statement M
 put-varints-spec =

@@ -7,7 +7,7 @@ use borrow.Author.Tests.{ltb-true, ltb-false}
 use lib.ListN.{length, drop}
 use Rattle.layout.specs.Varint.{shortest}
 use Rattle.layout.specs.Field.{each}
-use Rattle.elements.proofs.Onward.{Going, going-start, going-next, going-end, going-full}
+use Rattle.elements.proofs.Resumed.{Going, going-start, going-next, going-end, going-full}
 use Rattle.elements.proofs.varints_from.Statement.{statement}
 use Rattle.elements.proofs.varints_from.Tie as tie
 use Rattle.elements.proofs.varints_from.Reads as reads

@@ -6,7 +6,7 @@ use lib.ListN.{length, getD}
 use Rattle.layout.specs.Limits.{base, longest}
 use Rattle.layout.specs.Varint.{shortest}
 use Rattle.varint.proofs.Shortest.{length-longest}
-use Rattle.elements.proofs.Onward.{Counting, out-start, out-next, out-stop, out-end}
+use Rattle.elements.proofs.Resumed.{Counting, out-start, out-next, out-stop, out-end}
 use Rattle.elements.proofs.varints_out.Statement.{statement}
 use Rattle.elements.proofs.varints_out.Tie as tie
 use Rattle.elements.proofs.varints_out.Reads as reads

@@ -11,7 +11,7 @@ use mir.ValLaws.{toZ-ofZ}
 use Rattle.layout.specs.Varint.{shortest}
 use Rattle.layout.specs.Zigzag.{zigzag}
 use Rattle.layout.specs.Field.{each}
-use Rattle.elements.proofs.Onward.{Going, going-start, going-next, going-end, going-full}
+use Rattle.elements.proofs.Resumed.{Going, going-start, going-next, going-end, going-full}
 use Rattle.elements.proofs.zigzags_from.Statement.{statement}
 use Rattle.elements.proofs.zigzags_from.Tie as tie
 use Rattle.elements.proofs.zigzags_from.Reads as reads

@@ -11,7 +11,7 @@ use Rattle.layout.specs.Limits.{base, longest}
 use Rattle.layout.specs.Varint.{shortest}
 use Rattle.layout.specs.Zigzag.{zigzag}
 use Rattle.varint.proofs.Shortest.{length-longest}
-use Rattle.elements.proofs.Onward.{Counting, out-start, out-next, out-stop, out-end}
+use Rattle.elements.proofs.Resumed.{Counting, out-start, out-next, out-stop, out-end}
 use Rattle.elements.proofs.zigzags_out.Statement.{statement}
 use Rattle.elements.proofs.zigzags_out.Tie as tie
 use Rattle.elements.proofs.zigzags_out.Reads as reads

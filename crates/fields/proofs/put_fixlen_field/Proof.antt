@@ -1,4 +1,4 @@
--- `fields::put_fixlen_field`: straight away, or the head and the bytes from the place on.
+-- `fields::put_fixlen_field`: at once, or the head and the bytes from the place on.
 use Prim.Native.Nat.{_+_, _-_, _≤_}
 use mathlib.Core.Path.{sym, _∙_}
 use mathlib.Core.List.{_++_}
@@ -11,7 +11,7 @@ use Rattle.varint.proofs.Shortest.{length-longest}
 use Rattle.emit.proofs.Segments.{joined}
 use Rattle.held.specs.Headers.{headersOf, headOf, pairMost}
 use Rattle.held.proofs.Ends.{ended, ended-as, grouped}
-use Rattle.straight.proofs.Straight.{clean-zeros}
+use Rattle.write_at_once.proofs.AtOnce.{clean-zeros}
 use Rattle.fields.proofs.Behind.{behind}
 use borrow.Author.Needs.{needs}
 use Rattle.fields.proofs.put_fixlen_field.Statement.{statement}
@@ -24,7 +24,7 @@ use Rattle.held.proofs.has_room_behind.Reads as has-room-behind-reads
 use Rattle.held.proofs.head_len.Reads as head-len-reads
 use Rattle.held.proofs.put_head.Reads as put-head-reads
 use Rattle.held.proofs.put_held.Reads as put-held-reads
-use Rattle.straight.proofs.put_field.Reads as put-field-reads
+use Rattle.write_at_once.proofs.put_field.Reads as put-field-reads
 
 returns : tie.Need-returns
 returns c =

@@ -1,4 +1,4 @@
--- `fields::put_varint_field`: straight away, or the head from the place on.
+-- `fields::put_varint_field`: at once, or the head from the place on.
 use Prim.Native.Nat.{_+_, _-_, _≤_}
 use mathlib.Core.Path.{sym, _∙_}
 use mathlib.Core.List.{_++_}
@@ -10,7 +10,7 @@ use Rattle.layout.specs.Varint.{shortest}
 use Rattle.varint.proofs.Shortest.{length-longest}
 use Rattle.held.specs.Headers.{headersOf, pairMost}
 use Rattle.held.proofs.Ends.{ended}
-use Rattle.straight.proofs.Straight.{clean-zeros}
+use Rattle.write_at_once.proofs.AtOnce.{clean-zeros}
 use Rattle.fields.proofs.Behind.{behind}
 use borrow.Author.Needs.{needs}
 use Rattle.fields.proofs.put_varint_field.Statement.{statement}
@@ -22,7 +22,7 @@ use Rattle.held.proofs.has_room_behind.Reads as has-room-behind-reads
 use Rattle.held.proofs.head_len.Reads as head-len-reads
 use Rattle.held.proofs.put_head.Reads as put-head-reads
 use Rattle.held.proofs.put_held.Reads as put-held-reads
-use Rattle.straight.proofs.put_pair.Reads as put-pair-reads
+use Rattle.write_at_once.proofs.put_pair.Reads as put-pair-reads
 
 returns : tie.Need-returns
 returns c =

@@ -1,7 +1,7 @@
 -- `floats::evenly_out`: as many whole elements as the bytes have room for, and no more than there are.
 use native.Mathlib.Omega.{arith}
 use borrow.Author.Needs.{needs}
-use Rattle.elements.proofs.Onward.{evenly}
+use Rattle.elements.proofs.Resumed.{evenly}
 use Rattle.floats.proofs.evenly_out.Statement.{statement}
 use Rattle.floats.proofs.evenly_out.Tie as tie
 use Rattle.floats.proofs.evenly_out.Reads as reads

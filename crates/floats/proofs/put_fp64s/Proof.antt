@@ -7,7 +7,7 @@ use lib.ListN.{length, take, drop}
 use Rattle.layout.specs.Field.{each, lowBytes}
 use Rattle.emit.proofs.Low.{length-low}
 use Rattle.emit.proofs.Turns.{Whole, whole-as}
-use Rattle.elements.proofs.Onward.{Onward, out-evenly, onward-start, onward-next, onward-part, onward-run, run-fits, run-ends, onward-last, onward-end}
+use Rattle.elements.proofs.Resumed.{Resumed, out-evenly, resumed-start, resumed-next, resumed-part, resumed-run, run-fits, run-ends, resumed-last, resumed-end}
 use Rattle.floats.proofs.put_fp64s.Statement.{statement}
 use Rattle.floats.proofs.put_fp64s.Tie as tie
 use Rattle.floats.proofs.put_fp64s.Reads as reads
@@ -20,17 +20,17 @@ use Rattle.emit.proofs.put_part.Reads as put-part-reads
 some : (x : ℕ) → 1 ≤ length (lowBytes 8 x)
 some x = let e = length-low 8 x in omega arith
 
-start : (c : tie.After-evenly-out) → Onward (lowBytes 8) (c .before .before .before .args .items .now) (c .before .before .before .args .cursor) (c .before .before .before .args .buf .now) (c .before .before .before .args .buf .now) (c .before .before .before .args .cursor .pos) (c .evenly-out .result .whole) (c .evenly-out .result .part)
-start c = let e = c .evenly-out .ensures in onward-start (lowBytes 8) _ (c .before .before .before .args .cursor) _ _ _ (c .before .before .before .pre) (out-evenly (lowBytes 8) _ 8 (omega arith) (λ x. length-low 8 x) _ _ _ (e .0) (e .1) (e .2))
+start : (c : tie.After-evenly-out) → Resumed (lowBytes 8) (c .before .before .before .args .items .now) (c .before .before .before .args .cursor) (c .before .before .before .args .buf .now) (c .before .before .before .args .buf .now) (c .before .before .before .args .cursor .pos) (c .evenly-out .result .whole) (c .evenly-out .result .part)
+start c = let e = c .evenly-out .ensures in resumed-start (lowBytes 8) _ (c .before .before .before .args .cursor) _ _ _ (c .before .before .before .pre) (out-evenly (lowBytes 8) _ 8 (omega arith) (λ x. length-low 8 x) _ _ _ (e .0) (e .1) (e .2))
 
 returns : tie.Need-returns
-returns c = onward-end (lowBytes 8) _ _ _ _ _ _ _ (start (c .before)) (c .if1 .taken)
+returns c = resumed-end (lowBytes 8) _ _ _ _ _ _ _ (start (c .before)) (c .if1 .taken)
 
 put-part-requires : tie.Need-put-part-requires
-put-part-requires c κs = (omega arith, onward-part (lowBytes 8) _ _ _ _ _ _ _ (start (c .before .before .before)) 8 (λ x. length-low 8 x) (c .before .before .if1 .left))
+put-part-requires c κs = (omega arith, resumed-part (lowBytes 8) _ _ _ _ _ _ _ (start (c .before .before .before)) 8 (λ x. length-low 8 x) (c .before .before .if1 .left))
 
-begun : (c : tie.After-slice-known2) → Onward (lowBytes 8) (c .before .before .before .before .before .before .before .before .before .args .items .now) (c .before .before .before .before .before .before .before .before .before .args .cursor) (c .before .before .before .before .before .before .before .before .before .args .buf .now) (c .before .before .put-part .last .0) (c .before .before .put-part .result) (c .before .before .before .before .before .before .evenly-out .result .whole + 1) 0
-begun c = onward-next (lowBytes 8) _ _ _ _ _ _ _ (start (c .before .before .before .before .before .before)) some 0 _ _ _ (c .before .before .before .before .before .if1 .left) refl (c .before .before .put-part .ensures)
+begun : (c : tie.After-slice-known2) → Resumed (lowBytes 8) (c .before .before .before .before .before .before .before .before .before .args .items .now) (c .before .before .before .before .before .before .before .before .before .args .cursor) (c .before .before .before .before .before .before .before .before .before .args .buf .now) (c .before .before .put-part .last .0) (c .before .before .put-part .result) (c .before .before .before .before .before .before .evenly-out .result .whole + 1) 0
+begun c = resumed-next (lowBytes 8) _ _ _ _ _ _ _ (start (c .before .before .before .before .before .before)) some 0 _ _ _ (c .before .before .before .before .before .if1 .left) refl (c .before .before .put-part .ensures)
 
 put-eights-requires : tie.Need-put-eights-requires
 put-eights-requires c κs = let n = c .before .before .least .result in let k : c .before .before .before .before .before .before .before .before .before .evenly-out .result .whole + 1 + n - (c .before .before .before .before .before .before .before .before .before .evenly-out .result .whole + 1) ≡ n = omega arith in rw k (run-fits (lowBytes 8) _ _ _ _ _ _ (begun (c .before .before .before)) 8 (omega arith) (λ x. length-low 8 x) n (c .before .before .least .ensures))
@@ -42,17 +42,17 @@ whole c =
     let k : i + c .before .before .before .before .before .least .result - i ≡ c .before .before .before .before .before .least .result = omega arith in
     whole-as _ _ _ _ _ _ (ap (λ (m : ℕ). each (lowBytes 8) (take m (drop i (c .before .before .before .before .before .before .before .before .before .before .before .before .before .before .before .args .items .now)))) k) (c .before .before .put-eights .ensures)
 
-ran : (c : tie.After-slice-known3) → Onward (lowBytes 8) (c .before .before .before .before .before .before .before .before .before .before .before .before .before .before .before .args .items .now) (c .before .before .before .before .before .before .before .before .before .before .before .before .before .before .before .args .cursor) (c .before .before .before .before .before .before .before .before .before .before .before .before .before .before .before .args .buf .now) (c .before .before .put-eights .last .0) (c .before .before .put-eights .result) (c .before .before .before .before .before .before .before .before .before .before .before .before .evenly-out .result .whole + 1 + c .before .before .before .before .before .least .result) 0
-ran c = onward-run (lowBytes 8) _ _ _ _ _ _ (begun (c .before .before .before .before .before .before)) some _ _ _ (whole c)
+ran : (c : tie.After-slice-known3) → Resumed (lowBytes 8) (c .before .before .before .before .before .before .before .before .before .before .before .before .before .before .before .args .items .now) (c .before .before .before .before .before .before .before .before .before .before .before .before .before .before .before .args .cursor) (c .before .before .before .before .before .before .before .before .before .before .before .before .before .before .before .args .buf .now) (c .before .before .put-eights .last .0) (c .before .before .put-eights .result) (c .before .before .before .before .before .before .before .before .before .before .before .before .evenly-out .result .whole + 1 + c .before .before .before .before .before .least .result) 0
+ran c = resumed-run (lowBytes 8) _ _ _ _ _ _ (begun (c .before .before .before .before .before .before)) some _ _ _ (whole c)
 
 returns-2 : tie.Need-returns-2
-returns-2 c = onward-end (lowBytes 8) _ _ _ _ _ _ _ (ran (c .before)) (c .if2 .taken)
+returns-2 c = resumed-end (lowBytes 8) _ _ _ _ _ _ _ (ran (c .before)) (c .if2 .taken)
 
 returns-3 : tie.Need-returns-3
 returns-3 c =
     let t = c .before .before .before .before .before .before in
     let r = run-ends (lowBytes 8) _ _ _ _ _ _ (begun (t .before .before .before .before .before .before)) 8 (omega arith) (λ x. length-low 8 x) _ (t .before .before .before .before .before .least .ensures) (c .before .before .before .before .before .if2 .left) _ _ (whole t) in
-    onward-last (lowBytes 8) _ _ _ _ _ _ (ran t) some 8 (λ x. length-low 8 x) 0 _ _ _ (c .before .before .before .before .before .if2 .left) refl r (c .before .before .put-part2 .ensures)
+    resumed-last (lowBytes 8) _ _ _ _ _ _ (ran t) some 8 (λ x. length-low 8 x) 0 _ _ _ (c .before .before .before .before .before .if2 .left) refl r (c .before .before .put-part2 .ensures)
 
 pub put-fp64s-spec : {M : Type 1} → statement M
 put-fp64s-spec =

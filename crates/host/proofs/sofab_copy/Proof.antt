@@ -5,7 +5,7 @@ use lib.IntN.{ℤ}
 use mir.Syntax.{w64}
 use mir.Val.{toZ, ofZ}
 use Rattle.whole.specs.declared.Verdict.the-variants.{Complete, Incomplete, Broken}
-use Rattle.exports.specs.Exports.{leftBy}
+use Rattle.exports.specs.Exports.{resultOf}
 use Rattle.host.proofs.Numbers.{copies, is-complete}
 use Rattle.host.proofs.Own.{own-copied}
 use borrow.Author.Needs.{needs}
@@ -13,13 +13,13 @@ use Rattle.host.proofs.sofab_copy.Statement.{statement}
 use Rattle.host.proofs.sofab_copy.Tie as tie
 
 returns : tie.Need-returns
-returns c = let f : toZ w64 (ofZ w64 (c .before .before .block .result)) ≡ c .before .before .block .result = search needs in ap (λ (x : ℤ). leftBy x (c .before .before .block .last .1 .0)) f ∙ c .before .before .block .ensures ∙ own-copied _ _ _ _ (c .before .before .before .before .before .is-own .ensures (c .before .before .before .before .if1 .taken))
+returns c = let f : toZ w64 (ofZ w64 (c .before .before .block .result)) ≡ c .before .before .block .result = search needs in ap (λ (x : ℤ). resultOf x (c .before .before .block .last .1 .0)) f ∙ c .before .before .block .ensures ∙ own-copied _ _ _ _ (c .before .before .before .before .before .is-own .ensures (c .before .before .before .before .if1 .taken))
 
 copy-requires : tie.Need-copy-requires
 copy-requires c κs = is-complete _ _ (c .before .before .before .verdict-of .ensures) (c .before .enum-told .given .1)
 
 returns-2 : tie.Need-returns-2
-returns-2 c = let f : toZ w64 (ofZ w64 (c .before .before .copy .result)) ≡ c .before .before .copy .result = search needs in ap (λ (x : ℤ). leftBy x (c .before .before .copy .last .1 .0)) f ∙ c .before .before .copy .ensures ∙ copies _ _ Complete _ _ (c .before .before .before .before .before .before .verdict-of .ensures) (c .before .before .before .before .enum-told .given .1)
+returns-2 c = let f : toZ w64 (ofZ w64 (c .before .before .copy .result)) ≡ c .before .before .copy .result = search needs in ap (λ (x : ℤ). resultOf x (c .before .before .copy .last .1 .0)) f ∙ c .before .before .copy .ensures ∙ copies _ _ Complete _ _ (c .before .before .before .before .before .before .verdict-of .ensures) (c .before .before .before .before .enum-told .given .1)
 
 returns-3 : tie.Need-returns-3
 returns-3 c = copies _ _ Incomplete _ _ (c .before .before .verdict-of .ensures) (c .enum-told2 .given .1)

@@ -1,4 +1,4 @@
--- `istream::split` meets its contract: the same call, its answer apart.
+-- `istream::split` meets its contract: `feed`, its answer apart from the state.
 use mathlib.Core.Path.{ap}
 use Rattle.istream.specs.declared.Fed.{Fed}
 use Rattle.istream.specs.Stream.{takenOf}

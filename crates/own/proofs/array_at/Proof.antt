@@ -1,6 +1,6 @@
 -- `own::array_at` meets its contract.
 use Rattle.own.proofs.Spans.{none}
-use Rattle.own.proofs.Places.{count-small, array-ends}
+use Rattle.own.proofs.Parts.{count-small, array-ends}
 use borrow.Author.Needs.{needs}
 use Rattle.own.proofs.array_at.Statement.{statement}
 use Rattle.own.proofs.array_at.Tie as tie

@@ -2,7 +2,7 @@
 use Rattle.layout.specs.Field.{T-fixlen, T-floats}
 use Rattle.own.proofs.Spans.{none, ends-as}
 use Rattle.own.proofs.Bodies.{with-header}
-use Rattle.own.proofs.Places.{scalar-field, array-field, open-ends, close-ends}
+use Rattle.own.proofs.Parts.{scalar-field, array-field, open-ends, close-ends}
 use borrow.Author.Needs.{needs}
 use Rattle.own.proofs.body_at.Statement.{statement}
 use Rattle.own.proofs.body_at.Tie as tie

@@ -1,6 +1,6 @@
 -- `own::field_at` meets its contract.
 use Rattle.own.proofs.Spans.{none, found-at, ends-as}
-use Rattle.own.proofs.Places.{field-ends}
+use Rattle.own.proofs.Parts.{field-ends}
 use borrow.Author.Needs.{needs}
 use Rattle.own.proofs.field_at.Statement.{statement}
 use Rattle.own.proofs.field_at.Tie as tie

@@ -2,7 +2,7 @@
 use Prim.Native.Nat.{_-_}
 use lib.ListN.{length}
 use Rattle.own.proofs.Spans.{stretch-take}
-use Rattle.own.proofs.Places.{Ran, ran-start, ran-next}
+use Rattle.own.proofs.Parts.{Ran, ran-start, ran-next}
 use borrow.Author.Needs.{needs}
 use Rattle.own.proofs.fields.Statement.{statement}
 use Rattle.own.proofs.fields.Tie as tie

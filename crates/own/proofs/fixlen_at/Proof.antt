@@ -1,7 +1,7 @@
 -- `own::fixlen_at` meets its contract, case by case of the word.
 use Rattle.layout.specs.Field.{fp32, fp64}
 use Rattle.own.proofs.Spans.{none}
-use Rattle.own.proofs.Places.{float-ends, raw-ends}
+use Rattle.own.proofs.Parts.{float-ends, raw-ends}
 use borrow.Author.Needs.{needs}
 use Rattle.own.proofs.fixlen_at.Statement.{statement}
 use Rattle.own.proofs.fixlen_at.Tie as tie

@@ -1,6 +1,6 @@
 -- `own::row_at` meets its contract: so many numbers stand from the start to the place reached.
 use Prim.Native.Nat.{_-_}
-use Rattle.own.proofs.Places.{Rowed, row-start, row-next}
+use Rattle.own.proofs.Parts.{Rowed, row-start, row-next}
 use borrow.Author.Needs.{needs}
 use Rattle.own.proofs.row_at.Statement.{statement}
 use Rattle.own.proofs.row_at.Tie as tie

@@ -1,6 +1,6 @@
 -- `own::small_at` meets its contract.
 use Rattle.own.proofs.Spans.{none}
-use Rattle.own.proofs.Places.{small-ends}
+use Rattle.own.proofs.Parts.{small-ends}
 use borrow.Author.Needs.{needs}
 use Rattle.own.proofs.small_at.Statement.{statement}
 use Rattle.own.proofs.small_at.Tie as tie

@@ -8,7 +8,7 @@ use Rattle.whole.proofs.array_at.Statement.{statement}
 use Rattle.whole.proofs.array_at.Tie as tie
 
 returns : tie.Need-returns
-returns c id = subst (Passes _ _ _) (sym (c .leave .ensures)) (array-else _ (c .before .match .keys2) (c .before .before .count-at .ensures) id)
+returns c id = subst (Passes _ _ _) (sym (c .no-value .ensures)) (array-else _ (c .before .match .keys2) (c .before .before .count-at .ensures) id)
 
 skip-varints-requires : tie.Need-skip-varints-requires
 skip-varints-requires c κs = let p = c .before in reaches-inside (p .found .given .1) (p .before .before .count-at .ensures)

@@ -8,7 +8,7 @@ use Rattle.whole.proofs.field_at.Statement.{statement}
 use Rattle.whole.proofs.field_at.Tie as tie
 
 returns : tie.Need-returns
-returns c = field-else _ _ _ (c .before .before .match .keys2) (c .before .before .before .header-at .ensures) (c .at-depth .ensures ∙ ap (deepened _) (c .before .leave .ensures))
+returns c = field-else _ _ _ (c .before .before .match .keys2) (c .before .before .before .header-at .ensures) (c .at-depth .ensures ∙ ap (deepened _) (c .before .no-value .ensures))
 
 body-at-requires : tie.Need-body-at-requires
 body-at-requires c κs = let p = c .before in reaches-inside (p .found .given .1) (p .before .before .header-at .ensures)

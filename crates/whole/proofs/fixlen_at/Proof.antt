@@ -9,7 +9,7 @@ use Rattle.whole.proofs.fixlen_at.Statement.{statement}
 use Rattle.whole.proofs.fixlen_at.Tie as tie
 
 returns : tie.Need-returns
-returns c id = subst (Passes _ _ _) (sym (c .leave .ensures)) (fixlen-else _ (c .before .match .keys2) (c .before .before .varint-at .ensures) id)
+returns c id = subst (Passes _ _ _) (sym (c .no-value .ensures)) (fixlen-else _ (c .before .match .keys2) (c .before .before .varint-at .ensures) id)
 
 jump-requires : tie.Need-jump-requires
 jump-requires c κs = let p = c .before .before .before in reaches-inside (p .found .given .1) (p .before .before .varint-at .ensures)

@@ -10,7 +10,7 @@ use Rattle.whole.proofs.float_array_at.Statement.{statement}
 use Rattle.whole.proofs.float_array_at.Tie as tie
 
 returns : tie.Need-returns
-returns c id = subst (Passes _ _ _) (sym (c .leave .ensures)) (floats-else _ (c .before .match .keys2) (c .before .before .count-at .ensures) id)
+returns c id = subst (Passes _ _ _) (sym (c .no-value .ensures)) (floats-else _ (c .before .match .keys2) (c .before .before .count-at .ensures) id)
 
 varint-at-requires : tie.Need-varint-at-requires
 varint-at-requires c κs = let p = c .before in reaches-inside (p .count .given .1) (p .before .before .count-at .ensures)
@@ -20,7 +20,7 @@ returns-2 c id =
     let v = c .before .before in
     let p = v .before .before in
     floats-then (p .count .given .1) (p .before .before .count-at .ensures) id _
-    (subst (Passes _ _ _) (sym (c .leave2 .ensures)) (floats-word-else _ (c .before .match2 .keys2) (v .varint-at .ensures) id _))
+    (subst (Passes _ _ _) (sym (c .no-value2 .ensures)) (floats-word-else _ (c .before .match2 .keys2) (v .varint-at .ensures) id _))
 
 mul-jump : tie.Need-mul-jump
 mul-jump c =

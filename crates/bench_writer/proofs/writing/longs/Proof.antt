@@ -8,7 +8,7 @@ use Rattle.bench_writer.proofs.writing.longs.Statement.{statement}
 use Rattle.bench_writer.proofs.writing.longs.Tie as tie
 use Rattle.bench_writer.proofs.writing.longs.Reads as reads
 use Rattle.bench_writer.proofs.writing.longs.Lts as lts
-use Rattle.bench_calls.proofs.anew.Reads as anew-reads
+use Rattle.bench_calls.proofs.rebuilt.Reads as rebuilt-reads
 use Rattle.bench_calls.proofs.long.Reads as long-reads
 use Rattle.bench_calls.proofs.rest.Reads as rest-reads
 use Rattle.bench_calls.proofs.which.Reads as which-reads

@@ -8,7 +8,7 @@ use Rattle.bench_writer.proofs.writing.smalls.Statement.{statement}
 use Rattle.bench_writer.proofs.writing.smalls.Tie as tie
 use Rattle.bench_writer.proofs.writing.smalls.Reads as reads
 use Rattle.bench_writer.proofs.writing.smalls.Lts as lts
-use Rattle.bench_calls.proofs.anew.Reads as anew-reads
+use Rattle.bench_calls.proofs.rebuilt.Reads as rebuilt-reads
 use Rattle.bench_calls.proofs.rest.Reads as rest-reads
 use Rattle.bench_calls.proofs.small.Reads as small-reads
 use Rattle.bench_calls.proofs.which.Reads as which-reads

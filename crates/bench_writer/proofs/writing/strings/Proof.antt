@@ -8,7 +8,7 @@ use Rattle.bench_writer.proofs.writing.strings.Statement.{statement}
 use Rattle.bench_writer.proofs.writing.strings.Tie as tie
 use Rattle.bench_writer.proofs.writing.strings.Reads as reads
 use Rattle.bench_writer.proofs.writing.strings.Lts as lts
-use Rattle.bench_calls.proofs.anew.Reads as anew-reads
+use Rattle.bench_calls.proofs.rebuilt.Reads as rebuilt-reads
 use Rattle.bench_calls.proofs.rest.Reads as rest-reads
 use Rattle.bench_calls.proofs.string.Reads as string-reads
 use Rattle.bench_calls.proofs.which.Reads as which-reads

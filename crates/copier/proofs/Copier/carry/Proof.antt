@@ -9,7 +9,7 @@ use Rattle.copier.proofs.Copier.carry.Statement.{statement}
 use Rattle.copier.proofs.Copier.carry.Tie as tie
 use Rattle.copier.proofs.Copier.carry.Reads as reads
 use Rattle.copier.proofs.Copier.carry.Lts as lts
-use Rattle.copier.proofs.run.Reads as run-reads
+use Rattle.turns.proofs.run.Reads as run-reads
 use Rattle.owed.proofs.Output.len.Reads as len-reads
 use Rattle.owed.proofs.Output.put.Reads as put-reads
 use Rattle.owed.proofs.Owed.output.Reads as output-reads

@@ -1,8 +1,8 @@
--- `istream::IStream::feed` meets its contract: a piece, at once, or by the plain call.
+-- `istream::IStream::feed` meets its contract: a piece, at once, or slowly.
 use Rattle.layout.specs.Limits.{base}
-use Rattle.machine.specs.Call.{call}
-use Rattle.at_once.specs.declared.Quick.{Quick}
-use Rattle.at_once.specs.AtOnce.{RightFrom}
+use Rattle.machine.specs.Calls.{call}
+use Rattle.read_at_once.specs.declared.Once.{Once}
+use Rattle.read_at_once.specs.AtOnce.{RightFrom}
 use Rattle.istream.specs.Stream.{stateOf}
 use Rattle.istream.proofs.Laws.{payload-owed, from-payload, from-once}
 use mathlib.Core.Path.{sym, _∙_, subst}
@@ -25,7 +25,7 @@ returns c =
 returns-3 : tie.Need-returns-3
 returns-3 c =
     let f : Fits w8 (c .before .before .before .before .before .before .before .before .args .self .carried .depth) = search needs in
-    c .answered .ensures ∙ from-once base (c .before .before .before .before .before .before .before .before .args .self) (c .before .before .before .before .before .before .before .before .args .chunk .now) _ _ _ _ (omega (arith, f .fits)) (subst (λ (x : Quick). RightFrom base (c .before .before .before .before .before .before .before .before .args .self .phase) x (call base (stateOf (c .before .before .before .before .before .before .before .before .args .self)) (c .before .before .before .before .before .before .before .before .args .chunk .now))) (c .before .before .q .given .1) (c .before .before .before .before .at-once .ensures))
+    c .answered .ensures ∙ from-once base (c .before .before .before .before .before .before .before .before .args .self) (c .before .before .before .before .before .before .before .before .args .chunk .now) _ _ _ _ (omega (arith, f .fits)) (subst (λ (x : Once). RightFrom base (c .before .before .before .before .before .before .before .before .args .self .phase) x (call base (stateOf (c .before .before .before .before .before .before .before .before .args .self)) (c .before .before .before .before .before .before .before .before .args .chunk .now))) (c .before .before .q .given .1) (c .before .before .before .before .at-once .ensures))
 
 pub feed-spec : {M : Type 1} → statement M
 feed-spec =

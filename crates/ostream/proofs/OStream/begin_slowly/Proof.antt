@@ -8,14 +8,14 @@ use lib.ListN.{length}
 use Rattle.layout.specs.Limits.{base}
 use Rattle.layout.specs.Varint.{shortest}
 use Rattle.layout.specs.Copy.{fieldBytes}
-use Rattle.answers.specs.Judged.{Verdict, accepted, judged, checkOf}
+use Rattle.answers.specs.Judged.{Judgement, accepted, judged, checkOf}
 use Rattle.answers.specs.Tests.{unsoundWriter, deepest, idTooLarge}
 use Rattle.answers.proofs.Checks.{check-passes, check-fails}
-use Rattle.ostream.proofs.Called.{Sound, refuses, settles, alters, begin-knows, few-clears}
+use Rattle.ostream.proofs.Calls.{Sound, refuses, settles, alters, begin-knows, few-clears}
 use borrow.Author.Tests.{lt-ltb, le-ltb}
 use Rattle.ostream.specs.declared.OStream.{OStream}
 use Rattle.ostream.specs.Stream.{lazyDepth, heldBytes, holding}
-use Rattle.ostream.specs.Straight.{unwritten}
+use Rattle.ostream.specs.Private.{unwritten}
 use Rattle.ostream.specs.Calls.{beginCall}
 use borrow.Author.Needs.{needs}
 use Rattle.ostream.proofs.OStream.begin_slowly.Statement.{statement}
@@ -31,21 +31,21 @@ use Rattle.ostream.proofs.OStream.refuse.Reads as refuse-reads
 use Rattle.ostream.proofs.OStream.settle.Reads as settle-reads
 use Rattle.ostream.proofs.OStream.sound.Reads as sound-reads
 
-abbrev verdict : tie.After-check-begin → Verdict
-verdict c = let a = c .before .before .before .args in judged (beginCall (a .self) (length (a .buf .now)) (a .id) .tests)
+abbrev judgement : tie.After-check-begin → Judgement
+judgement c = let a = c .before .before .before .args in judged (beginCall (a .self) (length (a .buf .now)) (a .id) .tests)
 
-judges : (c : tie.After-check-begin) → c .check-begin .result ≡ checkOf (verdict c)
+judges : (c : tie.After-check-begin) → c .check-begin .result ≡ checkOf (judgement c)
 judges c = let a = c .before .before .before .args in c .check-begin .ensures ∙ ap (λ (sound : Bool). checkOf (judged (unsoundWriter sound ∷ deepest (a .self .depth) ∷ idTooLarge (a .id) ∷ []))) (c .before .sound .ensures)
 
-passes : (c : tie.Else1) → verdict (c .before .before) ≡ accepted
-passes c = check-passes (verdict (c .before .before)) _ (judges (c .before .before)) (c .if1 .left)
+passes : (c : tie.Else1) → judgement (c .before .before) ≡ accepted
+passes c = check-passes (judgement (c .before .before)) _ (judges (c .before .before)) (c .if1 .left)
 
 -- the state is sound, and not too deep
 knows : (c : tie.Else1) → let a = c .before .before .before .before .before .args in Sound (a .self) (length (a .buf .now)) × (a .self .depth < base .depth)
 knows c = let a = c .before .before .before .before .before .args in begin-knows (a .self) (length (a .buf .now)) (a .id) (passes c)
 
 returns : tie.Need-returns
-returns c = refuses _ _ _ _ _ _ (check-fails (verdict (c .before .before .before)) _ (judges (c .before .before .before)) (c .before .if1 .taken)) (c .refuse .ensures)
+returns c = refuses _ _ _ _ _ _ (check-fails (judgement (c .before .before .before)) _ (judges (c .before .before .before)) (c .before .if1 .taken)) (c .refuse .ensures)
 
 hold-requires : tie.Need-hold-requires
 hold-requires c κs = (c .if2 .taken, knows (c .before .before) .1)

@@ -1,6 +1,6 @@
 -- `ostream::OStream::can_hold`: the tests one after another.
 use borrow.Author.Tests.{le-leb, lt-leb, le-ltb, lt-ltb}
-use Rattle.ostream.specs.Straight.{holds}
+use Rattle.ostream.specs.Private.{holds}
 use borrow.Author.Needs.{needs}
 use Rattle.ostream.proofs.OStream.can_hold.Statement.{statement}
 use Rattle.ostream.proofs.OStream.can_hold.Tie as tie

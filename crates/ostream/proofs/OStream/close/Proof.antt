@@ -4,7 +4,7 @@ use native.Mathlib.Omega.{arith}
 use lib.ListN.{length}
 use borrow.Author.Tests.{ne-eqb}
 use Rattle.ostream.specs.Stream.{heldBytes}
-use Rattle.ostream.proofs.Called.{is-sound, few-clears, settles}
+use Rattle.ostream.proofs.Calls.{is-sound, few-clears, settles}
 use borrow.Author.Needs.{needs}
 use Rattle.ostream.proofs.OStream.close.Statement.{statement}
 use Rattle.ostream.proofs.OStream.close.Tie as tie

@@ -1,6 +1,6 @@
 -- `ostream::OStream::count`: the old position, and the state at the new one; or the refusal.
 use mathlib.Core.Path.{sym, ap}
-use Rattle.ostream.specs.Straight.{countedAt}
+use Rattle.ostream.specs.Private.{countedAt}
 use borrow.Author.Needs.{needs}
 use Rattle.ostream.proofs.OStream.count.Statement.{statement}
 use Rattle.ostream.proofs.OStream.count.Tie as tie

@@ -6,14 +6,14 @@ use mathlib.Core.Path.{_≡_, refl, sym, ap, _∙_}
 use native.Mathlib.Omega.{arith}
 use lib.ListN.{length}
 use Rattle.layout.specs.Copy.{fieldBytes}
-use Rattle.answers.specs.Judged.{Verdict, accepted, judged, checkOf}
+use Rattle.answers.specs.Judged.{Judgement, accepted, judged, checkOf}
 use Rattle.answers.specs.Tests.{unsoundWriter, outermost}
 use Rattle.answers.proofs.Checks.{check-passes, check-fails}
-use Rattle.ostream.proofs.Called.{refuses, alters, recalled, none-held, is-sound, end-knows}
+use Rattle.ostream.proofs.Calls.{refuses, alters, recalled, none-held, is-sound, end-knows}
 use borrow.Author.Tests.{eq-eqb, ne-eqb}
 use Rattle.ostream.specs.declared.OStream.{OStream}
 use Rattle.ostream.specs.Stream.{dropped}
-use Rattle.ostream.specs.Straight.{unwritten}
+use Rattle.ostream.specs.Private.{unwritten}
 use Rattle.ostream.specs.Calls.{endCall, endKeepCall}
 use Rattle.layout.specs.Field.{end}
 use borrow.Author.Needs.{needs}
@@ -28,17 +28,17 @@ use Rattle.ostream.proofs.OStream.refuse.Reads as refuse-reads
 use Rattle.ostream.proofs.OStream.sound.Reads as sound-reads
 use Rattle.ostream.proofs.OStream.unhold.Reads as unhold-reads
 
-abbrev verdict : tie.After-check-end → Verdict
-verdict c = let a = c .before .before .before .args in judged (endCall (a .self) (length (a .buf .now)) .tests)
+abbrev judgement : tie.After-check-end → Judgement
+judgement c = let a = c .before .before .before .args in judged (endCall (a .self) (length (a .buf .now)) .tests)
 
-judges : (c : tie.After-check-end) → c .check-end .result ≡ checkOf (verdict c)
+judges : (c : tie.After-check-end) → c .check-end .result ≡ checkOf (judgement c)
 judges c = let a = c .before .before .before .args in c .check-end .ensures ∙ ap (λ (sound : Bool). checkOf (judged (unsoundWriter sound ∷ outermost (a .self .depth) ∷ []))) (c .before .sound .ensures)
 
-passes : (c : tie.Else1) → verdict (c .before .before) ≡ accepted
-passes c = check-passes (verdict (c .before .before)) _ (judges (c .before .before)) (c .if1 .left)
+passes : (c : tie.Else1) → judgement (c .before .before) ≡ accepted
+passes c = check-passes (judgement (c .before .before)) _ (judges (c .before .before)) (c .if1 .left)
 
 returns : tie.Need-returns
-returns c = refuses _ _ _ _ _ _ (check-fails (verdict (c .before .before .before)) _ (judges (c .before .before .before)) (c .before .if1 .taken)) (c .refuse .ensures)
+returns c = refuses _ _ _ _ _ _ (check-fails (judgement (c .before .before .before)) _ (judges (c .before .before .before)) (c .before .if1 .taken)) (c .refuse .ensures)
 
 close-requires : tie.Need-close-requires
 close-requires c κs = let a = c .before .before .before .before .before .before .before .before .args in end-knows (a .self) (length (a .buf .now)) (passes (c .before .before .before))

@@ -5,7 +5,7 @@ use lib.ListN.{length}
 use Rattle.ostream.specs.Stream.{soundStream}
 use Rattle.ostream.specs.Emission.{judged}
 use Rattle.ostream.specs.Calls.{unsound}
-use Rattle.ostream.specs.Straight.{countedAt}
+use Rattle.ostream.specs.Private.{countedAt}
 use Rattle.ostream.specs.Buffer.{draining}
 use Rattle.ostream.proofs.Buffers.{counted-at}
 use borrow.Author.Needs.{needs}

@@ -4,7 +4,7 @@ use Rattle.answers.specs.declared.Outcome.{Outcome}
 use Rattle.ostream.specs.declared.OStream.{OStream}
 use Rattle.ostream.specs.declared.Answer.the-variants.{Done}
 use Rattle.ostream.specs.Stream.{at, committed}
-use Rattle.ostream.specs.Straight.{Clears, settled}
+use Rattle.ostream.specs.Private.{Clears, settled}
 use borrow.Author.Needs.{needs}
 use Rattle.ostream.proofs.OStream.settle.Statement.{statement}
 use Rattle.ostream.proofs.OStream.settle.Tie as tie

@@ -1,4 +1,4 @@
--- `ostream::OStream::write_array_signed`: straight away from a state that holds nothing, and otherwise left to the slow form.
+-- `ostream::OStream::write_array_signed`: at once from a state that holds nothing, and otherwise left to the slow form.
 use Prim.Native.Nat.{_+_, _*_}
 use mathlib.Core.Path.{_≡_, refl, sym, ap, _∙_}
 use mathlib.Core.List.{_++_}
@@ -8,26 +8,26 @@ use lib.ListN.{length, length-append}
 use Rattle.layout.specs.Limits.{base}
 use Rattle.layout.specs.Varint.{shortest}
 use Rattle.varint.proofs.Shortest.{length-some}
-use Rattle.straight.proofs.Straight.{went, unmoved}
-use Rattle.ostream.proofs.Called.{committed-none}
+use Rattle.write_at_once.proofs.AtOnce.{went, unmoved}
+use Rattle.ostream.proofs.Calls.{committed-none}
 use Rattle.layout.specs.Zigzag.{zigzag}
 use Rattle.layout.specs.Field.{each}
 use Rattle.layout.specs.Copy.{fieldBytes}
 use Rattle.ostream.specs.Calls.{signedArrayCall}
-use Rattle.ostream.proofs.Straight.{is-ready, easy-with, ready-array, spelled, straight, left-to}
+use Rattle.ostream.proofs.AtOnce.{is-ready, easy-with, ready-array, spelled, goes-at-once, by-slow-form}
 use borrow.Author.Needs.{needs}
 use Rattle.ostream.proofs.OStream.write_array_signed.Statement.{statement}
 use Rattle.ostream.proofs.OStream.write_array_signed.Tie as tie
 use Rattle.ostream.proofs.OStream.write_array_signed.Reads as reads
 use Rattle.ostream.proofs.OStream.write_array_signed.Lts as lts
 use Rattle.held.proofs.tagged.Reads as tagged-reads
-use Rattle.ostream.proofs.OStream.anew.Reads as OStream-anew-reads
+use Rattle.ostream.proofs.OStream.rebuilt.Reads as OStream-rebuilt-reads
 use Rattle.ostream.proofs.OStream.write_array_signed_slowly.Reads as write-array-signed-slowly-reads
-use Rattle.ostream.proofs.Written.anew.Reads as Written-anew-reads
-use Rattle.straight.proofs.at_ease_with.Reads as at-ease-with-reads
-use Rattle.straight.proofs.put_signeds.Reads as put-signeds-reads
+use Rattle.ostream.proofs.Written.rebuilt.Reads as Written-rebuilt-reads
+use Rattle.write_at_once.proofs.at_ease_with.Reads as at-ease-with-reads
+use Rattle.write_at_once.proofs.put_signeds.Reads as put-signeds-reads
 
--- where the straight form has written nothing, the buffer is as it was
+-- where nothing was written at once, the buffer is as it was
 unaltered : (c : tie.Joined2) → c .if2 .buf ≡ c .before .before .before .before .args .buf .now
 unaltered c =
     let a = c .before .before .before .before .args in
@@ -45,7 +45,7 @@ unaltered c =
 returns : tie.Need-returns
 returns c =
     let a = c .before .before .before .before .before .before .before .before .args in
-    left-to (λ s n. signedArrayCall s n (a .id) (a .items .now)) (a .self) _ (a .buf .now) (a .buf .now) (a .place) _ _ _ (c .before .before .before .before .before .anew .ensures) refl (c .anew2 .ensures) (c .before .before .before .write-array-signed-slowly .ensures)
+    by-slow-form (λ s n. signedArrayCall s n (a .id) (a .items .now)) (a .self) _ (a .buf .now) (a .buf .now) (a .place) _ _ _ (c .before .before .before .before .before .rebuilt .ensures) refl (c .rebuilt2 .ensures) (c .before .before .before .write-array-signed-slowly .ensures)
 
 put-signeds-requires : tie.Need-put-signeds-requires
 put-signeds-requires c κs =
@@ -62,7 +62,7 @@ returns-2 c =
     let y = is-ready (a .self) (length (a .buf .now)) (a .id) _ (e .0) (w .0) in
     let h = c .before .before .before .before .before .tagged .result in
     let l = shortest (length (a .items .now)) ++ each (λ z. shortest (zigzag z)) (a .items .now) in
-    straight (signedArrayCall (a .self) (length (a .buf .now)) (a .id) (a .items .now)) (a .self) (a .buf .now) (shortest h ++ l) (a .place) _ _ (a .self)
+    goes-at-once (signedArrayCall (a .self) (length (a .buf .now)) (a .id) (a .items .now)) (a .self) (a .buf .now) (shortest h ++ l) (a .place) _ _ (a .self)
     (ready-array (a .self) (length (a .buf .now)) (a .id) (length (a .items .now)) _ y (e .1))
     (spelled (a .self) (y .none) h (a .id * 8 + 4) l (c .before .before .before .before .before .tagged .ensures))
     (committed-none (a .self) (a .self .depth) (y .none))
@@ -76,7 +76,7 @@ same-length-3 c = search (needs, ap length (unaltered (c .before .before .before
 returns-3 : tie.Need-returns-3
 returns-3 c =
     let a = c .before .before .before .before .before .before .before .before .before .before .args in
-    left-to (λ s n. signedArrayCall s n (a .id) (a .items .now)) (a .self) _ (a .buf .now) (c .before .before .before .before .before .before .if2 .buf) (a .place) _ _ _ (c .before .before .before .before .before .anew3 .ensures) (unaltered (c .before .before .before .before .before .before)) (c .anew4 .ensures) (c .before .before .before .write-array-signed-slowly2 .ensures)
+    by-slow-form (λ s n. signedArrayCall s n (a .id) (a .items .now)) (a .self) _ (a .buf .now) (c .before .before .before .before .before .before .if2 .buf) (a .place) _ _ _ (c .before .before .before .before .before .rebuilt3 .ensures) (unaltered (c .before .before .before .before .before .before)) (c .rebuilt4 .ensures) (c .before .before .before .write-array-signed-slowly2 .ensures)
 
 pub write-array-signed-spec : {M : Type 1} → statement M
 write-array-signed-spec =

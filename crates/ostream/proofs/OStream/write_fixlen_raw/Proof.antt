@@ -1,4 +1,4 @@
--- `ostream::OStream::write_fixlen_raw`: straight away from a state that holds nothing, and otherwise left to the slow form.
+-- `ostream::OStream::write_fixlen_raw`: at once from a state that holds nothing, and otherwise left to the slow form.
 use Prim.Native.Nat.{ℕ, _+_, _*_}
 use mathlib.Core.Path.{_≡_, refl, sym, ap, _∙_}
 use mathlib.Core.List.{_++_}
@@ -8,25 +8,25 @@ use lib.ListN.{length, length-append}
 use Rattle.layout.specs.Limits.{base}
 use Rattle.layout.specs.Varint.{shortest}
 use Rattle.varint.proofs.Shortest.{length-longest, length-some}
-use Rattle.straight.proofs.Straight.{went, unmoved}
-use Rattle.ostream.proofs.Called.{committed-none}
+use Rattle.write_at_once.proofs.AtOnce.{went, unmoved}
+use Rattle.ostream.proofs.Calls.{committed-none}
 use Rattle.types.specs.Types.{fixlenRaw}
 use Rattle.ostream.specs.Calls.{rawCall, fixlenBytes}
-use Rattle.ostream.proofs.Straight.{is-ready, easy-with, ready-field, spelled, straight, left-to}
+use Rattle.ostream.proofs.AtOnce.{is-ready, easy-with, ready-field, spelled, goes-at-once, by-slow-form}
 use borrow.Author.Needs.{needs}
 use Rattle.ostream.proofs.OStream.write_fixlen_raw.Statement.{statement}
 use Rattle.ostream.proofs.OStream.write_fixlen_raw.Tie as tie
 use Rattle.ostream.proofs.OStream.write_fixlen_raw.Reads as reads
 use Rattle.ostream.proofs.OStream.write_fixlen_raw.Lts as lts
 use Rattle.held.proofs.tagged.Reads as tagged-reads
-use Rattle.ostream.proofs.OStream.anew.Reads as OStream-anew-reads
+use Rattle.ostream.proofs.OStream.rebuilt.Reads as OStream-rebuilt-reads
 use Rattle.ostream.proofs.OStream.write_fixlen_slowly.Reads as write-fixlen-slowly-reads
-use Rattle.ostream.proofs.Written.anew.Reads as Written-anew-reads
-use Rattle.straight.proofs.at_ease_with.Reads as at-ease-with-reads
-use Rattle.straight.proofs.put_field.Reads as put-field-reads
+use Rattle.ostream.proofs.Written.rebuilt.Reads as Written-rebuilt-reads
+use Rattle.write_at_once.proofs.at_ease_with.Reads as at-ease-with-reads
+use Rattle.write_at_once.proofs.put_field.Reads as put-field-reads
 use Rattle.types.proofs.FixlenType.raw.Reads as raw-reads
 
--- where the straight form has written nothing, the buffer is as it was
+-- where nothing was written at once, the buffer is as it was
 unaltered : (c : tie.Joined2) → c .if2 .buf ≡ c .before .before .before .before .before .args .buf .now
 unaltered c =
     let a = c .before .before .before .before .before .args in
@@ -43,7 +43,7 @@ unaltered c =
 returns : tie.Need-returns
 returns c =
     let a = c .before .before .before .before .before .before .before .before .before .args in
-    left-to (λ s n. rawCall s n (a .id) (a .bytes .now) (a .subtype)) (a .self) _ (a .buf .now) (a .buf .now) (a .place) _ _ _ (c .before .before .before .before .before .anew .ensures) refl (c .anew2 .ensures) (c .before .before .before .write-fixlen-slowly .ensures)
+    by-slow-form (λ s n. rawCall s n (a .id) (a .bytes .now) (a .subtype)) (a .self) _ (a .buf .now) (a .buf .now) (a .place) _ _ _ (c .before .before .before .before .before .rebuilt .ensures) refl (c .rebuilt2 .ensures) (c .before .before .before .write-fixlen-slowly .ensures)
 
 cast-tagged : tie.Need-cast-tagged
 cast-tagged c =
@@ -65,7 +65,7 @@ returns-2 c =
     let d = length-append (shortest h) (shortest w ++ a .bytes .now) in
     let g = length-append (shortest w) (a .bytes .now) in
     let r = y .room in
-    straight (rawCall (a .self) (length (a .buf .now)) (a .id) (a .bytes .now) (a .subtype)) (a .self) (a .buf .now) (shortest h ++ (shortest w ++ a .bytes .now)) (a .place) _ _ (a .self)
+    goes-at-once (rawCall (a .self) (length (a .buf .now)) (a .id) (a .bytes .now) (a .subtype)) (a .self) (a .buf .now) (shortest h ++ (shortest w ++ a .bytes .now)) (a .place) _ _ (a .self)
     (ready-field (a .self) (length (a .buf .now)) (a .id) (length (a .bytes .now)) y (e .1))
     (ap (λ (x : ℕ). shortest h ++ (shortest x ++ a .bytes .now)) (c .before .before .before .before .before .before .before .tagged .ensures ∙ ap (λ (n : ℕ). length (a .bytes .now) * 8 + n) (c .before .before .before .before .before .before .before .before .raw .ensures)) ∙ spelled (a .self) (y .none) h (a .id * 8 + 2) (shortest (length (a .bytes .now) * 8 + fixlenRaw (a .subtype)) ++ a .bytes .now) (c .before .before .before .before .before .tagged2 .ensures))
     (committed-none (a .self) (a .self .depth) (y .none))
@@ -79,7 +79,7 @@ same-length-3 c = search (needs, ap length (unaltered (c .before .before .before
 returns-3 : tie.Need-returns-3
 returns-3 c =
     let a = c .before .before .before .before .before .before .before .before .before .before .before .args in
-    left-to (λ s n. rawCall s n (a .id) (a .bytes .now) (a .subtype)) (a .self) _ (a .buf .now) (c .before .before .before .before .before .before .if2 .buf) (a .place) _ _ _ (c .before .before .before .before .before .anew3 .ensures) (unaltered (c .before .before .before .before .before .before)) (c .anew4 .ensures) (c .before .before .before .write-fixlen-slowly2 .ensures)
+    by-slow-form (λ s n. rawCall s n (a .id) (a .bytes .now) (a .subtype)) (a .self) _ (a .buf .now) (c .before .before .before .before .before .before .if2 .buf) (a .place) _ _ _ (c .before .before .before .before .before .rebuilt3 .ensures) (unaltered (c .before .before .before .before .before .before)) (c .rebuilt4 .ensures) (c .before .before .before .write-fixlen-slowly2 .ensures)
 
 pub write-fixlen-raw-spec : {M : Type 1} → statement M
 write-fixlen-raw-spec =

@@ -1,4 +1,4 @@
--- `ostream::OStream::write_fp32`: the same by the float's bits.
+-- `ostream::OStream::write_fp32`: `write_fp32_bits` with the float's bits.
 use mathlib.Core.Path.{ap, _∙_}
 use Prim.Native.Nat.{ℕ}
 use borrow.Author.Needs.{needs}

@@ -7,8 +7,8 @@ use Rattle.ostream.specs.declared.OStream.{OStream}
 use Rattle.ostream.specs.declared.Answer.the-variants.{Done}
 use Rattle.ostream.specs.Stream.{lazyDepth, holding}
 use Rattle.ostream.specs.Calls.{beginCall}
-use Rattle.ostream.proofs.Called.{is-sound, alters}
-use Rattle.ostream.proofs.Straight.{Holds, can-hold}
+use Rattle.ostream.proofs.Calls.{is-sound, alters}
+use Rattle.ostream.proofs.AtOnce.{Holds, can-hold}
 use borrow.Author.Needs.{needs}
 use Rattle.ostream.proofs.OStream.write_sequence_begin_lazy.Statement.{statement}
 use Rattle.ostream.proofs.OStream.write_sequence_begin_lazy.Tie as tie

@@ -1,4 +1,4 @@
--- `ostream::OStream::write_sequence_end`: straight away from a state that holds nothing, where the output is the close alone.
+-- `ostream::OStream::write_sequence_end`: at once from a state that holds nothing, where the output is the close alone.
 use Prim.Native.Nat.{ℕ, _-_, _<_}
 use mathlib.Core.Path.{_≡_, refl, sym, ap, _∙_}
 use mathlib.Core.List.{[], _∷_}
@@ -11,23 +11,23 @@ use lib.ListN.{length}
 use Rattle.layout.specs.Copy.{fieldBytes}
 use Rattle.varint.proofs.Shortest.{shortest-one}
 use Rattle.held.specs.Places.{clean}
-use Rattle.straight.proofs.Straight.{went, stayed}
+use Rattle.write_at_once.proofs.AtOnce.{went, stayed}
 use Rattle.ostream.specs.Stream.{soundStream}
 use Rattle.ostream.specs.Calls.{endCall}
-use Rattle.ostream.proofs.Called.{both, committed-none}
-use Rattle.ostream.proofs.Straight.{closes-easy, quiet, straight, left-to}
+use Rattle.ostream.proofs.Calls.{both, committed-none}
+use Rattle.ostream.proofs.AtOnce.{closes-easy, quiet, goes-at-once, by-slow-form}
 use borrow.Author.Needs.{needs}
 use Rattle.ostream.proofs.OStream.write_sequence_end.Statement.{statement}
 use Rattle.ostream.proofs.OStream.write_sequence_end.Tie as tie
 use Rattle.ostream.proofs.OStream.write_sequence_end.Reads as reads
 use Rattle.ostream.proofs.OStream.write_sequence_end.Lts as lts
-use Rattle.ostream.proofs.OStream.anew.Reads as OStream-anew-reads
+use Rattle.ostream.proofs.OStream.rebuilt.Reads as OStream-rebuilt-reads
 use Rattle.ostream.proofs.OStream.end_slowly.Reads as end-slowly-reads
-use Rattle.ostream.proofs.Written.anew.Reads as Written-anew-reads
-use Rattle.straight.proofs.closes_at_ease.Reads as closes-at-ease-reads
-use Rattle.straight.proofs.put_end.Reads as put-end-reads
+use Rattle.ostream.proofs.Written.rebuilt.Reads as Written-rebuilt-reads
+use Rattle.write_at_once.proofs.closes_at_ease.Reads as closes-at-ease-reads
+use Rattle.write_at_once.proofs.put_end.Reads as put-end-reads
 
--- where the straight form has written nothing, the buffer is as it was
+-- where nothing was written at once, the buffer is as it was
 some : 0 < length {A = ℕ} (7 ∷ [])
 some = omega arith
 
@@ -43,7 +43,7 @@ unaltered c =
 returns : tie.Need-returns
 returns c =
     let a = c .before .before .before .before .before .before .before .before .args in
-    left-to (λ s n. endCall s n) (a .self) _ (a .buf .now) (a .buf .now) (a .place) _ _ _ (c .before .before .before .before .before .anew .ensures) refl (c .anew2 .ensures) (c .before .before .before .end-slowly .ensures)
+    by-slow-form (λ s n. endCall s n) (a .self) _ (a .buf .now) (a .buf .now) (a .place) _ _ _ (c .before .before .before .before .before .rebuilt .ensures) refl (c .rebuilt2 .ensures) (c .before .before .before .end-slowly .ensures)
 
 sub-self : tie.Need-sub-self
 sub-self c =
@@ -62,7 +62,7 @@ returns-2 c =
     let n = q .0 in
     let y = q .1 in
     let u : soundStream (a .self) (length (a .buf .now)) ≡ true = quiet (a .self) (length (a .buf .now)) (omega arith) (y .none) (y .shallow) (t .1) in
-    straight (endCall (a .self) (length (a .buf .now))) (a .self) (a .buf .now) (7 ∷ []) (a .place) _ _
+    goes-at-once (endCall (a .self) (length (a .buf .now))) (a .self) (a .buf .now) (7 ∷ []) (a .place) _ _
     (record { offset = a .self .offset; depth = a .self .depth - 1; pending = a .self .pending; npending = a .self .npending })
     (simp (u, ne-eqb (a .self .depth) 0 (λ e. omega arith)))
     (simp (eq-eqb _ _ (y .none)) (sym (shortest-one 7 (omega arith))))
@@ -77,7 +77,7 @@ same-length-3 c = search (needs, ap length (unaltered (c .before .before .before
 returns-3 : tie.Need-returns-3
 returns-3 c =
     let a = c .before .before .before .before .before .before .before .before .before .before .args in
-    left-to (λ s n. endCall s n) (a .self) _ (a .buf .now) (c .before .before .before .before .before .before .if2 .buf) (a .place) _ _ _ (c .before .before .before .before .before .anew3 .ensures) (unaltered (c .before .before .before .before .before .before)) (c .anew4 .ensures) (c .before .before .before .end-slowly2 .ensures)
+    by-slow-form (λ s n. endCall s n) (a .self) _ (a .buf .now) (c .before .before .before .before .before .before .if2 .buf) (a .place) _ _ _ (c .before .before .before .before .before .rebuilt3 .ensures) (unaltered (c .before .before .before .before .before .before)) (c .rebuilt4 .ensures) (c .before .before .before .end-slowly2 .ensures)
 
 pub write-sequence-end-spec : {M : Type 1} → statement M
 write-sequence-end-spec =

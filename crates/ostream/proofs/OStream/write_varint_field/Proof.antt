@@ -1,4 +1,4 @@
--- `ostream::OStream::write_varint_field`: straight away from a state that holds nothing, and otherwise left to the slow form.
+-- `ostream::OStream::write_varint_field`: at once from a state that holds nothing, and otherwise left to the slow form.
 use Prim.Native.Nat.{_+_, _*_}
 use mathlib.Core.Path.{_≡_, refl, sym, ap, _∙_}
 use mathlib.Core.List.{_++_}
@@ -8,23 +8,23 @@ use lib.ListN.{length, length-append}
 use Rattle.layout.specs.Limits.{base}
 use Rattle.layout.specs.Varint.{shortest}
 use Rattle.varint.proofs.Shortest.{length-longest, length-some}
-use Rattle.straight.proofs.Straight.{went, unmoved}
-use Rattle.ostream.proofs.Called.{committed-none}
+use Rattle.write_at_once.proofs.AtOnce.{went, unmoved}
+use Rattle.ostream.proofs.Calls.{committed-none}
 use Rattle.ostream.specs.Calls.{varintCall}
-use Rattle.ostream.proofs.Straight.{is-ready, is-easy, ready-scalar, spelled, straight, left-to}
+use Rattle.ostream.proofs.AtOnce.{is-ready, is-easy, ready-scalar, spelled, goes-at-once, by-slow-form}
 use borrow.Author.Needs.{needs}
 use Rattle.ostream.proofs.OStream.write_varint_field.Statement.{statement}
 use Rattle.ostream.proofs.OStream.write_varint_field.Tie as tie
 use Rattle.ostream.proofs.OStream.write_varint_field.Reads as reads
 use Rattle.ostream.proofs.OStream.write_varint_field.Lts as lts
 use Rattle.held.proofs.tagged.Reads as tagged-reads
-use Rattle.ostream.proofs.OStream.anew.Reads as OStream-anew-reads
+use Rattle.ostream.proofs.OStream.rebuilt.Reads as OStream-rebuilt-reads
 use Rattle.ostream.proofs.OStream.write_varint_field_slowly.Reads as write-varint-field-slowly-reads
-use Rattle.ostream.proofs.Written.anew.Reads as Written-anew-reads
-use Rattle.straight.proofs.at_ease.Reads as at-ease-reads
-use Rattle.straight.proofs.put_pair.Reads as put-pair-reads
+use Rattle.ostream.proofs.Written.rebuilt.Reads as Written-rebuilt-reads
+use Rattle.write_at_once.proofs.at_ease.Reads as at-ease-reads
+use Rattle.write_at_once.proofs.put_pair.Reads as put-pair-reads
 
--- where the straight form has written nothing, the buffer is as it was
+-- where nothing was written at once, the buffer is as it was
 unaltered : (c : tie.Joined2) → c .if2 .buf ≡ c .before .before .before .before .args .buf .now
 unaltered c =
     let a = c .before .before .before .before .args in
@@ -40,7 +40,7 @@ unaltered c =
 returns : tie.Need-returns
 returns c =
     let a = c .before .before .before .before .before .before .before .before .args in
-    left-to (λ s n. varintCall s n (a .id) (a .wire) (a .value)) (a .self) _ (a .buf .now) (a .buf .now) (a .place) _ _ _ (c .before .before .before .before .before .anew .ensures) refl (c .anew2 .ensures) (c .before .before .before .write-varint-field-slowly .ensures)
+    by-slow-form (λ s n. varintCall s n (a .id) (a .wire) (a .value)) (a .self) _ (a .buf .now) (a .buf .now) (a .place) _ _ _ (c .before .before .before .before .before .rebuilt .ensures) refl (c .rebuilt2 .ensures) (c .before .before .before .write-varint-field-slowly .ensures)
 
 returns-2 : tie.Need-returns-2
 returns-2 c =
@@ -54,7 +54,7 @@ returns-2 c =
     let lv = length-longest base (a .value) (f .value .fits) in
     let o = length-append (shortest h) (shortest (a .value)) in
     let r = y .room in
-    straight (varintCall (a .self) (length (a .buf .now)) (a .id) (a .wire) (a .value)) (a .self) (a .buf .now) (shortest h ++ shortest (a .value)) (a .place) _ _ (a .self)
+    goes-at-once (varintCall (a .self) (length (a .buf .now)) (a .id) (a .wire) (a .value)) (a .self) (a .buf .now) (shortest h ++ shortest (a .value)) (a .place) _ _ (a .self)
     (ready-scalar (a .self) (length (a .buf .now)) (a .id) 0 y)
     (spelled (a .self) (y .none) h (a .id * 8 + a .wire) (shortest (a .value)) (c .before .before .before .before .before .tagged .ensures))
     (committed-none (a .self) (a .self .depth) (y .none))
@@ -68,7 +68,7 @@ same-length-3 c = search (needs, ap length (unaltered (c .before .before .before
 returns-3 : tie.Need-returns-3
 returns-3 c =
     let a = c .before .before .before .before .before .before .before .before .before .before .args in
-    left-to (λ s n. varintCall s n (a .id) (a .wire) (a .value)) (a .self) _ (a .buf .now) (c .before .before .before .before .before .before .if2 .buf) (a .place) _ _ _ (c .before .before .before .before .before .anew3 .ensures) (unaltered (c .before .before .before .before .before .before)) (c .anew4 .ensures) (c .before .before .before .write-varint-field-slowly2 .ensures)
+    by-slow-form (λ s n. varintCall s n (a .id) (a .wire) (a .value)) (a .self) _ (a .buf .now) (c .before .before .before .before .before .before .if2 .buf) (a .place) _ _ _ (c .before .before .before .before .before .rebuilt3 .ensures) (unaltered (c .before .before .before .before .before .before)) (c .rebuilt4 .ensures) (c .before .before .before .write-varint-field-slowly2 .ensures)
 
 pub write-varint-field-spec : {M : Type 1} → statement M
 write-varint-field-spec =

@@ -1,4 +1,4 @@
--- `owed::Output::put_bounded`: the plain way, and the length that it has.
+-- `owed::Output::put_bounded`: the slow form, and the length that it has.
 use native.Mathlib.Omega.{arith}
 use borrow.Author.Needs.{needs}
 use Rattle.owed.proofs.Output.put_bounded.Statement.{statement}

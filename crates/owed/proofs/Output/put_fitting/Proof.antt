@@ -1,4 +1,4 @@
--- `owed::Output::put_fitting`: one varint or two straight away, and the rarer outputs by the plain way.
+-- `owed::Output::put_fitting`: one varint or two at once, and the rarer outputs slowly.
 use Prim.Native.Nat.{_≤_}
 use mir.Val.{Fits}
 use mir.Syntax.{w64}

@@ -14,20 +14,20 @@ returns-2 c = too-long _ _ _ _ _ (c .before .if1 .left) (c .if2 .taken)
 returns-3 : tie.Need-returns-3
 returns-3 c =
     let t = c .before in
-    whole-chunk _ _ _ _ _ (t .before .before .if1 .left) (t .before .if2 .left) (sym (t .at-once .ensures) ∙ c .if3 .taken)
+    whole-chunk _ _ _ _ _ (t .before .before .if1 .left) (t .before .if2 .left) (sym (t .holds-whole .ensures) ∙ c .if3 .taken)
 
 returns-4 : tie.Need-returns-4
 returns-4 c =
     let e = c .before .before in
     let t = e .before in
-    elsewhere _ _ _ _ _ (t .before .before .if1 .left) (t .before .if2 .left) (sym (t .at-once .ensures) ∙ e .if3 .left) (c .if4 .taken)
+    elsewhere _ _ _ _ _ (t .before .before .if1 .left) (t .before .if2 .left) (sym (t .holds-whole .ensures) ∙ e .if3 .left) (c .if4 .taken)
 
 returns-5 : tie.Need-returns-5
 returns-5 c =
     let r = c .before .before in
     let e = r .before .before .before .before in
     let t = e .before in
-    r .append .ensures ∙ sym (next _ _ _ _ _ (t .before .before .if1 .left) (t .before .if2 .left) (sym (t .at-once .ensures) ∙ e .if3 .left) (r .before .before .if4 .left))
+    r .append .ensures ∙ sym (next _ _ _ _ _ (t .before .before .if1 .left) (t .before .if2 .left) (sym (t .holds-whole .ensures) ∙ e .if3 .left) (r .before .before .if4 .left))
 
 pub accept-spec : {M : Type 1} → statement M
 accept-spec =

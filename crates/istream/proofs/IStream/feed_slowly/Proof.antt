@@ -1,0 +1,53 @@
+-- `istream::IStream::feed_slowly` meets its contract: refused as unsound, a payload, an empty piece that is due, broken, or byte by byte.
+use mathlib.Core.Path.{refl, sym, ap, _∙_, subst}
+use native.Mathlib.Omega.{arith}
+use mir.Syntax.{w8}
+use mir.Val.{Fits}
+use borrow.Author.Tests.{not-true, not-false}
+use Rattle.layout.specs.Limits.{base}
+use Rattle.phase.specs.declared.Phase.{Phase}
+use Rattle.phase.specs.Phases.{stateAt}
+use Rattle.istream.specs.Stream.{stateOf}
+use Rattle.phase.specs.Sound.{SoundState}
+use Rattle.istream.proofs.Laws.{is-sound, fed-sound, fed-broken, fed-unsound, owed-piece}
+use Rattle.phase.proofs.Phases.{at-bytes, at-bytes-live}
+use borrow.Author.Needs.{needs}
+use Rattle.istream.proofs.IStream.feed_slowly.Statement.{statement}
+use Rattle.istream.proofs.IStream.feed_slowly.Tie as tie
+
+returns : tie.Need-returns
+returns c =
+    let f : Fits w8 (c .before .before .before .before .args .self .carried .depth) = search needs in
+    fed-unsound base (c .before .before .before .before .args .self) (c .before .before .before .before .args .chunk .now) (omega (arith, f .fits)) (sym (c .before .sound .ensures) ∙ not-true _ (c .if1 .taken))
+
+payload-requires : tie.Need-payload-requires
+payload-requires c κs =
+    subst (λ (p : Phase). SoundState base (stateAt (c .before .before .before .before .before .before .before .args .self .carried .depth) p)) (c .before .phase .given .1) (is-sound base (c .before .before .before .before .before .before .before .args .self) (sym (c .before .before .before .before .sound .ensures) ∙ not-false _ (c .before .before .before .if1 .left))) .1 .1 .1
+
+scan-requires : tie.Need-scan-requires
+scan-requires c κs =
+    at-bytes base (c .before .before .before .before .before .args .self .carried .depth) (c .before .before .before .before .before .args .self .phase) (is-sound base (c .before .before .before .before .before .args .self) (sym (c .before .before .sound .ensures) ∙ not-false _ (c .before .if1 .left))) (c .match .keys4)
+
+returns-2 : tie.Need-returns-2
+returns-2 c =
+    c .payload .ensures ∙ fed-sound base (c .before .before .before .before .before .before .before .before .args .self) _ (c .before .before .before .before .before .before .before .before .args .chunk .now) (ap (λ (p : Phase). stateAt (c .before .before .before .before .before .before .before .before .args .self .carried .depth) p) (c .before .before .phase .given .1)) tt (sym (c .before .before .before .before .before .sound .ensures) ∙ not-false _ (c .before .before .before .before .if1 .left))
+
+returns-3 : tie.Need-returns-3
+returns-3 c =
+    c .answered .ensures ∙ owed-piece base (c .before .before .before .before .before .before .before .before .before .before .args .self .carried .depth) (c .before .before .before .before .phase2 .given .0 .0) (c .before .before .before .before .phase2 .given .0 .1 .0) (c .before .before .before .before .before .before .before .before .before .before .args .chunk .now) (c .before .before .piece .result) (c .before .idle .result) (c .before .before .piece .ensures) (c .before .idle .ensures) ∙ fed-sound base (c .before .before .before .before .before .before .before .before .before .before .args .self) _ (c .before .before .before .before .before .before .before .before .before .before .args .chunk .now) (ap (λ (p : Phase). stateAt (c .before .before .before .before .before .before .before .before .before .before .args .self .carried .depth) p) (c .before .before .before .before .phase2 .given .1)) tt (sym (c .before .before .before .before .before .before .before .sound .ensures) ∙ not-false _ (c .before .before .before .before .before .before .if1 .left))
+
+returns-4 : tie.Need-returns-4
+returns-4 c =
+    fed-broken base (c .before .before .before .before .before .before .args .self) (c .before .before .before .before .before .before .args .chunk .now) (c .enum-told .given .1)
+
+returns-5 : tie.Need-returns-5
+returns-5 c =
+    let b = at-bytes base (c .before .before .before .before .before .before .args .self .carried .depth) (c .before .before .before .before .before .before .args .self .phase) (is-sound base (c .before .before .before .before .before .before .args .self) (sym (c .before .before .before .sound .ensures) ∙ not-false _ (c .before .before .if1 .left))) (c .before .match .keys4) in
+    c .scan .ensures ∙ fed-sound base (c .before .before .before .before .before .before .args .self) (stateOf (c .before .before .before .before .before .before .args .self)) (c .before .before .before .before .before .before .args .chunk .now) refl (at-bytes-live base (stateOf (c .before .before .before .before .before .before .args .self)) b) (sym (c .before .before .before .sound .ensures) ∙ not-false _ (c .before .before .if1 .left))
+
+pub feed-slowly-spec : {M : Type 1} → statement M
+feed-slowly-spec =
+    tie.close
+    (tie.spec
+    (λ c κs. search needs) returns (λ c. search needs) payload-requires (λ c. search needs) (λ c κs. search needs)
+    (λ c κs. search needs) (λ c κs. search needs) (λ c. search needs) scan-requires returns-2 returns-3 returns-4 returns-5)

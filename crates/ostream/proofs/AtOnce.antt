@@ -1,0 +1,115 @@
+-- Writing at once: what the tests of a field that holds nothing say of the state, and a call that is made so.
+use mathlib.Core.Path.{_≡_, refl, sym, ap, _∙_}
+use mathlib.Core.List.{List, [], _∷_, _++_}
+use mathlib.Core.Bool.{true, _&&_}
+use Prim.Native.Nat.{ℕ, _+_, _≤_, _<_}
+use native.Mathlib.Omega.{arith}
+use lib.Dec.{leb, eqb}
+use lib.ListN.{length, take, drop}
+use borrow.Author.Tests.{leb-true, ltb-true, le-leb, le-ltb}
+use Rattle.layout.specs.Limits.{base}
+use Rattle.layout.specs.Varint.{shortest}
+use Rattle.emit.proofs.Turns.{Whole}
+use Rattle.held.specs.Places.{clean}
+use Rattle.held.specs.Headers.{pairMost}
+use Rattle.held.proofs.Ends.{at-once}
+use Rattle.write_at_once.specs.AtOnce.{roomFor, easyAt, closesAt}
+use Rattle.write_at_once.proofs.AtOnce.{has-room}
+use Rattle.ostream.specs.declared.OStream.{OStream}
+use Rattle.ostream.specs.declared.Answer.the-variants.{Done}
+use Rattle.ostream.specs.declared.Written.{Written}
+use Rattle.ostream.specs.Stream.{every, soundStream, lazyDepth, heldBytes, at}
+use Rattle.ostream.specs.Private.{holds}
+use Rattle.ostream.specs.Calls.{unsound, idTooLarge, arrayTooLong, fieldTests}
+use Rattle.ostream.specs.Emission.{Call, accepted, judged, resultOf, written}
+use Rattle.ostream.proofs.Calls.{both, none-held, settles}
+
+-- ---- the state
+
+-- a state that holds nothing, from which a field of two varints and n more bytes can be written at once
+pub record Ready (s : OStream) (size id n : ℕ) : Type 0 where
+  pub room : s .offset + pairMost + n ≤ size
+  pub legal : id ≤ base .id
+  pub none : s .npending ≡ 0
+  pub sound : soundStream s size ≡ true
+
+pub quiet : (s : OStream) (size : ℕ) → s .offset ≤ size → s .npending ≡ 0 → s .depth ≤ base .depth → clean (s .pending) ≡ true → soundStream s size ≡ true
+unfolding soundStream every
+quiet s size h e d z =
+    ap (λ (n : ℕ). leb (s .offset) size && (leb n lazyDepth && (leb n (s .depth) && (leb (s .depth) (base .depth) && (every (λ x. leb x (base .id)) (take n (s .pending)) && every (λ x. eqb x 0) (drop n (s .pending))))))) e
+    ∙ simp (le-leb (s .offset) size h, le-leb 0 (s .depth) (omega arith), le-leb (s .depth) (base .depth) d, z)
+
+-- the tests that come before the places and the room
+pub record Easy (s : OStream) (id : ℕ) : Type 0 where
+  pub legal : id ≤ base .id
+  pub none : s .npending ≡ 0
+  pub shallow : s .depth ≤ base .depth
+
+pub is-easy : (s : OStream) (id : ℕ) → easyAt (s .depth) (s .npending) id ≡ true → Easy s id
+unfolding easyAt
+is-easy s id e =
+    let a = both _ _ e in
+    let b = both _ _ (a .1) in
+    record { legal = leb-true _ _ (a .0); none = nothing (s .npending) (leb-true _ _ (b .0)); shallow = leb-true _ _ (b .1) }
+  where
+    nothing : (n : ℕ) → n ≤ 0 → n ≡ 0
+    nothing n h = omega arith
+
+-- with a payload or an array of n
+pub easy-with : (s : OStream) (id n most : ℕ) → (easyAt (s .depth) (s .npending) id && leb n most) ≡ true → Easy s id × (n ≤ most)
+easy-with s id n most e = let a = both _ _ e in (is-easy s id (a .0), leb-true _ _ (a .1))
+
+pub closes-easy : (s : OStream) → closesAt (s .depth) (s .npending) ≡ true → (0 < s .depth) × Easy s 0
+unfolding closesAt
+closes-easy s e = let a = both _ _ e in (ltb-true _ _ (a .0), is-easy s 0 (a .1))
+
+pub is-ready : (s : OStream) (size id n : ℕ) → Easy s id → (roomFor size (s .offset) n && clean (s .pending)) ≡ true → Ready s size id n
+is-ready s size id n y e =
+    let a = both _ _ e in
+    let r : s .offset + pairMost + n ≤ size = has-room size (s .offset) n (a .0) in
+    record { room = r; legal = y .legal; none = y .none; sound = quiet s size (omega arith) (y .none) (y .shallow) (a .1) }
+
+-- a sequence can be opened and held back
+pub record Holds (s : OStream) (size id : ℕ) : Type 0 where
+  pub few : s .npending < lazyDepth
+  pub shallow : s .depth < base .depth
+  pub legal : id ≤ base .id
+  pub sound : soundStream s size ≡ true
+
+pub can-hold : (s : OStream) (size id : ℕ) → holds s size id ≡ true → Holds s size id
+unfolding holds
+can-hold s size id e =
+    let a = both _ _ e in
+    let b = both _ _ (a .1) in
+    let c = both _ _ (b .1) in
+    record { few = ltb-true _ _ (a .0); shallow = ltb-true _ _ (b .0); legal = leb-true _ _ (c .0); sound = c .1 }
+
+-- it passes the tests of a field
+module _ (s : OStream) (size id n : ℕ) (y : Ready s size id n) where
+  pub ready-scalar : judged (unsound s size ∷ idTooLarge id ∷ []) ≡ accepted
+  ready-scalar = simp (y .sound, le-ltb _ _ (y .legal))
+
+  pub ready-field : n ≤ base .size → judged (fieldTests s size id n) ≡ accepted
+  ready-field h = simp (y .sound, le-ltb _ _ (y .legal), le-ltb _ _ h)
+
+-- and those of an array of k elements
+pub ready-array : (s : OStream) (size id k n : ℕ) → Ready s size id n → k ≤ base .count → judged (unsound s size ∷ idTooLarge id ∷ arrayTooLong k ∷ []) ≡ accepted
+ready-array s size id k n y h = simp (y .sound, le-ltb _ _ (y .legal), le-ltb _ _ h)
+
+-- the output of a state that holds nothing, with the header as it was made
+pub spelled : (s : OStream) → s .npending ≡ 0 → (h n : ℕ) (l : List ℕ) → h ≡ n → shortest h ++ l ≡ heldBytes s ++ (shortest n ++ l)
+spelled s e h n l q = ap (λ (x : ℕ). shortest x ++ l) q ∙ ap (λ (x : List ℕ). x ++ (shortest n ++ l)) (sym (none-held s e))
+
+-- a call whose output goes at once
+pub goes-at-once : (k : Call) (s : OStream) (b o : List ℕ) (place end : ℕ) (b′ : List ℕ) (next : OStream) → judged (k .tests) ≡ accepted → o ≡ k .output → next ≡ k .done → place ≡ 0
+    → s .offset + length o ≤ length b → Whole b (s .offset) o b′ end
+    → resultOf (record { answer = Done; stream = at next end }) b′ ≡ written k s b place
+goes-at-once k s b o place end b′ next j eo en z h w = settles k s b place _ o next _ b′ eo en j (at-once (s .offset) b o place end b′ z h w) refl
+
+-- a call that is left to another of the same statement, with the state rebuilt and the buffer unaltered
+pub by-slow-form : (k : OStream → ℕ → Call) (s s′ : OStream) (b b0 : List ℕ) (place : ℕ) (r r′ : Written) (b′ : List ℕ) → s′ ≡ s → b0 ≡ b → r′ ≡ r
+    → resultOf r b′ ≡ written (k s′ (length b0)) s′ b0 place → resultOf r′ b′ ≡ written (k s (length b)) s b place
+by-slow-form k s s′ b b0 place r r′ b′ es eb er h =
+    ap (λ (x : Written). resultOf x b′) er ∙ h
+    ∙ ap (λ (x : OStream). written (k x (length b0)) x b0 place) es
+    ∙ ap (λ (l : List ℕ). written (k s (length l)) s l place) eb

@@ -1,3 +1,0 @@
--- `Straight` has the laws of the fast forms: the room, the tests and the writes; `Rows` those of two varints and what follows them.
-pub mod Straight
-pub mod Rows

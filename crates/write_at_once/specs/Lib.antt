@@ -1,0 +1,2 @@
+-- Fields that are written at once, where there is room: `AtOnce`.
+pub mod AtOnce

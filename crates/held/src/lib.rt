@@ -97,13 +97,13 @@ pub fn sound_for(
     if size < offset {
         return false;
     }
-    if LAZY_SEQ_DEPTH < held as usize {
+    if (LAZY_SEQ_DEPTH as u16) < held {
         return false;
     }
     if depth < held {
         return false;
     }
-    if MAX_DEPTH < depth as u32 {
+    if (MAX_DEPTH as u16) < depth {
         return false;
     }
     if ids_legal(places, held as usize) {

@@ -30,10 +30,10 @@ impl OStream {
     fn can_hold(self, size: usize, id: u32) -> bool
         ensures { λ r. ⌜ r ≡ holds self size id ⌝ }
     {
-        if LAZY_SEQ_DEPTH <= self.npending as usize {
+        if (LAZY_SEQ_DEPTH as u16) <= self.npending {
             return false;
         }
-        if MAX_DEPTH <= self.depth as u32 {
+        if (MAX_DEPTH as u16) <= self.depth {
             return false;
         }
         if ID_MAX < id {
@@ -91,7 +91,7 @@ impl OStream {
         if !check.ok {
             return self.refuse(error);
         }
-        if (self.npending as usize) < LAZY_SEQ_DEPTH {
+        if self.npending < LAZY_SEQ_DEPTH as u16 {
             return self.alter(place, self.hold(id));
         }
         let places = self.pending;

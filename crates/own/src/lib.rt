@@ -335,7 +335,7 @@ fn body_at(t: &[u8], at: usize, h: u64, depth: u8) -> Next
             depth,
         },
         6 => {
-            if (depth as u32) < MAX_DEPTH {
+            if depth < MAX_DEPTH as u8 {
                 Next {
                     at,
                     depth: depth + 1,

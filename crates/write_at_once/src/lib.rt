@@ -34,7 +34,7 @@ pub fn at_ease(depth: u16, held: u16, id: u32) -> bool
     if 0 < held {
         return false;
     }
-    depth as u32 <= MAX_DEPTH
+    depth <= MAX_DEPTH as u16
 }
 
 // And against one with a payload or an array of `len`, of which `most` is the limit.

@@ -35,4 +35,5 @@ pub sound-for-spec : {M : Type 1} → statement M
 sound-for-spec =
     tie.close
     (tie.spec
-    returns returns-2 returns-3 returns-4 (λ c κs. search needs) (λ c κs. search needs) returns-5 returns-6)
+    returns (λ c. search needs) returns-2 returns-3 (λ c. search needs) returns-4 (λ c κs. search needs)
+    (λ c κs. search needs) returns-5 returns-6)

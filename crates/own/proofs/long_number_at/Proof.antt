@@ -52,5 +52,5 @@ pub long-number-at-spec : {M : Type 1} → statement M
 long-number-at-spec =
     tie.close
     (tie.spec
-    Inv-loop μ-loop loop-holds (λ c. search needs) sub-if1 (λ c. search needs) (λ c. search needs) returns returns-2 (λ c. search needs)
-    returns-3 (λ c. search needs) (λ c. search needs) loop-again (λ c. search needs) returns-4 returns-5 returns-6)
+    Inv-loop μ-loop loop-holds (λ c. search needs) sub-if1 (λ c. search needs) (λ c. search needs) returns returns-2
+    (λ c. search needs) returns-3 (λ c. search needs) (λ c. search needs) loop-again (λ c. search needs) returns-4 returns-5 returns-6)

@@ -42,5 +42,5 @@ pub skip-at-spec : {M : Type 1} → statement M
 skip-at-spec =
     tie.close
     (tie.spec
-    Inv-loop μ-loop loop-holds (λ c. search needs) (λ c. search needs) (λ c. search needs) (λ c. search needs) returns (λ c. search needs)
-    (λ c. search needs) loop-again (λ c. search needs) returns-2 (λ c. search needs) returns-3 returns-4)
+    Inv-loop μ-loop loop-holds (λ c. search needs) (λ c. search needs) (λ c. search needs) (λ c. search needs) returns
+    (λ c. search needs) (λ c. search needs) loop-again (λ c. search needs) returns-2 (λ c. search needs) returns-3 returns-4)

@@ -1,6 +1,7 @@
 -- `write_at_once::at_ease`: the tests in order.
 use borrow.Author.Tests.{le-leb, lt-leb}
 use Rattle.write_at_once.specs.AtOnce.{easyAt}
+use borrow.Author.Needs.{needs}
 use Rattle.write_at_once.proofs.at_ease.Statement.{statement}
 use Rattle.write_at_once.proofs.at_ease.Tie as tie
 use Rattle.write_at_once.proofs.at_ease.Reads as reads
@@ -20,4 +21,4 @@ returns-3 c = simp (le-leb _ _ (c .before .if1 .left), le-leb _ _ (c .if2 .left)
 
 pub at-ease-spec : {M : Type 1} → statement M
 at-ease-spec =
-    tie.close (tie.spec returns returns-2 returns-3)
+    tie.close (tie.spec returns returns-2 (λ c. search needs) returns-3)

@@ -1,0 +1,145 @@
+// What the test programs share: a script on standard input, a case to a line, its words parted by one blank; and what they print.
+// A word that isn't there is empty, and a number that isn't there is 0.
+ghost use Prim.Native.Nat.{_≤_};
+ghost use lib.ListN.{length};
+use libc::STDOUT_FILENO;
+use std::num::wrapping_add_u64;
+
+// ---- parts of a text
+
+// Where the part from there on ends: at the next such byte, or with the text.
+pub fn end_of(text: &[u8], from: usize, stop: u8) -> usize
+    requires { ⌜ from ≤ length (now text) ⌝ }
+    ensures { λ r. ⌜ (from ≤ r) × (r ≤ length (now (text .entry))) ⌝ }
+{
+    let mut i = from;
+    while i < text.len() && text[i] != stop {
+        i += 1;
+    }
+    i
+}
+
+fn behind(end: usize, len: usize) -> usize
+    ensures { λ r. ⌜ r ≤ len ⌝ }
+{
+    if end < len { end + 1 } else { len }
+}
+
+// The word of a line with this number, counted from 0.
+pub fn word<'a>(line: &'a [u8], k: u32) -> &'a [u8] {
+    let mut from: usize = 0;
+    let mut left = k;
+    while 0 < left {
+        from = behind(end_of(line, from, b' '), line.len());
+        left -= 1;
+    }
+    let end = end_of(line, from, b' ');
+    &line[from..end]
+}
+
+// The first n bytes, or all.
+pub fn first<'a>(s: &'a [u8], n: usize) -> &'a [u8] {
+    if n <= s.len() { &s[..n] } else { s }
+}
+
+// The bytes from a place to another, where they are there.
+pub fn between<'a>(s: &'a [u8], from: usize, to: usize) -> &'a [u8] {
+    if from <= to && to <= s.len() {
+        return &s[from..to];
+    }
+    &s[0..0]
+}
+
+// ---- numbers and bytes of a line
+
+fn digit(b: u8) -> u64 {
+    if b < b'0' {
+        return 0;
+    }
+    (b - b'0') as u64
+}
+
+fn ten_times(n: u64) -> u64 {
+    wrapping_add_u64(n << 3, n << 1)
+}
+
+fn decimal(word: &[u8]) -> u64 {
+    let mut n: u64 = 0;
+    let mut i: usize = 0;
+    while i < word.len() {
+        n = wrapping_add_u64(ten_times(n), digit(word[i]));
+        i += 1;
+    }
+    n
+}
+
+// The word with this number, in decimal.
+pub fn number(line: &[u8], k: u32) -> u64 {
+    decimal(word(line, k))
+}
+
+// The same, of 32 bits.
+pub fn short(line: &[u8], k: u32) -> u32 {
+    (number(line, k) % 4294967296) as u32
+}
+
+// A hexadecimal digit's value; 16 for any other byte.
+pub fn nibble(b: u8) -> u8 {
+    if b'0' <= b && b <= b'9' {
+        b - b'0'
+    } else if b'A' <= b && b <= b'F' {
+        b - 55
+    } else {
+        16
+    }
+}
+
+// A digit goes into its byte from below: after two, nothing else is left there. Answers how many digits are in then.
+fn put_digit(out: &mut [u8], digits: usize, v: u8) -> usize {
+    if 15 < v {
+        return digits;
+    }
+    let at = digits / 2;
+    if out.len() <= at {
+        return digits;
+    }
+    out[at] = (out[at] << 4) | v;
+    std::num::wrapping_add_usize(digits, 1)
+}
+
+// The bytes of a word in hexadecimal, as far as there is room; how many went in. What is no digit is passed over.
+pub fn unhex(word: &[u8], out: &mut [u8]) -> usize {
+    let mut digits: usize = 0;
+    let mut i: usize = 0;
+    while i < word.len() {
+        digits = put_digit(out, digits, nibble(word[i]));
+        i += 1;
+    }
+    digits / 2
+}
+
+// ---- what is printed
+
+pub fn say(text: &[u8]) {
+    io::write_all(STDOUT_FILENO, text);
+}
+
+// A blank and a number.
+pub fn tell(n: u64) {
+    say(b" ");
+    io::print_decimal(STDOUT_FILENO, n);
+}
+
+fn tell_byte(b: u8) {
+    say(b" ");
+    io::print_hex(STDOUT_FILENO, b as u64, 2);
+}
+
+// A blank and two digits for each byte.
+pub fn show(bytes: &[u8]) {
+    let mut i: usize = 0;
+    while i < bytes.len() {
+        tell_byte(bytes[i]);
+        i += 1;
+    }
+}

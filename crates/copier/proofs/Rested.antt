@@ -7,7 +7,8 @@ use mathlib.Core.List.{List, [], _∷_}
 use lib.Dec.{eqb}
 use lib.ListN.{length, getD}
 use borrow.Author.Tests.{eqb-true, eqb-false, lt-leb, le-leb}
-use Rattle.held.specs.Places.{every, soundFor}
+use Rattle.layout.specs.Limits.{base}
+use Rattle.held.specs.Places.{every, lazyDepth, soundFor}
 use Rattle.held.proofs.Places.{both}
 
 abbrev pub sumOf : List ℕ → ℕ
@@ -20,7 +21,7 @@ no-place : (x : ℕ) (t : Bool) → x ≡ 0 → (eqb x 0 && t) ≡ t
 no-place x t e = ap (λ (y : ℕ). eqb y 0 && t) e
 
 -- a sum of 0
-pub none-used : (l : List ℕ) → length l ≡ 8 → sumOf l ≡ 0 → Zeros l ≡ true
+pub none-used : (l : List ℕ) → length l ≡ lazyDepth → sumOf l ≡ 0 → Zeros l ≡ true
 unfolding every
 none-used (a ∷ b ∷ c ∷ d ∷ e ∷ f ∷ g ∷ h ∷ []) n s =
     no-place a _ (omega arith) ∙ no-place b _ (omega arith) ∙ no-place c _ (omega arith) ∙ no-place d _ (omega arith)
@@ -54,15 +55,15 @@ module _ (offset depth : ℕ) (l : List ℕ) (size : ℕ) where
   pub beyond-buffer : size < offset → false ≡ soundFor offset depth 0 l size
   beyond-buffer h = simp (lt-leb offset size h)
 
-  pub too-deep : offset ≤ size → 255 < depth → false ≡ soundFor offset depth 0 l size
-  too-deep a h = simp (le-leb offset size a, le-leb 0 depth (omega arith), lt-leb depth 255 h)
+  pub too-deep : offset ≤ size → (base .depth) < depth → false ≡ soundFor offset depth 0 l size
+  too-deep a h = simp (le-leb offset size a, le-leb 0 depth (omega arith), lt-leb depth (base .depth) h)
 
-  pub rested : (t : Bool) → offset ≤ size → depth ≤ 255 → Zeros l ≡ t → soundFor offset depth 0 l size ≡ t
+  pub rested : (t : Bool) → offset ≤ size → depth ≤ (base .depth) → Zeros l ≡ t → soundFor offset depth 0 l size ≡ t
   unfolding every
-  rested t a d e = simp (le-leb offset size a, le-leb 0 depth (omega arith), le-leb depth 255 d) e
+  rested t a d e = simp (le-leb offset size a, le-leb 0 depth (omega arith), le-leb depth (base .depth) d) e
 
   -- the last one: the sum of all places
-  pub all-rested : (x : ℕ) → length l ≡ 8 → offset ≤ size → depth ≤ 255 → x ≡ sumOf l → eqb x 0 ≡ soundFor offset depth 0 l size
+  pub all-rested : (x : ℕ) → length l ≡ lazyDepth → offset ≤ size → depth ≤ (base .depth) → x ≡ sumOf l → eqb x 0 ≡ soundFor offset depth 0 l size
   all-rested x n a d e = go (eqb x 0) refl
     where
       go : (t : Bool) → eqb x 0 ≡ t → t ≡ soundFor offset depth 0 l size

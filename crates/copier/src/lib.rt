@@ -23,6 +23,7 @@ pub use turns::Answer;
 use turns::Stop;
 use turns::run;
 use types::Error;
+use types::LAZY_SEQ_DEPTH;
 use types::MAX_DEPTH;
 
 pub struct Copier {
@@ -83,7 +84,7 @@ fn sum(a: u32, b: u32, c: u32, d: u32) -> u64
 
 // Whether a writer that holds no id is sound for a buffer of this size. The places are looked at together: one by one they would be a good
 // part of a short call.
-fn is_rested(offset: usize, depth: u16, places: [u32; 8], size: usize) -> bool
+fn is_rested(offset: usize, depth: u16, places: [u32; LAZY_SEQ_DEPTH], size: usize) -> bool
     ensures { λ r. ⌜ r ≡ soundFor offset depth 0 places size ⌝ }
 {
     if size < offset {

@@ -106,7 +106,15 @@ pub fn store(stream: IStream, desk: &mut [u64]) {
     lay(
         desk,
         0,
-        &[w[0], stream.carried.depth as u64, w[1], w[2], w[3], w[4], w[5]],
+        &[
+            w[0],
+            stream.carried.depth as u64,
+            w[1],
+            w[2],
+            w[3],
+            w[4],
+            w[5],
+        ],
     );
 }
 

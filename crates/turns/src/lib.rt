@@ -14,6 +14,7 @@ use emit::put_rest;
 use istream::Fed;
 use istream::IStream;
 use istream::Status;
+use owed::OUTPUT_MAX;
 use owed::Owed;
 use owed::owe;
 use phase::Phase;
@@ -64,14 +65,14 @@ fn due(reader: IStream) -> u32
     }
 }
 
-// An event that was read with so many bytes goes out, or as much of it as there is room for. No event has more than 30 bytes.
+// An event that was read with so many bytes goes out, or as much of it as there is room for. None has more than OUTPUT_MAX.
 fn written(depth: u8, owed: Owed, read: usize, reader: IStream, pos: usize, buf: &mut [u8]) -> Turn
     requires { ⌜ pos ≤ length (now buf) ⌝ }
     ensures { λ r. ⌜ (r ≡ eventTurn depth owed read reader pos (now (buf .entry))) × (now (buf .exit) ≡ eventBuf owed pos (now (buf .entry))) ⌝ }
 {
     let output = owed.output();
     let room = buf.len() - pos;
-    if 30 <= room {
+    if OUTPUT_MAX <= room {
         let at = output.put_fitting(buf, pos);
         return Turn::On(reader, read, at);
     }

@@ -1,9 +1,8 @@
 // What the test programs share: a script on standard input, a case to a line, its words parted by one blank; and what they print.
-// A word that isn't there is empty, and a number that isn't there is 0.
+// A word that isn't there is empty.
 ghost use Prim.Native.Nat.{_≤_};
 ghost use lib.ListN.{length};
 use libc::STDOUT_FILENO;
-use std::num::wrapping_add_u64;
 
 // ---- parts of a text
 
@@ -50,38 +49,7 @@ pub fn between<'a>(s: &'a [u8], from: usize, to: usize) -> &'a [u8] {
     &s[0..0]
 }
 
-// ---- numbers and bytes of a line
-
-fn digit(b: u8) -> u64 {
-    if b < b'0' {
-        return 0;
-    }
-    (b - b'0') as u64
-}
-
-fn ten_times(n: u64) -> u64 {
-    wrapping_add_u64(n << 3, n << 1)
-}
-
-fn decimal(word: &[u8]) -> u64 {
-    let mut n: u64 = 0;
-    let mut i: usize = 0;
-    while i < word.len() {
-        n = wrapping_add_u64(ten_times(n), digit(word[i]));
-        i += 1;
-    }
-    n
-}
-
-// The word with this number, in decimal.
-pub fn number(line: &[u8], k: u32) -> u64 {
-    decimal(word(line, k))
-}
-
-// The same, of 32 bits.
-pub fn short(line: &[u8], k: u32) -> u32 {
-    (number(line, k) % 4294967296) as u32
-}
+// ---- the bytes of a word
 
 // A hexadecimal digit's value; 16 for any other byte.
 pub fn nibble(b: u8) -> u8 {
@@ -128,18 +96,4 @@ pub fn say(text: &[u8]) {
 pub fn tell(n: u64) {
     say(b" ");
     io::print_decimal(STDOUT_FILENO, n);
-}
-
-fn tell_byte(b: u8) {
-    say(b" ");
-    io::print_hex(STDOUT_FILENO, b as u64, 2);
-}
-
-// A blank and two digits for each byte.
-pub fn show(bytes: &[u8]) {
-    let mut i: usize = 0;
-    while i < bytes.len() {
-        tell_byte(bytes[i]);
-        i += 1;
-    }
 }

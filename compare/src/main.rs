@@ -1,4 +1,4 @@
-//! The comparison of the port with the Rust: one driver for the differential runs, the planted faults, the list to replay and the benchmark.
+//! The comparison of the port with the Rust: one driver for the differential runs, the planted faults, the calls for the crate `vectors` and the benchmark.
 
 #[cfg(bench)]
 mod bench;
@@ -29,7 +29,7 @@ compare/run DIR COMMAND
                         each planted fault in turn, until it is found
   show FAULT SEED SIZE  one planted fault, with the smallest case that shows it
   edits SEED SIZE [N]   each edit of edits.txt, from the Nth on, in a copy of the Rust's source, until the fault shows
-  sample SEED FILE      writes the list that the crate `replay` replays
+  sample SEED FILE      makes the calls in FILE, the script of the crate `vectors`, below its last mark anew
   listing ..            the program that lists events (`listing help`)
   answer KIND HEX       both answers to one case (KIND: reader, gatherer, writer, copier)
   bench                 times of both sides";
@@ -49,6 +49,7 @@ fn main() {
             runs.short(3);
             runs.cuts();
             runs.copies(2);
+            runs.pieces();
             runs.random(seed, size, kinds);
             runs.states(seed, size);
         }
@@ -56,6 +57,7 @@ fn main() {
         Some("short") => runs.short(number(&args, 1, 3) as usize),
         Some("copies") => runs.copies(number(&args, 1, 2) as usize),
         Some("cuts") => runs.cuts(),
+        Some("pieces") => runs.pieces(),
         Some("random") => runs.random(seed, size, kinds),
         Some("faults") => std::process::exit(runs::faults(seed, size, kinds)),
         Some("edit") => {

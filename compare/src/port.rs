@@ -12,12 +12,11 @@ pub type Desk = [u64; 32];
 extern "C" {
     fn trace_read(desk: *mut u64, desk_len: usize, chunk: *const u8, len: usize) -> i64;
     fn trace_gather(desk: *mut u64, desk_len: usize, buf: *mut u8, buf_len: usize, chunk: *const u8, len: usize) -> i64;
-    fn trace_part(desk: *const u64, desk_len: usize, buf: *const u8, buf_len: usize, chunk: *const u8, len: usize, out: *mut u8, out_len: usize) -> i64;
+    fn trace_part(desk: *const u64, desk_len: usize, buf: *const u8, buf_len: usize, chunk: *const u8, len: usize, out: *mut u8, out_len: usize) -> u64;
 }
 
 #[link(name = "trace_writer", kind = "static")]
 extern "C" {
-    fn trace_open(desk: *mut u64, desk_len: usize, buf: *const u8, len: usize) -> i64;
     fn trace_write(desk: *mut u64, desk_len: usize, data: *const u8, len: usize, buf: *mut u8, buf_len: usize) -> i64;
     fn trace_unsigneds(desk: *mut u64, desk_len: usize, items: *const u64, count: usize, buf: *mut u8, buf_len: usize) -> i64;
     fn trace_signeds(desk: *mut u64, desk_len: usize, items: *const i64, count: usize, buf: *mut u8, buf_len: usize) -> i64;
@@ -25,16 +24,11 @@ extern "C" {
     fn trace_fp64s(desk: *mut u64, desk_len: usize, items: *const f64, count: usize, buf: *mut u8, buf_len: usize) -> i64;
     fn trace_fp32_bits(desk: *mut u64, desk_len: usize, items: *const u32, count: usize, buf: *mut u8, buf_len: usize) -> i64;
     fn trace_fp64_bits(desk: *mut u64, desk_len: usize, items: *const u64, count: usize, buf: *mut u8, buf_len: usize) -> i64;
-    fn trace_drain(desk: *mut u64, desk_len: usize, buf: *const u8, len: usize) -> i64;
-    fn trace_change(desk: *mut u64, desk_len: usize, old: *const u8, old_len: usize, new: *const u8, new_len: usize) -> i64;
 }
 
 #[link(name = "trace_copier", kind = "static")]
 extern "C" {
-    fn trace_copier(desk: *mut u64, desk_len: usize, buf: *const u8, len: usize) -> i64;
-    fn trace_copy(desk: *mut u64, desk_len: usize, chunk: *const u8, len: usize, buf: *mut u8, buf_len: usize) -> i64;
-    fn trace_copied(desk: *mut u64, desk_len: usize, buf: *const u8, len: usize) -> i64;
-    fn trace_copy_change(desk: *mut u64, desk_len: usize, old: *const u8, old_len: usize, new: *const u8, new_len: usize) -> i64;
+    fn trace_copy(desk: *mut u64, desk_len: usize, data: *const u8, len: usize, buf: *mut u8, buf_len: usize) -> i64;
 }
 
 #[link(name = "host", kind = "static")]
@@ -55,9 +49,8 @@ pub fn copy(ticket: &[u8], out: &mut [u8]) -> i64 {
     unsafe { sofab_copy(ticket.as_ptr(), ticket.len(), out.as_mut_ptr(), out.len()) }
 }
 
-// ---- the calls by number. Those of the writer are PROTOCOL.md's.
+// ---- the calls by number: those of the writer are PROTOCOL.md's, the others follow.
 
-pub const BUFFER: u8 = 0;
 pub const UNSIGNEDS: u8 = 9;
 pub const SIGNEDS: u8 = 10;
 pub const FP32S: u8 = 11;
@@ -67,14 +60,22 @@ pub const CHANGE: u8 = 17;
 pub const FP32_BITS: u8 = 18;
 pub const FP64_BITS: u8 = 19;
 pub const OPEN: u8 = 20;
-pub const READ: u8 = 32;
-pub const GATHER: u8 = 33;
-pub const PART: u8 = 34;
-pub const COPIER: u8 = 48;
-pub const COPY: u8 = 49;
-pub const COPIED: u8 = 50;
-pub const COPY_CHANGE: u8 = 51;
-pub const FRESH: u8 = 64;
+pub const READ: u8 = 21;
+pub const GATHER: u8 = 22;
+pub const PART: u8 = 23;
+pub const COPIER: u8 = 24;
+pub const COPY: u8 = 25;
+pub const COPIED: u8 = 26;
+pub const COPY_CHANGE: u8 = 27;
+
+/// The calls' names in a list, by their numbers.
+const NAMES: [&str; 29] = [
+    "buffer", "unsigned", "signed", "boolean", "fixlen", "fp32", "fp64", "str", "blob", "unsigneds", "signeds", "fp32s", "fp64s", "begin", "end", "keep", "flush", "set", "fp32_bits",
+    "fp64_bits", "open", "read", "gather", "part", "copier", "copy", "copied", "copy_set", "fresh",
+];
+
+/// The desk's words by their letters in a list.
+const LETTERS: &[u8; 32] = b"QRKICTVPDHABEFGJLMONSUWanikvoftp";
 
 /// How many calls were made and compared.
 #[derive(Default, Clone, Copy)]
@@ -91,8 +92,8 @@ pub struct Calls {
 #[derive(Default)]
 pub struct Port {
     pub calls: Calls,
-    /// The calls of a case as the crate `replay` is given them, where they are asked for.
-    pub list: Option<Vec<u8>>,
+    /// The calls of a case as rows for the crate `vectors`, where they are asked for.
+    pub list: Option<List>,
 }
 
 fn items<const N: usize, T>(data: &[u8], of: fn([u8; N]) -> T) -> Vec<T> {
@@ -107,13 +108,10 @@ pub fn call(code: u8, desk: &mut Desk, data: &[u8], buf: &mut [u8]) -> i64 {
         match code {
             READ => trace_read(d, n, data.as_ptr(), data.len()),
             GATHER => trace_gather(d, n, buf.as_mut_ptr(), buf.len(), data.as_ptr(), data.len()),
-            COPIER => trace_copier(d, n, buf.as_ptr(), buf.len()),
-            COPY => trace_copy(d, n, data.as_ptr(), data.len(), buf.as_mut_ptr(), buf.len()),
-            COPIED => trace_copied(d, n, buf.as_ptr(), buf.len()),
-            COPY_CHANGE => trace_copy_change(d, n, buf.as_ptr(), buf.len(), data.as_ptr(), data.len()),
-            OPEN => trace_open(d, n, buf.as_ptr(), buf.len()),
-            DRAIN => trace_drain(d, n, buf.as_ptr(), buf.len()),
-            CHANGE => trace_change(d, n, buf.as_ptr(), buf.len(), data.as_ptr(), data.len()),
+            COPIER..=COPY_CHANGE => {
+                desk[24] = code as u64;
+                trace_copy(d, n, data.as_ptr(), data.len(), buf.as_mut_ptr(), buf.len())
+            }
             UNSIGNEDS => {
                 let items = items(data, u64::from_le_bytes);
                 trace_unsigneds(d, n, items.as_ptr(), items.len(), buf.as_mut_ptr(), buf.len())
@@ -153,61 +151,100 @@ pub fn part(desk: &Desk, buf: &[u8], chunk: &[u8], out: &mut [u8]) -> usize {
     usize::try_from(n).map_or(0, |n| n.min(out.len()))
 }
 
-// ---- the list to replay
+// ---- rows for the crate `vectors`, as its README.md has them
 
-/// A case whose list is as long as this has more calls, and is in no list.
-pub const LISTED: usize = 4096;
+/// A call with more bytes than this isn't in a list; nor is one that a script can't make, of floats by value.
+const LONGEST_CALL: usize = 250;
 
-/// Numbers, each in no byte, one, four or eight, and these widths, two bits each.
-fn put_numbers(out: &mut Vec<u8>, numbers: &[u64]) -> u32 {
-    numbers.iter().enumerate().fold(0, |widths, (i, &n)| {
-        let width = match n {
-            0 => 0,
-            1..=0xff => 1,
-            0x100..=0xffff_ffff => 2,
-            _ => 3,
-        };
-        out.extend_from_slice(&n.to_le_bytes()[..[0, 1, 4, 8][width]]);
-        widths | (width as u32) << (2 * i)
-    })
+#[derive(Default)]
+pub struct List {
+    pub rows: Vec<u8>,
+    pub calls: usize,
+    /// Whether a script can make all of it.
+    pub whole: bool,
+}
+
+fn put_hex(out: &mut Vec<u8>, mark: &str, bytes: &[u8]) {
+    out.extend_from_slice(mark.as_bytes());
+    bytes.iter().for_each(|b| out.extend_from_slice(format!("{b:02X}").as_bytes()));
+}
+
+/// The words from `first` on that aren't zero, or all of them.
+fn put_words(out: &mut Vec<u8>, first: usize, words: &[u64], all: bool) {
+    for (i, &n) in words.iter().enumerate().filter(|&(_, &n)| all || n != 0) {
+        out.extend_from_slice(format!(" {}{n}", LETTERS[first + i] as char).as_bytes());
+    }
 }
 
 impl Port {
-    fn record(&mut self, code: u8, body: &[u8]) {
-        let Some(list) = self.list.as_mut().filter(|l| l.len() < LISTED) else { return };
-        list.push(code);
-        list.extend_from_slice(&(body.len() as u16).to_le_bytes());
-        list.extend_from_slice(body);
+    /// Whether rows are wanted, and this one, of so many bytes, fits a script.
+    fn listed(&mut self, code: u8, bytes: usize) -> bool {
+        let Some(list) = self.list.as_mut() else { return false };
+        list.whole &= bytes <= LONGEST_CALL && !matches!(code, FP32S | FP64S);
+        list.whole
     }
 
-    /// A record of the list: the call, its numbers (words 24 to 31), and what it told: two words of the state that the Rust shows, words 23
-    /// to 30, and the bytes of the buffer or part.
-    fn note(&mut self, code: u8, before: &Desk, data: &[u8], after: &Desk, shown: &[u8]) {
-        if self.list.as_ref().is_none_or(|l| LISTED <= l.len()) {
+    fn record(&mut self, row: &[u8], calls: usize) {
+        let Some(list) = self.list.as_mut() else { return };
+        list.rows.extend_from_slice(row);
+        list.rows.push(b'\n');
+        list.calls += calls;
+    }
+
+    /// A row: the call, its numbers, its bytes; and what it told: the words that the Rust shows, and
+    /// the buffer's bytes as far as they changed, or the part.
+    fn note(&mut self, code: u8, before: &Desk, data: &[u8], after: &Desk, old: &[u8], new: &[u8]) {
+        if !self.listed(code, data.len().max(new.len())) {
             return;
         }
-        let state = match code {
-            GATHER | PART => [after[0], after[1]],
-            READ => [0, 0],
-            _ => [after[7], 0],
+        let mut row = NAMES[code as usize].as_bytes().to_vec();
+        if code == PART {
+            put_hex(&mut row, " <", data);
+            put_hex(&mut row, " = >", new);
+            return self.record(&row, 1);
+        }
+        let (first, last) = match code {
+            READ => (31, 32),
+            GATHER => (27, 32),
+            COPIER..=COPY_CHANGE => (28, 29),
+            _ => (25, 32),
         };
-        let mut numbers = Vec::new();
-        let given = put_numbers(&mut numbers, &before[24..32]);
-        let told = put_numbers(&mut numbers, &[&state[..], &after[23..31]].concat());
-        let body = [&(given as u16).to_le_bytes()[..], &told.to_le_bytes(), &numbers, &(data.len() as u16).to_le_bytes(), data, shown].concat();
-        self.record(code, &body);
+        put_words(&mut row, first, &before[first..last], false);
+        if !data.is_empty() {
+            put_hex(&mut row, " <", data);
+        }
+        row.extend_from_slice(b" = ~");
+        match code {
+            GATHER => put_words(&mut row, 0, &after[..2], true),
+            READ => {}
+            _ => put_words(&mut row, 7, &after[7..8], true),
+        }
+        let answer = if code == READ { 31 } else { 25 };
+        put_words(&mut row, 23, &after[23..answer], true);
+        if code == COPY {
+            put_words(&mut row, 27, &after[27..28], true);
+        }
+        let changed = (0..new.len()).rev().find(|&i| new[i] != old[i]).map_or(0, |i| i + 1);
+        if changed != 0 {
+            put_hex(&mut row, " >", &new[..changed]);
+        }
+        self.record(&row, 1);
     }
 
     /// A new case, with a buffer.
     fn start(&mut self, buf: &[u8]) -> Desk {
-        self.record(FRESH, &[]);
+        self.record(b"fresh", 0);
         self.lend(buf);
         [0; 32]
     }
 
     /// Another buffer, as it stands.
     fn lend(&mut self, buf: &[u8]) {
-        self.record(BUFFER, buf);
+        if self.listed(OPEN, buf.len()) {
+            let mut row = b"buffer".to_vec();
+            put_hex(&mut row, " ", buf);
+            self.record(&row, 0);
+        }
     }
 
     fn make(&mut self, code: u8, desk: &mut Desk, data: &[u8], buf: &mut [u8]) {
@@ -215,12 +252,9 @@ impl Port {
             call(code, desk, data, buf);
             return;
         }
-        let mut before = *desk;
-        if code <= 8 || (13..=15).contains(&code) {
-            before[24] = code as u64;
-        }
+        let (before, old) = (*desk, buf.to_vec());
         call(code, desk, data, buf);
-        self.note(code, &before, data, desk, buf);
+        self.note(code, &before, data, desk, &old, buf);
     }
 }
 
@@ -314,7 +348,7 @@ impl Port {
                     let n = part(&desk, &buf, chunk, &mut bytes);
                     self.calls.gatherer += 1;
                     let told = desk;
-                    self.note(PART, &told, chunk, &told, &bytes[..n]);
+                    self.note(PART, &told, chunk, &told, &[], &bytes[..n]);
                     put32(out, n as u32);
                     out.extend_from_slice(&bytes[..n]);
                 }

@@ -1,7 +1,7 @@
 //! The differential runs: each gives both sides the same cases, compares the answers byte by byte, and shows the smallest case where they part.
 
 use crate::bytes::hex;
-use crate::case::{Case, Kind, Reader};
+use crate::case::{Case, Gatherer, Kind, Piece, Reader};
 use crate::copier::{self, Act, Copier};
 use crate::fault::{Fault, FAULTS};
 use crate::gen::{self, Random};
@@ -173,6 +173,19 @@ impl Runs {
         }
     }
 
+    /// Every run of three of the gatherer's calls, with totals, offsets and lengths from 0 to 3, over buffers of 0 to 3 bytes.
+    pub fn pieces(&mut self) {
+        let before = self.cases;
+        let piece = |n: u32, bytes: &[u8]| Piece::Feed { total: (n / 16 % 4) as u64, offset: (n / 4 % 4) as u64, chunk: bytes[..n as usize % 4].to_vec() };
+        for capacity in 0..=3 {
+            for n in 0u32..1 << 18 {
+                let calls = vec![piece(n >> 12, b"abc"), piece(n >> 6, b"def"), piece(n, b"ghi")];
+                self.compare(&Gatherer { capacity, calls });
+            }
+        }
+        println!("runs of three pieces: {} cases", self.cases - before);
+    }
+
     /// Every ticket of up to `most` bytes, and those of the corpus, in every cut, copied through buffers of 1, 2, 3 and 7 bytes, with a drain
     /// after each feed.
     pub fn copies(&mut self, most: usize) {
@@ -337,13 +350,16 @@ pub fn faults(seed: u64, size: u64, kinds: &str) -> i32 {
     (missed != 0) as i32
 }
 
-// ---- the list to replay: the calls of some cases in which the port tells what the Rust does, with what each told
+// ---- rows for the crate `vectors`: the calls of some cases in which the port tells what the Rust does, with what each told
 
-/// Most bytes of a list, of a case in it and of a call; how often a feature is wanted.
-const LIST: usize = 340_000;
-const LONGEST: usize = 700;
-const LONGEST_CALL: usize = 250;
+/// Most bytes of a list and of a case in it; the block that a row stays within; how often a feature is wanted.
+const LIST: usize = 700_000;
+const LONGEST: usize = 1_500;
+const BLOCK: usize = 65_536;
 const WANTED: u32 = 3;
+
+/// Rows above this line are written by hand, and stay.
+const MARK: &str = "\n# ---- Calls with what the Rust told, made by `compare/run DIR sample`.\n";
 
 /// What a case shows, each as a number: a case comes into the list where it shows something that the list hasn't shown often enough.
 fn features(kind: Kind, case: &[u8], answer: &[u8]) -> Vec<u64> {
@@ -452,23 +468,6 @@ fn features(kind: Kind, case: &[u8], answer: &[u8]) -> Vec<u64> {
     found
 }
 
-/// The codes of a list's records, and their lengths.
-fn records(list: &[u8]) -> Vec<(u8, usize)> {
-    let mut found = Vec::new();
-    let mut at = 0;
-    while at < list.len() {
-        let n = 3 + u16::from_le_bytes([list[at + 1], list[at + 2]]) as usize;
-        found.push((list[at], n));
-        at += n;
-    }
-    found
-}
-
-/// Whether `replay` can make the call: it has no arrays of floats by value, and short ones of all others.
-fn replayed((code, n): (u8, usize)) -> bool {
-    n < LONGEST_CALL && !matches!(code, port::FP32S | port::FP64S)
-}
-
 struct Sample {
     runs: Runs,
     list: Vec<u8>,
@@ -478,30 +477,42 @@ struct Sample {
 }
 
 impl Sample {
+    /// Rows into the list. It is read in blocks, and no row goes over the end of one: empty rows fill up.
+    fn take(&mut self, rows: &[u8]) {
+        for row in rows.split_inclusive(|&b| b == b'\n') {
+            let left = BLOCK - self.list.len() % BLOCK;
+            if left < row.len() {
+                self.list.extend(std::iter::repeat_n(b'\n', left));
+            }
+            self.list.extend_from_slice(row);
+        }
+    }
+
     /// Takes a case, where its calls are short enough, both sides answer it alike, and it shows something new or `any` will do.
     fn add<C: Case>(&mut self, case: &C, any: bool, share: usize) {
-        self.runs.port.list = Some(Vec::new());
+        self.runs.port.list = Some(port::List { whole: true, ..Default::default() });
         let same = self.runs.same(case);
         let list = self.runs.port.list.take().unwrap_or_default();
-        if !same || LONGEST < list.len() {
-            return;
-        }
-        let records = records(&list);
-        if share < self.list.len() + list.len() || !records.iter().all(|&r| replayed(r)) {
+        if !same || !list.whole || LONGEST < list.rows.len() || share < self.list.len() + list.rows.len() {
             return;
         }
         let features = features(C::KIND, &self.runs.case, &self.runs.rust);
         if any || features.iter().any(|f| self.shown.get(f).copied().unwrap_or(0) < WANTED) {
             features.into_iter().for_each(|f| *self.shown.entry(f).or_default() += 1);
-            self.list.extend_from_slice(&list);
+            self.take(&list.rows);
             self.cases[C::KIND as usize - 1] += 1;
-            self.calls += records.iter().filter(|r| !matches!(r.0, port::BUFFER | port::FRESH)).count();
+            self.calls += list.calls;
         }
     }
 }
 
 pub fn sample(seed: u64, file: &str) -> i32 {
-    let mut s = Sample { runs: Runs::new(0), list: Vec::new(), shown: Default::default(), cases: [0; 4], calls: 0 };
+    let kept = std::fs::read_to_string(file).ok().and_then(|t| t.find(MARK).map(|at| t[..at + MARK.len()].as_bytes().to_vec()));
+    let Some(kept) = kept else {
+        println!("{file} can't be read, or has no line {MARK:?}");
+        return 1;
+    };
+    let mut s = Sample { runs: Runs::new(0), list: kept, shown: Default::default(), cases: [0; 4], calls: 0 };
     for ticket in gen::corpus() {
         let n = ticket.len();
         for chunks in [vec![n], vec![1; n], vec![n / 2, 0, n - n / 2]] {

@@ -36,6 +36,13 @@ pub fn word<'a>(line: &'a [u8], k: u32) -> &'a [u8] {
     &line[from..end]
 }
 
+// What stands behind a mark, up to the next blank.
+pub fn after<'a>(line: &'a [u8], mark: u8) -> &'a [u8] {
+    let from = behind(end_of(line, 0, mark), line.len());
+    let end = end_of(line, from, b' ');
+    &line[from..end]
+}
+
 // The first n bytes, or all.
 pub fn first<'a>(s: &'a [u8], n: usize) -> &'a [u8] {
     if n <= s.len() { &s[..n] } else { s }

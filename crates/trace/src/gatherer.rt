@@ -1,7 +1,7 @@
 // The gatherer's two calls. Its state are the desk's words 0 and 1: the length held, and whether the payload is whole.
-use cases::lay;
-use cases::put_bytes;
-use cases::word;
+use desk::lay;
+use desk::word;
+use emit::put_rest;
 use payload::Answer;
 use payload::PayloadAcc;
 use types::Error;
@@ -38,16 +38,18 @@ fn store(left: PayloadAcc, t: Tale, desk: &mut [u64]) {
 }
 
 // A piece: word 27 is its total, word 28 its offset. Where word 31 isn't 0, a reset.
-pub fn gather(desk: &mut [u64], buf: &mut [u8], chunk: &[u8]) {
+#[no_mangle]
+pub extern "C" fn trace_gather(desk: &mut [u64], buf: &mut [u8], chunk: &[u8]) -> i64 {
     let held = acc(desk);
     if word(desk, 31) != 0 {
         store(held.reset(), Tale { tag: 4, n: 0 }, desk);
-        return;
+        return 0;
     }
     let f = held.feed(buf, word(desk, 27) as usize, word(desk, 28) as usize, chunk);
     let a = f.answer;
     let left = f.acc;
     store(left, told(a), desk);
+    0
 }
 
 fn said(desk: &[u64]) -> Answer {
@@ -60,7 +62,18 @@ fn said(desk: &[u64]) -> Answer {
     }
 }
 
-// The second call, on the answer that words 23 and 24 tell.
-pub fn part<'a>(desk: &[u64], buf: &'a [u8], chunk: &'a [u8], out: &mut [u8]) -> usize {
-    put_bytes(out, 0, payload::payload(said(desk), acc(desk), buf, chunk))
+// The second call, on the answer that words 23 and 24 tell: the part goes out, as far as there is room; answers how long it is there.
+#[no_mangle]
+pub extern "C" fn trace_part<'a>(
+    desk: &[u64],
+    buf: &'a [u8],
+    chunk: &'a [u8],
+    out: &mut [u8],
+) -> u64 {
+    put_rest(
+        out,
+        0,
+        payload::payload(said(desk), acc(desk), buf, chunk),
+        0,
+    ) as u64
 }

@@ -1,9 +1,9 @@
 // One call of the reader. Its state are the desk's words 0 to 6: the phase's number, the depth, a kind, the id, a count, the bytes taken
 // of what is under way, and its value.
-use cases::byte;
-use cases::lay;
-use cases::narrow;
-use cases::word;
+use desk::byte;
+use desk::lay;
+use desk::narrow;
+use desk::word;
 use event::Bounds;
 use event::Event;
 use event::fp32_bits;
@@ -222,10 +222,12 @@ fn fed(stream: IStream, how: u64, chunk: &[u8]) -> Fed {
     }
 }
 
-pub fn read(desk: &mut [u64], chunk: &[u8]) {
+#[no_mangle]
+pub extern "C" fn trace_read(desk: &mut [u64], chunk: &[u8]) -> i64 {
     let f = fed(reader(desk), word(desk, 31), chunk);
     let a = f.answer;
     let left = f.stream;
     store(left, desk);
     tell(answer(a), f.read, desk);
+    0
 }

@@ -1,6 +1,4 @@
 // The copier, driven through a buffer that is drained into `out` whenever it is full and at the end.
-use cases::between;
-use cases::part;
 use copier::Answer;
 use copier::Copier;
 use emit::put_rest;
@@ -12,7 +10,15 @@ fn position(k: Copier) -> usize {
 
 // What stands below the copier's position is sent.
 fn send(k: Copier, buf: &[u8], out: &mut [u8], sent: usize) -> usize {
-    put_rest(out, sent, part(buf, 0, position(k)), 0)
+    put_rest(out, sent, between(buf, 0, position(k)), 0)
+}
+
+// The bytes from a place to another, where they are there.
+fn between<'a>(s: &'a [u8], from: usize, to: usize) -> &'a [u8] {
+    if from <= to && to <= s.len() {
+        return &s[from..to];
+    }
+    &s[0..0]
 }
 
 fn further(at: usize, n: usize, end: usize) -> usize {

@@ -1,14 +1,17 @@
 // One call of the copier. Its state are the reader's words and the writer's, then at 18 to 22 what is owed: its number, an id, a kind, a
-// value, and the place reached in it. A call tells its answer at 23, the bytes used or to be sent at 24, and a refusal's number at 27 (of drain and change at 24).
-use cases::byte;
-use cases::lay;
-use cases::narrow;
-use cases::signed;
-use cases::word;
+// value, and the place reached in it. A call finds its number at 24 and an offset at 28, tells its answer at 23, the bytes used or to be
+// sent at 24, and a refusal's number at 27 (of drain and change at 24).
 use copier::Answer;
+use copier::Copied;
 use copier::Copier;
 use copier::Drained;
+use copier::Opened;
 use copier::Opening;
+use desk::byte;
+use desk::lay;
+use desk::narrow;
+use desk::signed;
+use desk::word;
 use owed::Owed;
 use trace::reader::bits;
 use trace::reader::float_type;
@@ -96,7 +99,7 @@ fn said(a: Answer) -> [u64; 2] {
     }
 }
 
-fn opened(a: Opening) -> [u64; 2] {
+fn begun(a: Opening) -> [u64; 2] {
     match a {
         Opening::Open => [0, 0],
         Opening::Refused(e) => [3, e.number() as u64],
@@ -107,18 +110,14 @@ fn tell(said: [u64; 2], n: usize, desk: &mut [u64]) {
     lay(desk, 23, &[said[0], n as u64, 0, 0, said[1]]);
 }
 
-// The offset is at 28.
-pub fn open(desk: &mut [u64], buf: &[u8]) {
-    let o = Copier::new(buf, word(desk, 28) as usize);
+fn opened(o: Opened, desk: &mut [u64]) {
     let a = o.answer;
     let left = o.copier;
     store(left, desk);
-    tell(opened(a), 0, desk);
+    tell(begun(a), 0, desk);
 }
 
-pub fn feed(desk: &mut [u64], chunk: &[u8], buf: &mut [u8]) {
-    let k = copier(desk);
-    let f = k.feed(chunk, buf);
+fn copied(f: Copied, desk: &mut [u64]) {
     let a = f.answer;
     let left = f.copier;
     store(left, desk);
@@ -132,13 +131,16 @@ fn sent(d: Drained, desk: &mut [u64]) {
     lay(desk, 23, &trace_writer::writer::counted(a));
 }
 
-pub fn drain(desk: &mut [u64], buf: &[u8]) {
+// Of a buffer change `data` is the new buffer.
+#[no_mangle]
+pub extern "C" fn trace_copy(desk: &mut [u64], data: &[u8], buf: &mut [u8]) -> i64 {
     let k = copier(desk);
-    sent(k.flush(buf), desk);
-}
-
-// The offset is at 28.
-pub fn change(desk: &mut [u64], old: &[u8], new: &[u8]) {
-    let k = copier(desk);
-    sent(k.buffer_set(old, new, word(desk, 28) as usize), desk);
+    let offset = word(desk, 28) as usize;
+    match word(desk, 24) {
+        24 => opened(Copier::new(buf, offset), desk),
+        25 => copied(k.feed(data, buf), desk),
+        26 => sent(k.flush(buf), desk),
+        _ => sent(k.buffer_set(buf, data, offset), desk),
+    }
+    0
 }

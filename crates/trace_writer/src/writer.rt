@@ -1,9 +1,11 @@
 // One call of the writer. Its state are the desk's words 7 to 17: position, depth, how many ids are held, and their eight places. A call
-// finds its code at 24, its id at 25, a kind at 26, a value at 27 and the place to go on from at 31, and tells its answer at 23 and 24.
-use cases::lay;
-use cases::narrow;
-use cases::signed;
-use cases::word;
+// finds its number at 24, its id at 25, a kind at 26, a value at 27, an offset at 28 and the place to go on from at 31, and tells its
+// answer at 23 and 24.
+use desk::lay;
+use desk::narrow;
+use desk::short;
+use desk::signed;
+use desk::word;
 use event::Event;
 use ostream::Answer;
 use ostream::Count;
@@ -12,21 +14,15 @@ use ostream::OStream;
 use ostream::Written;
 use types::FixlenType;
 
-fn short(n: u64) -> u16 {
-    (n % 65536) as u16
-}
-
+// The eight places.
 fn places(desk: &[u64]) -> [u32; 8] {
-    [
-        narrow(word(desk, 10)),
-        narrow(word(desk, 11)),
-        narrow(word(desk, 12)),
-        narrow(word(desk, 13)),
-        narrow(word(desk, 14)),
-        narrow(word(desk, 15)),
-        narrow(word(desk, 16)),
-        narrow(word(desk, 17)),
-    ]
+    let mut p = [0u32; 8];
+    let mut i: usize = 0;
+    while i < 8 {
+        p[i] = narrow(word(desk, 10 + i));
+        i += 1;
+    }
+    p
 }
 
 pub fn writer(desk: &[u64]) -> OStream {
@@ -38,29 +34,52 @@ pub fn writer(desk: &[u64]) -> OStream {
     }
 }
 
-fn place(p: [u32; 8], i: usize) -> u64 {
-    if i < 8 { p[i] as u64 } else { 0 }
+fn words(p: [u32; 8]) -> [u64; 8] {
+    let mut w = [0u64; 8];
+    let mut i: usize = 0;
+    while i < 8 {
+        w[i] = wide(p[i]);
+        i += 1;
+    }
+    w
+}
+
+fn wide(n: u32) -> u64 {
+    n as u64
 }
 
 pub fn store(s: OStream, desk: &mut [u64]) {
-    let p = s.pending;
     lay(
         desk,
         7,
-        &[
-            s.offset as u64,
-            s.depth as u64,
-            s.npending as u64,
-            place(p, 0),
-            place(p, 1),
-            place(p, 2),
-            place(p, 3),
-            place(p, 4),
-            place(p, 5),
-            place(p, 6),
-            place(p, 7),
-        ],
+        &[s.offset as u64, s.depth as u64, s.npending as u64],
     );
+    let p = s.pending;
+    let w = words(p);
+    lay(desk, 10, &w);
+}
+
+// A call's numbers.
+pub struct Call {
+    pub writer: OStream,
+    pub code: u64,
+    pub id: u32,
+    pub kind: u64,
+    pub value: u64,
+    pub offset: usize,
+    pub place: usize,
+}
+
+pub fn asked(desk: &[u64]) -> Call {
+    Call {
+        writer: writer(desk),
+        code: word(desk, 24),
+        id: narrow(word(desk, 25)),
+        kind: word(desk, 26),
+        value: word(desk, 27),
+        offset: word(desk, 28) as usize,
+        place: word(desk, 31) as usize,
+    }
 }
 
 // ---- what a call tells
@@ -80,44 +99,23 @@ pub fn counted(c: Count) -> [u64; 2] {
     }
 }
 
-fn written(w: Written, desk: &mut [u64]) {
+pub fn written(desk: &mut [u64], w: Written) -> i64 {
     let a = w.answer;
     let left = w.stream;
     store(left, desk);
     lay(desk, 23, &said(a));
+    0
 }
 
-fn sent(c: Counted, desk: &mut [u64]) {
+fn sent(desk: &mut [u64], c: Counted) -> i64 {
     let a = c.answer;
     let left = c.stream;
     store(left, desk);
     lay(desk, 23, &counted(a));
+    0
 }
 
-// ---- opening, drain and buffer change: the offset is at 28, and 26 says whether the writer is drained
-
-pub fn open(desk: &mut [u64], buf: &[u8]) {
-    let offset = word(desk, 28) as usize;
-    let w = if word(desk, 26) == 0 {
-        OStream::with_offset(buf, offset)
-    } else {
-        OStream::with_flush(buf, offset)
-    };
-    written(w, desk);
-}
-
-pub fn drain(desk: &mut [u64], buf: &[u8]) {
-    let s = writer(desk);
-    sent(s.flush(buf), desk);
-}
-
-pub fn change(desk: &mut [u64], old: &[u8], new: &[u8]) {
-    let s = writer(desk);
-    let offset = word(desk, 28) as usize;
-    sent(s.buffer_set(old, new, offset, word(desk, 26) != 0), desk);
-}
-
-// ---- writes
+// ---- the calls by number
 
 fn subtype(n: u64) -> FixlenType {
     match n {
@@ -129,114 +127,79 @@ fn subtype(n: u64) -> FixlenType {
 }
 
 // Floats go by the calls for floats, and where one is a NaN, whose bits no float carries, by those for bits.
-fn fp32(s: OStream, id: u32, bits: u32, place: usize, buf: &mut [u8]) -> Written {
-    let e = event::fp32(id, bits);
+fn fp32(c: Call, bits: u32, buf: &mut [u8]) -> Written {
+    let e = event::fp32(c.id, bits);
     let Event::Fp32(_, x) = e else {
-        return s.write_fp32_bits(buf, id, bits, place);
+        return c.writer.write_fp32_bits(buf, c.id, bits, c.place);
     };
-    s.write_fp32(buf, id, x, place)
+    c.writer.write_fp32(buf, c.id, x, c.place)
 }
 
-fn fp64(s: OStream, id: u32, bits: u64, place: usize, buf: &mut [u8]) -> Written {
-    let e = event::fp64(id, bits);
+fn fp64(c: Call, buf: &mut [u8]) -> Written {
+    let e = event::fp64(c.id, c.value);
     let Event::Fp64(_, x) = e else {
-        return s.write_fp64_bits(buf, id, bits, place);
+        return c.writer.write_fp64_bits(buf, c.id, c.value, c.place);
     };
-    s.write_fp64(buf, id, x, place)
+    c.writer.write_fp64(buf, c.id, x, c.place)
 }
 
-// A call's numbers.
-struct Call {
-    code: u64,
-    id: u32,
-    kind: u64,
-    value: u64,
-    place: usize,
-}
-
-fn number(s: OStream, c: Call, buf: &mut [u8]) -> Written {
+fn number(c: Call, buf: &mut [u8]) -> Written {
     let code = c.code;
     match code {
-        1 => s.write_unsigned(buf, c.id, c.value, c.place),
-        2 => s.write_signed(buf, c.id, signed(c.value), c.place),
-        3 => s.write_boolean(buf, c.id, c.value != 0, c.place),
-        5 => fp32(s, c.id, narrow(c.value), c.place, buf),
-        _ => fp64(s, c.id, c.value, c.place, buf),
+        1 => c.writer.write_unsigned(buf, c.id, c.value, c.place),
+        2 => c.writer.write_signed(buf, c.id, signed(c.value), c.place),
+        3 => c.writer.write_boolean(buf, c.id, c.value != 0, c.place),
+        5 => fp32(c, narrow(c.value), buf),
+        _ => fp64(c, buf),
     }
 }
 
-fn bytes(s: OStream, c: Call, data: &[u8], buf: &mut [u8]) -> Written {
+fn bytes(c: Call, data: &[u8], buf: &mut [u8]) -> Written {
     let code = c.code;
     match code {
-        4 => s.write_fixlen(buf, c.id, data, subtype(c.kind), c.place),
-        7 => s.write_str(buf, c.id, data, c.place),
-        _ => s.write_blob(buf, c.id, data, c.place),
+        4 => c.writer
+            .write_fixlen(buf, c.id, data, subtype(c.kind), c.place),
+        7 => c.writer.write_str(buf, c.id, data, c.place),
+        _ => c.writer.write_blob(buf, c.id, data, c.place),
     }
 }
 
-fn sequence(s: OStream, c: Call, buf: &mut [u8]) -> Written {
+fn sequence(c: Call, buf: &mut [u8]) -> Written {
     let code = c.code;
     match code {
-        13 => s.write_sequence_begin_lazy(buf, c.id, c.place),
-        14 => s.write_sequence_end(buf, c.place),
-        _ => s.write_sequence_end_keep(buf, c.place),
+        13 => c.writer.write_sequence_begin_lazy(buf, c.id, c.place),
+        14 => c.writer.write_sequence_end(buf, c.place),
+        _ => c.writer.write_sequence_end_keep(buf, c.place),
     }
 }
 
-fn made(s: OStream, c: Call, data: &[u8], buf: &mut [u8]) -> Written {
-    let code = c.code;
-    match code {
-        1 | 2 | 3 | 5 | 6 => number(s, c, buf),
-        4 | 7 | 8 => bytes(s, c, data, buf),
-        _ => sequence(s, c, buf),
+// Kind 1 opens a writer that is drained.
+fn open(c: Call, buf: &[u8]) -> Written {
+    if c.kind == 0 {
+        OStream::with_offset(buf, c.offset)
+    } else {
+        OStream::with_flush(buf, c.offset)
     }
 }
 
-pub fn write(desk: &mut [u64], data: &[u8], buf: &mut [u8]) {
-    let c = Call {
-        code: word(desk, 24),
-        id: narrow(word(desk, 25)),
-        kind: word(desk, 26),
-        value: word(desk, 27),
-        place: word(desk, 31) as usize,
-    };
-    written(made(writer(desk), c, data, buf), desk);
+fn write(c: Call, data: &[u8], buf: &mut [u8]) -> Written {
+    let code = c.code;
+    match code {
+        4 | 7 | 8 => bytes(c, data, buf),
+        13 | 14 | 15 => sequence(c, buf),
+        20 => open(c, buf),
+        _ => number(c, buf),
+    }
 }
 
-// ---- arrays
-
-pub fn unsigneds(desk: &mut [u64], items: &[u64], buf: &mut [u8]) {
-    let s = writer(desk);
-    let w = s.write_array_unsigned(buf, narrow(word(desk, 25)), items, word(desk, 31) as usize);
-    written(w, desk);
-}
-
-pub fn signeds(desk: &mut [u64], items: &[i64], buf: &mut [u8]) {
-    let s = writer(desk);
-    let w = s.write_array_signed(buf, narrow(word(desk, 25)), items, word(desk, 31) as usize);
-    written(w, desk);
-}
-
-pub fn fp32s(desk: &mut [u64], items: &[f32], buf: &mut [u8]) {
-    let s = writer(desk);
-    let w = s.write_array_fp32(buf, narrow(word(desk, 25)), items, word(desk, 31) as usize);
-    written(w, desk);
-}
-
-pub fn fp64s(desk: &mut [u64], items: &[f64], buf: &mut [u8]) {
-    let s = writer(desk);
-    let w = s.write_array_fp64(buf, narrow(word(desk, 25)), items, word(desk, 31) as usize);
-    written(w, desk);
-}
-
-pub fn fp32_bits(desk: &mut [u64], items: &[u32], buf: &mut [u8]) {
-    let s = writer(desk);
-    let w = s.write_array_fp32_bits(buf, narrow(word(desk, 25)), items, word(desk, 31) as usize);
-    written(w, desk);
-}
-
-pub fn fp64_bits(desk: &mut [u64], items: &[u64], buf: &mut [u8]) {
-    let s = writer(desk);
-    let w = s.write_array_fp64_bits(buf, narrow(word(desk, 25)), items, word(desk, 31) as usize);
-    written(w, desk);
+// Of a buffer change `data` is the new buffer, and kind 1 says that the old one is drained.
+#[no_mangle]
+pub extern "C" fn trace_write(desk: &mut [u64], data: &[u8], buf: &mut [u8]) -> i64 {
+    let c = asked(desk);
+    let code = c.code;
+    match code {
+        16 => sent(desk, c.writer.flush(buf)),
+        17 => sent(desk, c.writer.buffer_set(buf, data, c.offset, c.kind != 0)),
+        _ => written(desk, write(c, data, buf)),
+    }
 }

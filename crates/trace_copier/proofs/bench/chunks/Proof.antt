@@ -7,7 +7,7 @@ use Rattle.trace_copier.proofs.bench.chunks.Statement.{statement}
 use Rattle.trace_copier.proofs.bench.chunks.Tie as tie
 use Rattle.trace_copier.proofs.bench.chunks.Reads as reads
 use Rattle.trace_copier.proofs.bench.chunks.Lts as lts
-use Rattle.cases.proofs.between.Reads as between-reads
+use Rattle.trace_copier.proofs.bench.between.Reads as between-reads
 use Rattle.copier.proofs.Copier.feed.Reads as feed-reads
 use Rattle.copier.proofs.Copier.flush.Reads as flush-reads
 use Rattle.copier.proofs.Copier.new.Reads as new-reads

@@ -1,0 +1,271 @@
+// Makes the calls of the script on standard input, a row each, and holds every call to what its row says: its answer, its state and the
+// buffer. A row that differs is printed; at the end, how many calls there were and how many differ. README.md says what a row has.
+mod calls;
+
+use calls::call;
+use check::same;
+use libc::STDIN_FILENO;
+use libc::STDOUT_FILENO;
+use script::after;
+use script::end_of;
+use script::first;
+use script::say;
+use script::unhex;
+use script::word;
+use std::num::wrapping_add_u64;
+use trace::gatherer::trace_part;
+
+// Calls are numbered by their place in `code`. These rows make none: a buffer is lent, a fresh desk begins; and one takes a part.
+const BUFFER: u32 = 0;
+
+const PART: u32 = 23;
+
+const FRESH: u32 = 28;
+
+// No call.
+const UNKNOWN: u32 = 29;
+
+// A block of the script: no row goes over its end.
+const BLOCK: usize = 65536;
+
+// The desk; the buffer, of which `size` bytes are lent; the calls so far, and how many differ.
+struct Run {
+    desk: [u64; 32],
+    buf: [u8; 256],
+    size: usize,
+    calls: u64,
+    differ: u64,
+}
+
+// ---- the words of a row
+
+fn code(name: &[u8]) -> u32 {
+    let mut k: u32 = 0;
+    while k < UNKNOWN {
+        let known = word(
+            b"buffer unsigned signed boolean fixlen fp32 fp64 str blob unsigneds signeds fp32s fp64s begin end keep flush set fp32_bits fp64_bits open read gather part copier copy copied copy_set fresh",
+            k,
+        );
+        if same(known, name) {
+            return k;
+        }
+        k += 1;
+    }
+    UNKNOWN
+}
+
+fn digit(b: u8) -> u64 {
+    if b'0' <= b && b <= b'9' {
+        (b - b'0') as u64
+    } else {
+        0
+    }
+}
+
+fn number(text: &[u8]) -> u64 {
+    let mut n: u64 = 0;
+    let mut i: usize = 0;
+    while i < text.len() {
+        n = wrapping_add_u64(wrapping_add_u64(n << 3, n << 1), digit(text[i]));
+        i += 1;
+    }
+    n
+}
+
+// A letter and a number: the desk's word of that letter, by the order of compare/PROTOCOL.md. Other words of a row set nothing.
+fn put(mut desk: [u64; 32], token: &[u8]) -> [u64; 32] {
+    if token.len() == 0 {
+        return desk;
+    }
+    let i = end_of(b"QRKICTVPDHABEFGJLMONSUWanikvoftp", 0, token[0]);
+    if i < 32 {
+        desk[i] = number(&token[1..]);
+    }
+    desk
+}
+
+fn set(text: &[u8], start: [u64; 32]) -> [u64; 32] {
+    let mut desk = start;
+    let mut from: usize = 0;
+    while from < text.len() {
+        let end = end_of(text, from, b' ');
+        let next = put(desk, &text[from..end]);
+        desk = next;
+        from = end + 1;
+    }
+    desk
+}
+
+// ---- what a call left
+
+fn same_words(a: [u64; 32], b: [u64; 32]) -> bool {
+    let mut i: usize = 0;
+    while i < 32 {
+        if a[i] != b[i] {
+            return false;
+        }
+        i += 1;
+    }
+    true
+}
+
+// Words that a row doesn't name are as they were at the call; with `~`, they are free.
+fn unnamed(told: &[u8], before: [u64; 32], after: [u64; 32]) -> [u64; 32] {
+    if end_of(told, 0, b'~') < told.len() {
+        return after;
+    }
+    before
+}
+
+// The buffer begins with these bytes, and is behind them as it was.
+fn same_bytes(hex: &[u8], before: [u8; 256], after: [u8; 256]) -> bool {
+    let mut want = before;
+    unhex(hex, &mut want);
+    same(&want, &after)
+}
+
+fn counted(mut run: Run, right: bool, row: &[u8]) -> Run {
+    run.calls = wrapping_add_u64(run.calls, 1);
+    if right {
+        return run;
+    }
+    run.differ = wrapping_add_u64(run.differ, 1);
+    say(row);
+    say(b"\n");
+    run
+}
+
+// ---- a row
+
+// A row's numbers and its answer are its own: these words begin at zero.
+fn cleared(mut desk: [u64; 32]) -> [u64; 32] {
+    let mut i: usize = 23;
+    while i < 32 {
+        desk[i] = 0;
+        i += 1;
+    }
+    desk
+}
+
+// The call, with the bytes behind `<`.
+fn called(mut run: Run, code: u32, given: &[u8]) -> Run {
+    let mut buf = run.buf;
+    let mut desk = run.desk;
+    let mut data = [0u8; 256];
+    let n = unhex(after(given, b'<'), &mut data);
+    call(code, &mut desk, first(&data, n), &mut buf, run.size);
+    run.buf = buf;
+    run.desk = desk;
+    run
+}
+
+fn right(told: &[u8], before: Run, left: Run) -> bool {
+    let old = before.buf;
+    let new = left.buf;
+    let was = before.desk;
+    let is = left.desk;
+    same_words(is, set(told, unnamed(told, was, is))) && same_bytes(after(told, b'>'), old, new)
+}
+
+fn made(mut run: Run, code: u32, row: &[u8]) -> Run {
+    let name = end_of(row, 0, b' ');
+    let mid = end_of(row, name, b'=');
+    let given = &row[name..mid];
+    let start = run.desk;
+    let before = set(given, cleared(start));
+    run.desk = before;
+    let left = called(run, code, given);
+    counted(left, right(&row[mid..], run, left), row)
+}
+
+// The gatherer's second call, on the answer of the row before or of its own words: the part that it returns.
+fn parted(run: Run, row: &[u8]) -> Run {
+    let mut want = [0u8; 256];
+    let mut data = [0u8; 256];
+    let mut out = [0u8; 256];
+    let buf = run.buf;
+    let name = end_of(row, 0, b' ');
+    let start = run.desk;
+    let desk = set(&row[name..], start);
+    let n = unhex(after(row, b'<'), &mut data);
+    let k = unhex(after(row, b'>'), &mut want);
+    let got = trace_part(&desk, first(&buf, run.size), first(&data, n), &mut out);
+    counted(run, got == k as u64 && same(&want, &out), row)
+}
+
+fn lent(mut run: Run, hex: &[u8]) -> Run {
+    let mut buf = [0u8; 256];
+    run.size = unhex(hex, &mut buf);
+    run.buf = buf;
+    run
+}
+
+fn fresh(mut run: Run) -> Run {
+    let desk = [0u64; 32];
+    run.desk = desk;
+    run
+}
+
+// A row that begins with `#` is a remark.
+fn row(run: Run, text: &[u8]) -> Run {
+    if text.len() == 0 {
+        return run;
+    }
+    if text[0] == b'#' {
+        return run;
+    }
+    let code = code(word(text, 0));
+    match code {
+        BUFFER => lent(run, word(text, 1)),
+        FRESH => fresh(run),
+        PART => parted(run, text),
+        UNKNOWN => counted(run, false, text),
+        _ => made(run, code, text),
+    }
+}
+
+fn rows(start: Run, script: &[u8]) -> Run {
+    let mut run = start;
+    let mut i: usize = 0;
+    while i < script.len() {
+        let e = end_of(script, i, b'\n');
+        run = row(run, &script[i..e]);
+        i = e + 1;
+    }
+    run
+}
+
+fn begin() -> Run {
+    Run {
+        desk: [0u64; 32],
+        buf: [0u8; 256],
+        size: 0,
+        calls: 0,
+        differ: 0,
+    }
+}
+
+// Block by block. A proved loop has to end, and nothing says that the input does: so the turns are counted down, from a number that no
+// run uses up.
+fn blocks() -> Run {
+    let mut block = io::large_buffer();
+    let mut run = begin();
+    let mut turns = u64::MAX;
+    while 0 < turns {
+        let n = io::read_full(STDIN_FILENO, &mut block);
+        run = rows(run, &block[0..n]);
+        if n < BLOCK {
+            return run;
+        }
+        turns -= 1;
+    }
+    run
+}
+
+fn main() {
+    let run = blocks();
+    io::print_decimal(STDOUT_FILENO, run.calls);
+    say(b" calls, ");
+    io::print_decimal(STDOUT_FILENO, run.differ);
+    say(b" differences\n");
+}

@@ -17,7 +17,7 @@ use Rattle.emit.specs.Put.{over}
 use Rattle.emit.proofs.Writes.{put-is, reached-is}
 use Rattle.emit.proofs.Elements.{each-append}
 use Rattle.event_list.specs.Lines.{decimalIn, decimal, signed, hexadecimal, parts, byteLine, linesOf}
-use Rattle.lines.specs.Spelled.{Puts}
+use Rattle.lines.specs.Texts.{Puts}
 use Rattle.lines.proofs.Numbers.{one-digit, more-digits}
 
 pub lines-of-cuts : (id : ℕ) (r : Raw) (total o o′ : ℕ) (s t : List ℕ) → linesOf (Piece id r total o (s ++ t)) ≡ linesOf (Piece id r total o s) ++ linesOf (Piece id r total o′ t)

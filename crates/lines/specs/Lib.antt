@@ -1,2 +1,2 @@
--- `Spelled` serves the functions that make a line.
-pub mod Spelled
+-- `Texts` serves the functions that put a line.
+pub mod Texts

@@ -1,6 +1,6 @@
 -- `lines::put_event`.
 use mathlib.Core.Path.{sym, ap, _∙_}
-use Rattle.lines.specs.Spelled.{shownText}
+use Rattle.shown.specs.Spelled.{shownText}
 use Rattle.lines.proofs.Texts.{says}
 use borrow.Author.Needs.{needs}
 use Rattle.lines.proofs.put_event.Statement.{statement}
@@ -9,7 +9,7 @@ use Rattle.lines.proofs.put_event.Reads as reads
 use Rattle.lines.proofs.put_event.Lts as lts
 use Rattle.lines.proofs.put_line.Reads as put-line-reads
 use Rattle.lines.proofs.put_piece.Reads as put-piece-reads
-use Rattle.lines.proofs.shown_of.Reads as shown-of-reads
+use Rattle.shown.proofs.shown_of.Reads as shown-of-reads
 
 returns : tie.Need-returns
 returns c =

@@ -1,6 +1,6 @@
 -- `lines::put_part`.
 use mathlib.Core.Path.{sym, ap}
-use Rattle.lines.specs.Spelled.{partText}
+use Rattle.shown.specs.Spelled.{partText}
 use Rattle.lines.proofs.Texts.{says, joined, nothing}
 use borrow.Author.Needs.{needs}
 use Rattle.lines.proofs.put_part.Statement.{statement}

@@ -1,25 +1,17 @@
--- A line taken apart, as the code has it, and a text put into a lent buffer. No reader of the event list needs this file.
+-- A line taken apart, as the code has it. No reader of the event list needs this file.
 use Prim.Native.Nat.{ℕ}
 use mathlib.Core.Path.{_≡_}
 use mathlib.Core.List.{List, [], _∷_, _++_}
 use lib.Seq.{slice}
 use Rattle.layout.specs.Field.{each}
-use Rattle.layout.specs.Message as layout
 use Rattle.event.specs.declared.Event.{Event}
 use Rattle.event.specs.Event.{eventOf}
-use Rattle.emit.specs.Put.{put, reached}
 use Rattle.event_list.specs.Lines.{E, decimal, hexadecimal, byteLine, linesOf}
-use Rattle.lines.specs.declared.Part.{Part}
-use Rattle.lines.specs.declared.Part.the-variants.{Nothing, Number, Minus, Bits32, Bits64}
-use Rattle.lines.specs.declared.Line.{Line}
-use Rattle.lines.specs.declared.Shown.{Shown}
-use Rattle.lines.specs.declared.Shown.the-variants as Showns
-use Rattle.lines.specs.declared.Verdict.{Verdict}
-use Rattle.lines.specs.declared.Verdict.the-variants.{Complete, Incomplete, Invalid}
-
--- the text s is put into the buffer b from `at` on, as far as there is room: it ends at r and leaves b′
-abbrev pub Puts : List ℕ → ℕ → List ℕ → List ℕ → ℕ → Type 0
-Puts b at s b′ r = (r ≡ reached b at s) × (b′ ≡ put b at s)
+use Rattle.shown.specs.declared.Part.{Part}
+use Rattle.shown.specs.declared.Part.the-variants.{Nothing, Number, Minus, Bits32, Bits64}
+use Rattle.shown.specs.declared.Line.{Line}
+use Rattle.shown.specs.declared.Shown.{Shown}
+use Rattle.shown.specs.declared.Shown.the-variants as Showns
 
 -- a part with the space before it
 abbrev pub partText : Part → List ℕ
@@ -47,9 +39,3 @@ shownText c (Showns.Piece b) = each byteLine (slice (b .from) (b .to) c)
 -- it is the event's lines, whatever the chunk
 abbrev pub Shows : Shown → Event → Type 0
 Shows s e = (c : List ℕ) → shownText c s ≡ linesOf (eventOf c e)
-
--- the verdict; where a message is broken, its line doesn't say
-abbrev pub verdictIn : Verdict → layout.Verdict
-verdictIn Complete = layout.complete
-verdictIn Incomplete = layout.incomplete
-verdictIn Invalid = layout.brokenAt 0

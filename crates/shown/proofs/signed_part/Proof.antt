@@ -1,4 +1,4 @@
--- `lines::signed_part`.
+-- `shown::signed_part`.
 use mathlib.Core.Path.{_≡_, sym, ap, _∙_}
 use mathlib.Core.List.{_∷_}
 use Prim.Native.Nat.{ℕ, suc, _+_, _-_, _^_, _<_}
@@ -9,10 +9,10 @@ use mir.Val.{ofZ, toZ}
 use mir.ValLaws.{toZ-ofZ}
 use Rattle.varint.proofs.Sign.{negative, natural, flipped, casts}
 use Rattle.event_list.specs.Lines.{decimal, signed}
-use Rattle.lines.proofs.signed_part.Statement.{statement}
-use Rattle.lines.proofs.signed_part.Tie as tie
-use Rattle.lines.proofs.signed_part.Reads as reads
-use Rattle.lines.proofs.signed_part.Lts as lts
+use Rattle.shown.proofs.signed_part.Statement.{statement}
+use Rattle.shown.proofs.signed_part.Tie as tie
+use Rattle.shown.proofs.signed_part.Reads as reads
+use Rattle.shown.proofs.signed_part.Lts as lts
 
 -- the number that is cast, below 0
 under : (c : tie.Then1) → (n : ℕ) × (toZ w64 (2 ^ 64 - 1 - ofZ w64 (c .before .args .v)) ≡ pos n) × (n < 2 ^ 63) × (c .before .args .v ≡ negsuc n)

@@ -1,4 +1,4 @@
--- `lines::shown_of`.
+-- `shown::shown_of`.
 use mathlib.Core.Path.{_≡_, sym, ap, _∙_}
 use mathlib.Core.List.{List, _++_, _∷_, []}
 use Prim.Native.Nat.{ℕ}
@@ -8,18 +8,18 @@ use mir.Val.{ofZ, toZ}
 use Rattle.event.specs.declared.Event.{Event}
 use Rattle.event.specs.Event.{eventOf}
 use Rattle.event_list.specs.Lines.{decimal, signed, linesOf}
-use Rattle.lines.specs.Spelled.{lined, shownText}
-use Rattle.lines.specs.declared.Part.the-variants.{Nothing, Number, Bits32, Bits64}
+use Rattle.shown.specs.Spelled.{lined, shownText}
+use Rattle.shown.specs.declared.Part.the-variants.{Nothing, Number, Bits32, Bits64}
 use borrow.Author.Needs.{needs}
-use Rattle.lines.proofs.shown_of.Statement.{statement}
-use Rattle.lines.proofs.shown_of.Tie as tie
-use Rattle.lines.proofs.shown_of.Reads as reads
-use Rattle.lines.proofs.shown_of.Lts as lts
+use Rattle.shown.proofs.shown_of.Statement.{statement}
+use Rattle.shown.proofs.shown_of.Tie as tie
+use Rattle.shown.proofs.shown_of.Reads as reads
+use Rattle.shown.proofs.shown_of.Lts as lts
 use Rattle.event.proofs.fp32_bits.Reads as fp32-bits-reads
 use Rattle.event.proofs.fp64_bits.Reads as fp64-bits-reads
-use Rattle.lines.proofs.close.Reads as close-reads
-use Rattle.lines.proofs.signed_part.Reads as signed-part-reads
-use Rattle.lines.proofs.with_id.Reads as with-id-reads
+use Rattle.shown.proofs.close.Reads as close-reads
+use Rattle.shown.proofs.signed_part.Reads as signed-part-reads
+use Rattle.shown.proofs.with_id.Reads as with-id-reads
 use Rattle.types.proofs.ArrayKind.raw.Reads as ArrayKind-raw-reads
 use Rattle.types.proofs.FixlenType.raw.Reads as FixlenType-raw-reads
 

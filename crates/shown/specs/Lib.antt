@@ -1,0 +1,2 @@
+-- `Spelled` serves the functions that make a line.
+pub mod Spelled

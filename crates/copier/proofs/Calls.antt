@@ -34,8 +34,9 @@ use Rattle.turns.specs.declared.Stop.{Stop}
 use Rattle.turns.specs.Turns.{endedIn, Stops, Ran}
 use Rattle.owed.specs.declared.Owed.{Owed}
 use Rattle.owed.specs.declared.Owed.the-variants as owed
-use Rattle.owed.specs.declared.Output.{Output}
-use Rattle.owed.specs.Owed.{owedOf, owedIn, placeIn, outputOf, outputBytes, levelOf, legalOf, placeIsIn}
+use Rattle.output.specs.declared.Output.{Output}
+use Rattle.owed.specs.Owed.{owedOf, owedIn, placeIn, outputOf, levelOf, legalOf, placeIsIn}
+use Rattle.output.specs.Output.{outputBytes}
 use Rattle.owed.proofs.Laws.{owed-back, spelled, sound-parts}
 use Rattle.copier.specs.declared.Copier.{Copier}
 use Rattle.copier.specs.declared.Opening.{Opening}

@@ -1,13 +1,11 @@
--- What a copier owes, as an event of the layout's and back; and, for private functions alone, its bytes and the parts of its soundness.
+-- What a copier owes, as an event of the layout's and back; and, for private functions alone, its output and the parts of its soundness.
 use Prim.Native.Nat.{ℕ, suc, zero, _+_, _*_}
 use mathlib.Core.Bool.{Bool, true, _&&_}
-use mathlib.Core.List.{List, [], _++_}
 use lib.Dec.{leb, ltb, eqb}
 use lib.ListN.{length}
-use Rattle.layout.specs.Limits.{base, longest}
-use Rattle.layout.specs.Varint.{shortest}
+use Rattle.layout.specs.Limits.{base}
 use Rattle.layout.specs.Zigzag.{zigzag}
-use Rattle.layout.specs.Field.{bytesOf, fp32, fp64, float, raw, lowBytes, subtypeNumber}
+use Rattle.layout.specs.Field.{bytesOf, fp32, fp64, float, raw, subtypeNumber}
 use Rattle.layout.specs.Event as layout
 use Rattle.types.specs.Types.{width, floatType, rawSort, rawType, kind, arrayKind}
 use Rattle.types.specs.declared.ArrayKind.{ArrayKind}
@@ -16,8 +14,9 @@ use Rattle.copying.specs.Owed as copying
 use Rattle.copying.specs.Owed.{nothing, owes}
 use Rattle.owed.specs.declared.Owed.{Owed}
 use Rattle.owed.specs.declared.Owed.the-variants.{Nothing, Unsigned, Signed, Element, SignedElement, Fp32, Fp64, Float, Payload, Array, Begin, End}
-use Rattle.owed.specs.declared.Output.{Output}
-use Rattle.owed.specs.declared.Output.the-variants.{Empty, One, Two, Three, Four, Eight}
+use Rattle.output.specs.declared.Output.{Output}
+use Rattle.output.specs.declared.Output.the-variants.{Empty, One, Two, Three, Four, Eight}
+use Rattle.output.specs.Output.{outputBytes}
 
 -- what is owed, as an event of the layout's; an element came while one was due
 abbrev pub owedOf : Owed → ℕ → copying.Owed
@@ -59,18 +58,6 @@ placeIn nothing = 0
 placeIn (owes due e place) = place
 
 -- ---- cited by private functions alone
-
-abbrev pub outputBytes : Output → List ℕ
-outputBytes Empty = []
-outputBytes (One a) = shortest a
-outputBytes (Two a b) = shortest a ++ shortest b
-outputBytes (Three a b c) = shortest a ++ (shortest b ++ shortest c)
-outputBytes (Four x) = lowBytes 4 x
-outputBytes (Eight x) = lowBytes 8 x
-
--- the most bytes that an output has: those of three varints
-abbrev pub outputMost : ℕ
-outputMost = 3 * longest base
 
 abbrev pub arrayOutput : ℕ → ArrayKind → ℕ → Output
 arrayOutput id Kinds.Unsigned n = Two (id * 8 + 3) n

@@ -1,21 +1,18 @@
-// The event that a copier has read and not yet written whole: what is owed of an event, the bytes that it is written as, and which may
+// The event that a copier has read and not yet written whole: what is owed of an event, the output that it is written as, and which may
 // be owed.
 ghost use mathlib.Core.Path.{_≡_};
 ghost use mathlib.Core.Bool.{_&&_};
 ghost use mathlib.Core.List.{[]};
 ghost use lib.Dec.{leb};
-ghost use Prim.Native.Nat.{_+_, _*_, _≤_};
-ghost use lib.ListN.{length, drop};
+ghost use Prim.Native.Nat.{_+_, _*_};
 ghost use Rattle.layout.specs.Limits.{base};
 ghost use Rattle.copying.specs.Owed.{agrees};
 ghost use Rattle.event.specs.Event.{eventOf};
-ghost use Rattle.emit.specs.Put.{put, reached};
-ghost use Rattle.owed.specs.Owed.{owedOf, owe, arrayOutput, outputOf, outputBytes, outputMost, levelOf, legalOf, placeIsIn};
-use emit::Cursor;
-use emit::put_fitting;
+ghost use Rattle.owed.specs.Owed.{owedOf, owe, arrayOutput, outputOf, levelOf, legalOf, placeIsIn};
 use event::Event;
 use event::fp32_bits;
 use event::fp64_bits;
+use output::Output;
 use types::ARRAY_MAX;
 use types::ArrayKind;
 use types::FIXLEN_MAX;
@@ -31,8 +28,6 @@ use types::T_VARINT_SIGNED;
 use types::T_VARINT_UNSIGNED;
 use types::T_VARINTARRAY_SIGNED;
 use types::T_VARINTARRAY_UNSIGNED;
-use varint::VARINT_MAX;
-use varint::varint_len;
 use varint::zigzag_encode;
 
 // An event that is read and not yet written whole. Only events that the layout allows, but for their numbers' limits: `Element` and
@@ -52,19 +47,6 @@ pub enum Owed {
     Begin(u32),
     End,
 }
-
-// The bytes that an event is written as: varints one after another, or a float's four or eight low bytes.
-pub enum Output {
-    Empty,
-    One(u64),
-    Two(u64, u64),
-    Three(u64, u64, u64),
-    Four(u32),
-    Eight(u64),
-}
-
-// Most bytes that an event is written as: three varints.
-pub const OUTPUT_MAX: usize = 3 * VARINT_MAX;
 
 // A header's number, and a fixed-length word's.
 fn tagged(n: u32, tag: u8) -> u64
@@ -223,83 +205,5 @@ impl Owed {
             return false;
         }
         self.has_place(place)
-    }
-}
-
-impl Output {
-    // How many bytes it has.
-    pub fn len(self) -> usize
-        ensures { λ r. ⌜ (r ≡ length (outputBytes self)) × (r ≤ outputMost) ⌝ }
-    {
-        match self {
-            Output::Empty => 0,
-            Output::One(a) => varint_len(a),
-            Output::Two(a, b) => varint_len(a) + varint_len(b),
-            Output::Three(a, b, c) => varint_len(a) + varint_len(b) + varint_len(c),
-            Output::Four(_) => 4,
-            Output::Eight(_) => 8,
-        }
-    }
-
-    // Its bytes from pos on, where there is room for the longest, with no test for the buffer's end; where they end.
-    pub fn put_fitting(self, buf: &mut [u8], pos: usize) -> usize
-        requires { ⌜ pos + outputMost ≤ length (now buf) ⌝ }
-        ensures { λ r. ⌜ (r ≡ reached (now (buf .entry)) pos (outputBytes self)) × (now (buf .exit) ≡ put (now (buf .entry)) pos (outputBytes self)) × (length (outputBytes self) ≤ outputMost) ⌝ }
-    {
-        match self {
-            Output::Empty => pos,
-            Output::One(a) => put_fitting(buf, pos, a),
-            Output::Two(a, b) => {
-                let mid = put_fitting(buf, pos, a);
-                put_fitting(buf, mid, b)
-            }
-            _ => self.put_bounded(buf, pos),
-        }
-    }
-
-    // The rarer outputs; that none is longer than OUTPUT_MAX is known by its length.
-    fn put_bounded(self, buf: &mut [u8], pos: usize) -> usize
-        requires { ⌜ pos + outputMost ≤ length (now buf) ⌝ }
-        ensures { λ r. ⌜ (r ≡ reached (now (buf .entry)) pos (outputBytes self)) × (now (buf .exit) ≡ put (now (buf .entry)) pos (outputBytes self)) × (length (outputBytes self) ≤ outputMost) ⌝ }
-    {
-        let len = self.len();
-        if OUTPUT_MAX < len {
-            return pos;
-        }
-        self.put(buf, pos, 0)
-    }
-
-    // Its bytes from the place on, as far as there is room from pos on; where they end.
-    pub fn put(self, buf: &mut [u8], pos: usize, place: usize) -> usize
-        requires { ⌜ pos ≤ length (now buf) ⌝ }
-        ensures { λ r. ⌜ (r ≡ reached (now (buf .entry)) pos (drop place (outputBytes self))) × (now (buf .exit) ≡ put (now (buf .entry)) pos (drop place (outputBytes self))) ⌝ }
-    {
-        let cursor = Cursor { pos, skip: place };
-        match self {
-            Output::Empty => pos,
-            Output::One(a) => {
-                let end = cursor.put_varint(buf, a);
-                end.pos
-            }
-            Output::Two(a, b) => {
-                let next = cursor.put_varint(buf, a);
-                let end = next.put_varint(buf, b);
-                end.pos
-            }
-            Output::Three(a, b, c) => {
-                let next = cursor.put_varint(buf, a);
-                let last = next.put_varint(buf, b);
-                let end = last.put_varint(buf, c);
-                end.pos
-            }
-            Output::Four(bits) => {
-                let end = cursor.put_fp32(buf, bits);
-                end.pos
-            }
-            Output::Eight(bits) => {
-                let end = cursor.put_fp64(buf, bits);
-                end.pos
-            }
-        }
     }
 }

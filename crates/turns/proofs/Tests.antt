@@ -24,8 +24,9 @@ use Rattle.phase.proofs.Phase as readers
 use Rattle.emit.specs.Put.{put, reached}
 use Rattle.copying.specs.Owed.{dueIn}
 use Rattle.owed.specs.declared.Owed.{Owed}
-use Rattle.owed.specs.declared.Output.{Output}
-use Rattle.owed.specs.Owed.{owe, outputOf, outputBytes}
+use Rattle.output.specs.declared.Output.{Output}
+use Rattle.owed.specs.Owed.{owe, outputOf}
+use Rattle.output.specs.Output.{outputBytes}
 use Rattle.turns.specs.declared.Answer.{Answer}
 use Rattle.turns.specs.declared.Answer.the-variants.{Full, Status, Refused}
 use Rattle.turns.specs.declared.Turn.{Turn}

@@ -38,7 +38,8 @@ use Rattle.copying.proofs.Turns.{copy-full, copy-settles, copy-turn, Heard, tur
 use Rattle.copying.proofs.OneEvent.{AsIs}
 use Rattle.as_is.specs.Ahead.{Ahead}
 use Rattle.owed.specs.declared.Owed.{Owed}
-use Rattle.owed.specs.Owed.{owe, outputOf, outputBytes}
+use Rattle.owed.specs.Owed.{owe, outputOf}
+use Rattle.output.specs.Output.{outputBytes}
 use Rattle.owed.proofs.Laws.{owe-any, spelled-event}
 use Rattle.owed.specs.declared.Owed.the-variants.{Nothing}
 use Rattle.turns.specs.declared.Stop.{Stop}

@@ -27,7 +27,8 @@ use Rattle.copying.specs.Copy.{Copy, after, copy}
 use Rattle.copying.specs.Copy as copying
 use Rattle.owed.specs.declared.Owed.{Owed}
 use Rattle.owed.specs.declared.Owed.the-variants.{Nothing}
-use Rattle.owed.specs.Owed.{owe, owedIn, placeIn, outputOf, outputBytes}
+use Rattle.owed.specs.Owed.{owe, owedIn, placeIn, outputOf}
+use Rattle.output.specs.Output.{outputBytes}
 use Rattle.turns.specs.declared.Answer.{Answer}
 use Rattle.turns.specs.declared.Answer.the-variants.{Full, Status, Refused}
 use Rattle.turns.specs.declared.Stop.{Stop}

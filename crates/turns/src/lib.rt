@@ -14,7 +14,7 @@ use emit::put_rest;
 use istream::Fed;
 use istream::IStream;
 use istream::Status;
-use owed::OUTPUT_MAX;
+use output::OUTPUT_MAX;
 use owed::Owed;
 use owed::owe;
 use phase::Phase;

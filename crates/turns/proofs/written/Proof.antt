@@ -2,7 +2,7 @@
 use mathlib.Core.Path.{refl}
 use native.Mathlib.Omega.{arith}
 use lib.ListN.{length, drop}
-use Rattle.owed.specs.Owed.{outputBytes}
+use Rattle.output.specs.Output.{outputBytes}
 use Rattle.emit.proofs.Writes.{reached-is}
 use Rattle.turns.proofs.Tests.{event-full, event-fits}
 use borrow.Author.Needs.{needs}
@@ -10,9 +10,9 @@ use Rattle.turns.proofs.written.Statement.{statement}
 use Rattle.turns.proofs.written.Tie as tie
 use Rattle.turns.proofs.written.Reads as reads
 use Rattle.turns.proofs.written.Lts as lts
-use Rattle.owed.proofs.Output.len.Reads as len-reads
-use Rattle.owed.proofs.Output.put.Reads as put-reads
-use Rattle.owed.proofs.Output.put_fitting.Reads as put-fitting-reads
+use Rattle.output.proofs.Output.len.Reads as len-reads
+use Rattle.output.proofs.Output.put.Reads as put-reads
+use Rattle.output.proofs.Output.put_fitting.Reads as put-fitting-reads
 use Rattle.owed.proofs.Owed.output.Reads as output-reads
 
 returns : tie.Need-returns

@@ -2,7 +2,7 @@
 use native.Mathlib.Omega.{arith}
 use lib.ListN.{drop, length-drop}
 use Rattle.emit.proofs.Writes.{reached-is}
-use Rattle.owed.specs.Owed.{outputBytes}
+use Rattle.output.specs.Output.{outputBytes}
 use Rattle.copier.proofs.Calls.{ready-within, ends-within, carry-full, carry-runs}
 use borrow.Author.Needs.{needs}
 use Rattle.copier.proofs.Copier.carry.Statement.{statement}
@@ -10,8 +10,8 @@ use Rattle.copier.proofs.Copier.carry.Tie as tie
 use Rattle.copier.proofs.Copier.carry.Reads as reads
 use Rattle.copier.proofs.Copier.carry.Lts as lts
 use Rattle.turns.proofs.run.Reads as run-reads
-use Rattle.owed.proofs.Output.len.Reads as len-reads
-use Rattle.owed.proofs.Output.put.Reads as put-reads
+use Rattle.output.proofs.Output.len.Reads as len-reads
+use Rattle.output.proofs.Output.put.Reads as put-reads
 use Rattle.owed.proofs.Owed.output.Reads as output-reads
 
 sub-room : tie.Need-sub-room

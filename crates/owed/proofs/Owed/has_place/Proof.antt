@@ -2,15 +2,15 @@
 use mathlib.Core.Path.{ap, _∙_}
 use lib.Dec.{ltb}
 use lib.ListN.{length}
-use Rattle.owed.specs.declared.Output.{Output}
-use Rattle.owed.specs.Owed.{outputBytes}
+use Rattle.output.specs.declared.Output.{Output}
+use Rattle.output.specs.Output.{outputBytes}
 use Rattle.owed.proofs.Laws.{place-else}
 use borrow.Author.Needs.{needs}
 use Rattle.owed.proofs.Owed.has_place.Statement.{statement}
 use Rattle.owed.proofs.Owed.has_place.Tie as tie
 use Rattle.owed.proofs.Owed.has_place.Reads as reads
 use Rattle.owed.proofs.Owed.has_place.Lts as lts
-use Rattle.owed.proofs.Output.len.Reads as len-reads
+use Rattle.output.proofs.Output.len.Reads as len-reads
 use Rattle.owed.proofs.Owed.output.Reads as output-reads
 
 returns-2 : tie.Need-returns-2

@@ -2,7 +2,7 @@
 use Prim.Native.Nat.{_+_, _*_}
 use Rattle.layout.specs.Field.{Subtype, bytesOf, subtypeNumber, float, raw}
 use Rattle.types.specs.Types.{width, rawSort}
-use Rattle.owed.specs.declared.Output.the-variants.{Two}
+use Rattle.output.specs.declared.Output.the-variants.{Two}
 use mir.Val.{toZ, ofZ}
 use mir.Syntax.{w64}
 use mathlib.Core.Path.{_≡_, ap}

@@ -1,4 +1,4 @@
--- `owed::Output::put_fitting`: one varint or two at once, and the rarer outputs slowly.
+-- `output::Output::put_fitting`: one varint or two at once, and the rarer outputs slowly.
 use Prim.Native.Nat.{_≤_}
 use mir.Val.{Fits}
 use mir.Syntax.{w64}
@@ -8,15 +8,15 @@ use lib.ListN.{length}
 use Rattle.layout.specs.Limits.{base}
 use Rattle.layout.specs.Varint.{shortest}
 use Rattle.varint.proofs.Shortest.{length-longest}
-use Rattle.owed.specs.Owed.{outputBytes}
-use Rattle.owed.proofs.Laws.{fitting-none, fitting-one, fitting-two, mid-room}
+use Rattle.output.specs.Output.{outputBytes}
+use Rattle.output.proofs.Laws.{fitting-none, fitting-one, fitting-two, mid-room}
 use borrow.Author.Needs.{needs}
-use Rattle.owed.proofs.Output.put_fitting.Statement.{statement}
-use Rattle.owed.proofs.Output.put_fitting.Tie as tie
-use Rattle.owed.proofs.Output.put_fitting.Reads as reads
-use Rattle.owed.proofs.Output.put_fitting.Lts as lts
+use Rattle.output.proofs.Output.put_fitting.Statement.{statement}
+use Rattle.output.proofs.Output.put_fitting.Tie as tie
+use Rattle.output.proofs.Output.put_fitting.Reads as reads
+use Rattle.output.proofs.Output.put_fitting.Lts as lts
 use Rattle.emit.proofs.put_fitting.Reads as put-fitting-reads
-use Rattle.owed.proofs.Output.put_bounded.Reads as put-bounded-reads
+use Rattle.output.proofs.Output.put_bounded.Reads as put-bounded-reads
 
 put-fitting-requires-3 : tie.Need-put-fitting-requires-3
 put-fitting-requires-3 c κs = mid-room (c .before .before .before .before .before .before .before .before .before .args .buf .now) (c .before .before .before .before .before .before .before .before .before .args .pos) (shortest (c .before .before .before .before .before .before .self2 .given .0 .0)) _ _ (c .before .before .before .before .before .before .before .before .before .pre) (let f : Fits w64 (c .before .before .before .before .before .before .self2 .given .0 .0) = search needs in length-longest base (c .before .before .before .before .before .before .self2 .given .0 .0) (f .fits)) (c .before .before .before .put-fitting2 .ensures)

@@ -1,4 +1,4 @@
--- `owed::Output::len`: the sum of the lengths of its varints.
+-- `output::Output::len`: the sum of the lengths of its varints.
 use mir.Val.{Fits}
 use mir.Syntax.{w64}
 use mathlib.Core.Path.{sym, ap, _∙_}
@@ -9,13 +9,13 @@ use Rattle.layout.specs.Limits.{base}
 use Rattle.layout.specs.Varint.{shortest}
 use Rattle.varint.proofs.Shortest.{length-longest}
 use Rattle.emit.proofs.Low.{length-low}
-use Rattle.owed.specs.declared.Output.{Output}
-use Rattle.owed.specs.Owed.{outputBytes}
+use Rattle.output.specs.declared.Output.{Output}
+use Rattle.output.specs.Output.{outputBytes}
 use borrow.Author.Needs.{needs}
-use Rattle.owed.proofs.Output.len.Statement.{statement}
-use Rattle.owed.proofs.Output.len.Tie as tie
-use Rattle.owed.proofs.Output.len.Reads as reads
-use Rattle.owed.proofs.Output.len.Lts as lts
+use Rattle.output.proofs.Output.len.Statement.{statement}
+use Rattle.output.proofs.Output.len.Tie as tie
+use Rattle.output.proofs.Output.len.Reads as reads
+use Rattle.output.proofs.Output.len.Lts as lts
 use Rattle.varint.proofs.varint_len.Reads as varint-len-reads
 
 add-result : tie.Need-add-result

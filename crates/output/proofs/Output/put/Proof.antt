@@ -1,13 +1,13 @@
--- `owed::Output::put`: its segments in a row.
+-- `output::Output::put`: its segments in a row.
 use mathlib.Core.Path.{ap}
-use Rattle.owed.specs.Owed.{outputBytes}
+use Rattle.output.specs.Output.{outputBytes}
 use Rattle.emit.proofs.Segments.{joined, joined-three}
-use Rattle.owed.proofs.Laws.{landed, landed-none}
+use Rattle.output.proofs.Laws.{landed, landed-none}
 use borrow.Author.Needs.{needs}
-use Rattle.owed.proofs.Output.put.Statement.{statement}
-use Rattle.owed.proofs.Output.put.Tie as tie
-use Rattle.owed.proofs.Output.put.Reads as reads
-use Rattle.owed.proofs.Output.put.Lts as lts
+use Rattle.output.proofs.Output.put.Statement.{statement}
+use Rattle.output.proofs.Output.put.Tie as tie
+use Rattle.output.proofs.Output.put.Reads as reads
+use Rattle.output.proofs.Output.put.Lts as lts
 use Rattle.emit.proofs.Cursor.put_fp32.Reads as put-fp32-reads
 use Rattle.emit.proofs.Cursor.put_fp64.Reads as put-fp64-reads
 use Rattle.emit.proofs.Cursor.put_varint.Reads as put-varint-reads

@@ -1,0 +1,2 @@
+-- `Laws` serves the functions that write an output.
+pub mod Laws

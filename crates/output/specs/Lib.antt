@@ -1,0 +1,2 @@
+-- `Output`: the bytes that an event is written as.
+pub mod Output

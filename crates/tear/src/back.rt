@@ -3,68 +3,12 @@ use crate::draw;
 use lines::Verdict;
 use listing::Listing;
 use std::num::wrapping_add_u64;
-use std::num::wrapping_add_usize;
 
 // What a reading comes to: it is the same for the same events, and for others hardly ever.
 pub struct Sum {
     pub sum: u64,
     pub bytes: u64,
     pub complete: bool,
-}
-
-// The last number drawn, the chunk, the sum so far, and whether it is over.
-pub struct Place {
-    random: u64,
-    from: usize,
-    to: usize,
-    sum: u64,
-    bytes: u64,
-    over: bool,
-}
-
-// The list under way.
-pub struct Back {
-    listing: Listing,
-    place: Place,
-}
-
-// Before the first chunk.
-fn start(seed: u64) -> Back {
-    Back {
-        listing: Listing::new(),
-        place: Place {
-            random: seed,
-            from: 0,
-            to: 0,
-            sum: 0,
-            bytes: 0,
-            over: false,
-        },
-    }
-}
-
-// The chunk is spent: another one, also an empty one, or the end.
-fn further(mut p: Place, len: usize, asked: bool) -> Place {
-    let random = draw::next(p.random);
-    let from = p.to;
-    let left = if from <= len { len - from } else { 0 };
-    let n = draw::length(random, left);
-    draw::show(asked, n);
-    p.random = random;
-    p.from = from;
-    p.to = wrapping_add_usize(from, n);
-    p.over = left == 0 && draw::rarely(random >> 8);
-    p
-}
-
-// At the end the verdict stays.
-fn next_chunk(b: Back, len: usize, asked: bool) -> Back {
-    let place = further(b.place, len, asked);
-    let listing = b.listing;
-    Back {
-        listing: if place.over { listing } else { listing.chunk() },
-        place,
-    }
 }
 
 // 33 times the sum, and the byte.
@@ -82,59 +26,47 @@ fn add(start: u64, text: &[u8]) -> u64 {
     sum
 }
 
-fn summed(mut p: Place, text: &[u8], at: usize) -> Place {
-    p.sum = if at <= text.len() {
-        add(p.sum, &text[0..at])
-    } else {
-        0
+// The lines that end at `at` are added.
+fn summed(mut s: Sum, text: &[u8], at: usize) -> Sum {
+    s.sum = add(s.sum, draw::part(text, 0, at));
+    s.bytes = wrapping_add_u64(s.bytes, at as u64);
+    s
+}
+
+fn end(mut s: Sum, verdict: Verdict) -> Sum {
+    if let Verdict::Complete = verdict {
+        s.complete = true;
+    }
+    s
+}
+
+// The bytes, torn and read: the lines of a chunk, as far as there is room for them, and where it is spent another chunk. At the end the
+// verdict stays. Nothing but the count says to the prover that it ends.
+pub fn read(bytes: &[u8], seed: u64, asked: bool) -> Sum {
+    let mut text = io::large_buffer();
+    let mut listing = Listing::new();
+    let mut cut = draw::start(seed, 0, asked);
+    let mut s = Sum {
+        sum: 0,
+        bytes: 0,
+        complete: false,
     };
-    p.bytes = wrapping_add_u64(p.bytes, at as u64);
-    p
-}
-
-// The lines of the chunk, as far as there is room for them.
-fn lines_of(b: Back, chunk: &[u8], text: &mut [u8]) -> Back {
-    let l = listing::list(b.listing, chunk, text);
-    Back {
-        listing: l.emptied(),
-        place: summed(b.place, text, l.at),
-    }
-}
-
-fn turn(b: Back, bytes: &[u8], text: &mut [u8], asked: bool) -> Back {
-    let from = b.place.from;
-    let to = b.place.to;
-    if b.listing.more && from <= to && to <= bytes.len() {
-        return lines_of(b, &bytes[from..to], text);
-    }
-    next_chunk(b, bytes.len(), asked)
-}
-
-fn end(b: Back) -> Sum {
-    let listing = b.listing;
-    let verdict = listing.verdict;
-    Sum {
-        sum: b.place.sum,
-        bytes: b.place.bytes,
-        complete: match verdict {
-            Verdict::Complete => true,
-            _ => false,
-        },
-    }
-}
-
-// The bytes, torn and read. Nothing but the count says to the prover that it ends.
-pub fn read(bytes: &[u8], text: &mut [u8], seed: u64, asked: bool) -> Sum {
-    let mut b = start(seed);
     let mut turns = u64::MAX;
-    while 0 < turns {
-        if b.place.over {
-            return end(b);
+    while 0 < turns && !cut.over {
+        listing = listing::list(listing, draw::part(bytes, cut.from, cut.to), &mut text);
+        s = summed(s, &text, listing.at);
+        listing = listing.emptied();
+        if !listing.more {
+            cut.from = cut.to;
+            cut = draw::chunk(cut, bytes.len());
+            if !cut.over {
+                listing = listing.chunk();
+            }
         }
-        b = turn(b, bytes, text, asked);
         turns -= 1;
     }
-    end(b)
+    let verdict = listing.verdict;
+    end(s, verdict)
 }
 
 // Whether both are complete and have the same lines.

@@ -1,5 +1,37 @@
-// Random numbers, and the places that they choose: where a message is cut, and how long a buffer is.
+// Random numbers, and what they choose: where a message is cut, when a buffer is drained, and how long it is.
 use libc::STDERR_FILENO;
+use std::num::wrapping_add_usize;
+
+// The last number drawn, the chunk's rest, whether it is over, and whether the cuts are shown; of a copy, the last verdict, whether the
+// buffer is drained before the next call, how much was sent, and whether all of it was as expected.
+pub struct Cut {
+    pub random: u64,
+    pub from: usize,
+    pub to: usize,
+    pub over: bool,
+    pub asked: bool,
+    pub complete: bool,
+    pub broken: bool,
+    pub drain: bool,
+    pub sent: usize,
+    pub same: bool,
+}
+
+// Before the first chunk is drawn; up to `to` there is one already.
+pub fn start(seed: u64, to: usize, asked: bool) -> Cut {
+    Cut {
+        random: seed,
+        from: 0,
+        to,
+        over: false,
+        asked,
+        complete: false,
+        broken: false,
+        drain: false,
+        sent: 0,
+        same: true,
+    }
+}
 
 // The next number: Marsaglia's xorshift. 0 alone stays as it is.
 pub fn next(r: u64) -> u64 {
@@ -8,52 +40,43 @@ pub fn next(r: u64) -> u64 {
     b ^ (b << 17)
 }
 
-fn below(r: u64, n: u64) -> u64 {
-    if n == 0 { 0 } else { (r >> 11) % n }
-}
-
-// Whether a number that came up says so, once in four.
-pub fn rarely(r: u64) -> bool {
-    r % 4 == 0
-}
-
 // A length of 0 to `most` bytes, often a short one.
 pub fn length(r: u64, most: usize) -> usize {
-    let few = if r % 4 == 0 {
-        2
-    } else if r % 4 == 1 {
-        16
-    } else {
-        4096
+    let mask = match r % 4 {
+        0 => 1,
+        1 => 15,
+        _ => 4095,
     };
-    let n = below(r, few);
+    let n = (r >> 11) & mask;
     if n < most as u64 { n as usize } else { most }
 }
 
-// A number and a blank on standard error, where asked.
-pub fn show(asked: bool, n: usize) {
-    if asked {
-        io::print_decimal(STDERR_FILENO, n as u64);
-        io::write_all(STDERR_FILENO, b" ");
-    }
+// A number between two texts: whether all of it went out.
+pub fn say(fd: i32, before: &[u8], n: u64, after: &[u8]) -> bool {
+    io::write_all(fd, before) && io::print_decimal(fd, n) && io::write_all(fd, after)
 }
 
-// Whether `whole` begins with `part`.
-pub fn begins(whole: &[u8], part: &[u8]) -> bool {
-    let mut i: usize = 0;
-    while i < part.len() {
-        if whole.len() <= i {
-            return false;
-        }
-        if whole[i] != part[i] {
-            return false;
-        }
-        i += 1;
+// The chunk is spent: another one of a message of `len` bytes, also an empty one, or the end. A drain comes at the end, and now and then
+// between.
+pub fn chunk(mut c: Cut, len: usize) -> Cut {
+    let random = next(c.random);
+    let left = if c.from <= len { len - c.from } else { 0 };
+    let n = length(random, left);
+    if c.asked {
+        say(STDERR_FILENO, b"", n as u64, b" ");
     }
-    true
+    c.random = random;
+    c.to = wrapping_add_usize(c.from, n);
+    c.over = left == 0 && (random >> 8) % 4 == 0;
+    c.drain = c.over || (random >> 5) % 4 == 0;
+    c
 }
 
-// Whether `part` stands in `whole` from there on.
-pub fn stands(whole: &[u8], from: usize, part: &[u8]) -> bool {
-    from <= whole.len() && begins(&whole[from..], part)
+// The bytes from a place to another, where they are there.
+pub fn part<'a>(s: &'a [u8], from: usize, to: usize) -> &'a [u8] {
+    if from <= to && to <= s.len() {
+        &s[from..to]
+    } else {
+        &s[0..0]
+    }
 }

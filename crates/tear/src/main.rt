@@ -5,91 +5,35 @@ mod draw;
 mod torn;
 
 use back::Sum;
-use copier::Answer;
-use copier::Copier;
-use istream::Status;
+use draw::say;
 use libc::STDERR_FILENO;
 use libc::STDIN_FILENO;
 use libc::STDOUT_FILENO;
-use ostream::Count;
 
 // How many runs where none are asked for.
 const RUNS: u64 = 1000;
 
-// Whether the text went out.
-fn say_number(fd: i32, before: &[u8], n: u64, after: &[u8]) -> bool {
-    io::write_all(fd, before) && io::print_decimal(fd, n) && io::write_all(fd, after)
+// The length of a run's buffer.
+fn size(random: u64) -> usize {
+    std::num::wrapping_add_usize(draw::length(random, 4095), 1)
 }
 
-fn complain_at(what: &[u8], n: usize) {
-    io::write_all(STDERR_FILENO, b"tear: ");
-    say_number(STDERR_FILENO, what, n as u64, b"\n");
-}
-
-// The copy in one piece: its length, or that the message isn't complete.
-enum Whole {
-    Bytes(usize),
-    Incomplete,
-    Broken(usize),
-}
-
-fn copy_whole(ticket: &[u8], manifest: &mut [u8]) -> Whole {
-    let opened = Copier::new(manifest, 0);
-    let copier = opened.copier;
-    let copied = copier.feed(ticket, manifest);
-    let answer = copied.answer;
-    let next = copied.copier;
-    let drained = next.flush(manifest);
-    let count = drained.answer;
-    let Answer::Status(s) = answer else {
-        return Whole::Broken(copied.used);
-    };
-    let Status::Complete = s else {
-        return Whole::Incomplete;
-    };
-    match count {
-        Count::Bytes(n) => Whole::Bytes(n),
-        Count::Refused(_) => Whole::Broken(0),
+// A copy through a buffer of a length drawn.
+fn one_copy(ticket: &[u8], manifest: &[u8], random: u64, asked: bool) -> bool {
+    let mut buf = io::buffer();
+    let n = size(random);
+    if buf.len() < n {
+        return false;
     }
+    torn::copies(ticket, manifest, &mut buf[0..n], draw::next(random), asked)
 }
 
-// One run, its cuts shown where asked: a copy through a buffer of a length drawn, the message and the copy read back.
-fn one_run(
-    ticket: &[u8],
-    manifest: &[u8],
-    sum: Sum,
-    buf: &mut [u8],
-    text: &mut [u8],
-    seed: u64,
-    asked: bool,
-) -> bool {
+// One run, its cuts shown where asked: a copy, and the message and the copy read back.
+fn one_run(ticket: &[u8], manifest: &[u8], sum: Sum, seed: u64, asked: bool) -> bool {
     let random = draw::next(seed);
-    let size = std::num::wrapping_add_usize(draw::length(random, 4095), 1);
-    if buf.len() < size {
-        return false;
-    }
-    if asked {
-        say_number(STDERR_FILENO, b"buffer ", size as u64, b", chunks ");
-    }
-    if !torn::copies(
-        ticket,
-        manifest,
-        &mut buf[0..size],
-        draw::next(random),
-        asked,
-    ) {
-        return false;
-    }
-    if !back::same(
-        sum,
-        back::read(ticket, text, draw::next(random >> 1), asked),
-    ) {
-        return false;
-    }
-    back::same(
-        sum,
-        back::read(manifest, text, draw::next(random >> 2), asked),
-    )
+    one_copy(ticket, manifest, random, asked)
+        && back::same(sum, back::read(ticket, draw::next(random >> 1), asked))
+        && back::same(sum, back::read(manifest, draw::next(random >> 2), asked))
 }
 
 // Another number for each run.
@@ -98,44 +42,47 @@ fn seed(run: u64) -> u64 {
 }
 
 // How many runs were as expected, before the first that wasn't.
-fn runs(n: u64, ticket: &[u8], manifest: &[u8], sum: Sum, buf: &mut [u8], text: &mut [u8]) -> u64 {
+fn runs(n: u64, ticket: &[u8], manifest: &[u8], sum: Sum) -> u64 {
     let mut done: u64 = 0;
-    while done < n {
-        if !one_run(ticket, manifest, sum, buf, text, seed(done), false) {
-            return done;
-        }
+    while done < n && one_run(ticket, manifest, sum, seed(done), false) {
         done += 1;
     }
     done
 }
 
 fn conclude(n: u64, len: usize) {
-    let said = say_number(STDOUT_FILENO, b"", n, b" runs, ")
-        && say_number(
+    let said = say(STDOUT_FILENO, b"", n, b" runs, each a copy of the same ")
+        && say(
             STDOUT_FILENO,
-            b"each a copy of the same ",
+            b"",
             len as u64,
-            b" bytes;\n",
-        )
-        && io::write_all(
-            STDOUT_FILENO,
-            b"message and copy, read back in other cuts, gave the same events each time.\n",
+            b" bytes;\nmessage and copy, read back in other cuts, gave the same events each time.\n",
         );
     if !said {
         io::write_all(STDERR_FILENO, b"tear: standard output cannot be written\n");
     }
 }
 
-// The runs, and what they showed; the cuts of the first that differs.
+// A run that differs, with its cuts.
+fn show(run: u64, ticket: &[u8], manifest: &[u8], sum: Sum) {
+    let from = seed(run);
+    say(STDERR_FILENO, b"tear: run ", run, b" differs: buffer ");
+    say(
+        STDERR_FILENO,
+        b"",
+        size(draw::next(from)) as u64,
+        b", chunks ",
+    );
+    one_run(ticket, manifest, sum, from, true);
+    io::write_all(STDERR_FILENO, b"\n");
+}
+
+// The runs, and what they showed.
 fn try_all(n: u64, ticket: &[u8], manifest: &[u8]) {
-    let mut buf = io::large_buffer();
-    let mut text = io::large_buffer();
-    let sum = back::read(ticket, &mut text, seed(n), false);
-    let done = runs(n, ticket, manifest, sum, &mut buf, &mut text);
+    let sum = back::read(ticket, seed(n), false);
+    let done = runs(n, ticket, manifest, sum);
     if done < n {
-        say_number(STDERR_FILENO, b"tear: run ", done, b" differs: ");
-        one_run(ticket, manifest, sum, &mut buf, &mut text, seed(done), true);
-        io::write_all(STDERR_FILENO, b"\n");
+        show(done, ticket, manifest, sum);
     } else {
         conclude(n, manifest.len());
     }
@@ -143,15 +90,23 @@ fn try_all(n: u64, ticket: &[u8], manifest: &[u8]) {
 
 fn tear(n: u64, ticket: &[u8]) {
     let mut manifest = io::large_buffer();
-    let whole = copy_whole(ticket, &mut manifest);
-    match whole {
-        Whole::Bytes(len) => {
-            if len <= manifest.len() {
-                try_all(n, ticket, &manifest[0..len]);
-            }
-        }
-        Whole::Incomplete => complain_at(b"incomplete, it ends after byte ", ticket.len()),
-        Whole::Broken(at) => complain_at(b"broken at byte ", at),
+    let copy = torn::whole(ticket, &mut manifest);
+    if copy.broken {
+        say(
+            STDERR_FILENO,
+            b"tear: broken at byte ",
+            copy.from as u64,
+            b"\n",
+        );
+    } else if copy.complete {
+        try_all(n, ticket, draw::part(&manifest, 0, copy.sent));
+    } else {
+        say(
+            STDERR_FILENO,
+            b"tear: incomplete, it ends after byte ",
+            ticket.len() as u64,
+            b"\n",
+        );
     }
 }
 
@@ -166,10 +121,7 @@ fn digit(b: u8) -> u64 {
 fn number(word: &[u8]) -> u64 {
     let mut n: u64 = 0;
     let mut i: usize = 0;
-    while i < word.len() {
-        if 99999999 < n {
-            return n;
-        }
+    while i < word.len() && n < 100000000 {
         n = std::num::wrapping_add_u64(n * 10, digit(word[i]));
         i += 1;
     }

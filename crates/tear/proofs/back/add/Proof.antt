@@ -4,9 +4,6 @@ use lib.ListN.{length}
 use borrow.Author.Needs.{needs}
 use Rattle.tear.proofs.back.add.Statement.{statement}
 use Rattle.tear.proofs.back.add.Tie as tie
-use Rattle.tear.proofs.back.add.Reads as reads
-use Rattle.tear.proofs.back.add.Lts as lts
-use Rattle.tear.proofs.back.plus.Reads as plus-reads
 
 abbrev Inv-loop : tie.InvT-loop
 Inv-loop start text sum₀ i₀ sum i = Unit {0}

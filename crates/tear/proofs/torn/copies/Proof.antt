@@ -1,13 +1,9 @@
--- `tear::torn::copies` is safe and ends.
+-- `tear::torn::copies` is safe and ends: the buffer keeps its length.
 use mathlib.Core.Path.{_≡_}
 use lib.ListN.{length}
 use borrow.Author.Needs.{needs}
 use Rattle.tear.proofs.torn.copies.Statement.{statement}
 use Rattle.tear.proofs.torn.copies.Tie as tie
-use Rattle.tear.proofs.torn.copies.Reads as reads
-use Rattle.tear.proofs.torn.copies.Lts as lts
-use Rattle.tear.proofs.torn.start.Reads as start-reads
-use Rattle.tear.proofs.torn.turn.Reads as turn-reads
 
 abbrev Inv-loop : tie.InvT-loop
 Inv-loop ticket manifest buf₀ seed asked t₀ turns₀ buf t turns = length buf ≡ length buf₀
@@ -19,6 +15,6 @@ pub copies-spec : {M : Type 1} → statement M
 copies-spec =
     tie.close
     (tie.spec
-    Inv-loop μ-loop (λ c κs. search needs) (λ c. search needs) (λ c. search needs) (λ c. search needs)
-    (λ c. search needs) (λ c. search needs) (λ c κs. search needs) (λ c. search needs) (λ c. search needs)
-    (λ c. search needs) (λ c. search needs) (λ c. search needs))
+    Inv-loop μ-loop (λ c κs. search needs) (λ c κs. search needs) (λ c. search needs) (λ c κs. search needs)
+    (λ c. search needs) (λ c. search needs) (λ c. search needs) (λ c κs. search needs) (λ c. search needs)
+    (λ c. search needs))

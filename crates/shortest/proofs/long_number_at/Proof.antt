@@ -1,11 +1,11 @@
--- `own::long_number_at` meets its contract: the bytes so far go on, and any number above 0 may follow them.
+-- `shortest::long_number_at` meets its contract: the bytes so far go on, and any number above 0 may follow them.
 use Prim.Native.Nat.{_-_}
 use lib.ListN.{length}
-use Rattle.own.proofs.Spans.{none}
-use Rattle.own.proofs.Varints.{Going, going-start, going-from, going-more, going-ends, going-last, one-ends}
+use Rattle.shortest.proofs.Spans.{none}
+use Rattle.shortest.proofs.Varints.{Going, going-start, going-from, going-more, going-ends, going-last, one-ends}
 use borrow.Author.Needs.{needs}
-use Rattle.own.proofs.long_number_at.Statement.{statement}
-use Rattle.own.proofs.long_number_at.Tie as tie
+use Rattle.shortest.proofs.long_number_at.Statement.{statement}
+use Rattle.shortest.proofs.long_number_at.Tie as tie
 
 abbrev Inv-loop : tie.InvT-loop
 Inv-loop t at i₀ i = Going t at i

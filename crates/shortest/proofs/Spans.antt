@@ -7,7 +7,7 @@ use native.Mathlib.Omega.{arith}
 use lib.ListN.{length, take, drop, getD, length-append, length-drop, take-append-drop}
 use lib.Seq.{drop-cons, drop-drop, length-take-le, take-at}
 use Rattle.layout.specs.Message.{Bytes}
-use Rattle.own.specs.Own.{Stretch, Ends}
+use Rattle.shortest.specs.Own.{Stretch, Ends}
 
 -- ---- stretches
 

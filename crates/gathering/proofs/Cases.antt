@@ -8,12 +8,11 @@ use lib.ListN.{length}
 use lib.Seq.{paste}
 use lib.Dec.{eqb}
 use borrow.Author.Tests.{lt-ltb, le-ltb, le-leb, lt-leb, eq-eqb, ne-eqb}
-use Rattle.payload.specs.declared.PayloadAcc.{PayloadAcc}
-use Rattle.payload.specs.Gather.{Gathered, nothing, inChunk, inBuffer, number, fresh, begun, untouched, owed, copied, holdsWhole, accepted, gathered}
+use Rattle.gathering.specs.Gather.{Gatherer, Gathered, nothing, inChunk, inBuffer, number, fresh, begun, untouched, owed, copied, holdsWhole, accepted, gathered}
 
 -- ---- the copy, of n bytes into what is then b′
 
-module _ (a : PayloadAcc) (b b′ chunk : List ℕ) (total n : ℕ) (hn : n ≡ owed (a .len) total (length chunk)) (hb : b′ ≡ paste b (a .len) chunk n) where
+module _ (a : Gatherer) (b b′ chunk : List ℕ) (total n : ℕ) (hn : n ≡ owed (a .len) total (length chunk)) (hb : b′ ≡ paste b (a .len) chunk n) where
   pub partial : a .complete ≡ false → a .len + n < total → untouched nothing (record { len = a .len + n; complete = a .complete }) b′ ≡ copied a b total chunk
   unfolding copied
   partial e h = simp (← hn, lt-leb _ _ h, e, hb)
@@ -24,7 +23,7 @@ module _ (a : PayloadAcc) (b b′ chunk : List ℕ) (total n : ℕ) (hn : n ≡ 
 
 -- ---- the tests of a sound state, in their order
 
-module _ (a : PayloadAcc) (b : List ℕ) (total offset : ℕ) (chunk : List ℕ) where
+module _ (a : Gatherer) (b : List ℕ) (total offset : ℕ) (chunk : List ℕ) where
   pub over-already : a .complete ≡ true → untouched nothing a b ≡ accepted a b total offset chunk
   unfolding accepted
   over-already e = simp e
@@ -50,7 +49,7 @@ module _ (a : PayloadAcc) (b : List ℕ) (total offset : ℕ) (chunk : List ℕ)
 
 -- ---- the test of the state
 
-module _ (a : PayloadAcc) (b : List ℕ) (total offset : ℕ) (chunk : List ℕ) where
+module _ (a : Gatherer) (b : List ℕ) (total offset : ℕ) (chunk : List ℕ) where
   pub unsound : length b < a .len → untouched (number 3) a b ≡ gathered a b total offset chunk
   unfolding gathered
   unsound h = simp (lt-leb _ _ h)
@@ -60,8 +59,8 @@ module _ (a : PayloadAcc) (b : List ℕ) (total offset : ℕ) (chunk : List ℕ)
   in-order h = simp (le-leb _ _ h)
 
 -- a state that has forgotten, or not, holds no more than before
-pub begun-within : (a s : PayloadAcc) (offset n : ℕ) → s ≡ begun a offset → a .len ≤ n → s .len ≤ n
-begun-within a s offset n e h = subst (λ (x : PayloadAcc). x .len ≤ n) (sym e) (go (eqb offset 0))
+pub begun-within : (a s : Gatherer) (offset n : ℕ) → s ≡ begun a offset → a .len ≤ n → s .len ≤ n
+begun-within a s offset n e h = subst (λ (x : Gatherer). x .len ≤ n) (sym e) (go (eqb offset 0))
   where
     go : (t : Bool) → cond t fresh a .len ≤ n
     go true = omega arith

@@ -3,8 +3,7 @@
 use Prim.Native.Nat.{ℕ, _+_, _-_}
 use mathlib.Core.List.{List, [], _∷_, _++_}
 use lib.ListN.{length, replicate}
-use Rattle.payload.specs.declared.PayloadAcc.{PayloadAcc}
-use Rattle.payload.specs.Gather.{Said, nothing, inChunk, inBuffer, number, Gathered, gathered, partOf}
+use Rattle.gathering.specs.Gather.{Gatherer, Said, nothing, inChunk, inBuffer, number, Gathered, gathered, partOf}
 
 -- What the two calls tell: "nothing yet", the whole payload, or a refusal by its number.
 pub data Outcome : Type 0 where
@@ -29,7 +28,7 @@ pub record Handed : Type 0 where
   pub buf : List ℕ
 
 -- The pieces from an offset on, one call for each.
-unfoldable pub handed : PayloadAcc → List ℕ → ℕ → ℕ → List (List ℕ) → List Handed
+unfoldable pub handed : Gatherer → List ℕ → ℕ → ℕ → List (List ℕ) → List Handed
 handed a b total offset [] = []
 handed a b total offset (p ∷ ps) =
     let g = gathered a b total offset p in
@@ -55,7 +54,7 @@ pub data Pieces : List (List ℕ) → Type 0 where
   split : {ps : List (List ℕ)} → Split ps → Pieces ps
 
 -- A payload handed from its start.
-abbrev pub handedWhole : PayloadAcc → List ℕ → List (List ℕ) → List Handed
+abbrev pub handedWhole : Gatherer → List ℕ → List (List ℕ) → List Handed
 handedWhole a b ps = handed a b (length (joined ps)) 0 ps
 
 -- "Nothing yet" before the last of k pieces, and the payload at the last.

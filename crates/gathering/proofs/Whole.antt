@@ -9,14 +9,13 @@ use lib.Dec.{eqb, leb}
 use lib.ListN.{length, take, replicate, length-append}
 use lib.Seq.{paste, length-paste, take-paste, take-length}
 use borrow.Author.Tests.{lt-ltb, le-ltb, le-leb, lt-leb, ne-eqb, leb-true}
-use Rattle.payload.specs.declared.PayloadAcc.{PayloadAcc}
-use Rattle.payload.specs.Gather.{nothing, inChunk, inBuffer, number, Gathered, sound, fresh, begun, untouched, owed, copied, accepted, gathered}
-use Rattle.payload.specs.Run.{Outcome, nothingYet, whole, refused, told, Handed, handed, outcomes, joined, Split, one, more, Pieces, empty, split, handedWhole, atLast}
-use Rattle.payload.proofs.Cases.{in-order, next}
+use Rattle.gathering.specs.Gather.{Gatherer, nothing, inChunk, inBuffer, number, Gathered, sound, fresh, begun, untouched, owed, copied, accepted, gathered}
+use Rattle.gathering.specs.Run.{Outcome, nothingYet, whole, refused, told, Handed, handed, outcomes, joined, Split, one, more, Pieces, empty, split, handedWhole, atLast}
+use Rattle.gathering.proofs.Cases.{in-order, next}
 
 -- ---- a run, with what its first call leaves
 
-module _ (a : PayloadAcc) (b : List ℕ) (total offset : ℕ) (p : List ℕ) (ps : List (List ℕ)) (g : Gathered) where
+module _ (a : Gatherer) (b : List ℕ) (total offset : ℕ) (p : List ℕ) (ps : List (List ℕ)) (g : Gathered) where
   first-call : gathered a b total offset p ≡ g
       → handed a b total offset (p ∷ ps) ≡ record { outcome = told g p; buf = g .buf } ∷ handed (g .acc) (g .buf) total (offset + length p) ps
   unfolding handed
@@ -28,7 +27,7 @@ module _ (a : PayloadAcc) (b : List ℕ) (total offset : ℕ) (p : List ℕ) (ps
 
 -- ---- n bytes held of a payload that is not whole
 
-abbrev holding : ℕ → PayloadAcc
+abbrev holding : ℕ → Gatherer
 holding n = record { len = n; complete = false }
 
 -- a piece that is not the last, and the last one
@@ -110,7 +109,7 @@ going b done n total (more {x} {p} {ps} s) pos l d e h =
 
 -- ---- the first piece, in any sound state
 
-module _ (a : PayloadAcc) (b : List ℕ) (total : ℕ) (p : List ℕ) (s : sound a b ≡ true) (fits : total ≤ length b) where
+module _ (a : Gatherer) (b : List ℕ) (total : ℕ) (p : List ℕ) (s : sound a b ≡ true) (fits : total ≤ length b) where
   starts : gathered a b total 0 p ≡ accepted fresh b total 0 p
   starts = in-order a b total 0 p (leb-true _ _ s)
 
@@ -129,7 +128,7 @@ holds-whole-told b p w e =
     ap (λ (y : List ℕ). told (untouched (inChunk (length y)) (record { len = 0; complete = true }) b) p) e ∙ simp (le-leb _ _ s, le-leb _ _ f, take-length p, e)
 
 -- The pieces of one payload, in order, to a gatherer in any sound state, over any buffer that is long enough.
-pub whole-at-last : (a : PayloadAcc) (b : List ℕ) (ps : List (List ℕ)) → Pieces ps → sound a b ≡ true → length (joined ps) ≤ length b
+pub whole-at-last : (a : Gatherer) (b : List ℕ) (ps : List (List ℕ)) → Pieces ps → sound a b ≡ true → length (joined ps) ≤ length b
     → outcomes (handedWhole a b ps) ≡ atLast (length ps) (joined ps)
 unfolding handed
 whole-at-last a b ps empty s h = first-outcome a b 0 0 [] [] _ (starts-whole a b 0 [] s h (omega arith)) (holds-whole-told b [] [] refl) refl
@@ -171,11 +170,11 @@ unfolding handed
 all-refused b total offset [] h = refl
 all-refused b total offset (p ∷ ps) h =
     let e : gathered fresh b total offset p ≡ untouched (number 4) fresh b =
-    in-order fresh b total offset p (omega arith) ∙ ap (λ (a : PayloadAcc). accepted a b total offset p) (still-fresh offset) ∙ too-long b total offset p h in
+    in-order fresh b total offset p (omega arith) ∙ ap (λ (a : Gatherer). accepted a b total offset p) (still-fresh offset) ∙ too-long b total offset p h in
     first-call fresh b total offset p ps _ e ∙ ap (λ (l : List Handed). refusedOver b ∷ l) (all-refused b total (offset + length p) ps h)
 
 -- The pieces of one payload, in order, to a gatherer in any sound state, over a buffer that is shorter than the payload.
-pub too-long-throughout : (a : PayloadAcc) (b : List ℕ) (ps : List (List ℕ)) → sound a b ≡ true → length b < length (joined ps)
+pub too-long-throughout : (a : Gatherer) (b : List ℕ) (ps : List (List ℕ)) → sound a b ≡ true → length b < length (joined ps)
     → handedWhole a b ps ≡ replicate (length ps) (record { outcome = refused 4; buf = b })
 unfolding handed
 too-long-throughout a b [] s h = refl

@@ -3,12 +3,11 @@ use Prim.Native.Nat.{ℕ}
 use mathlib.Core.Path.{_≡_, refl}
 use mathlib.Core.Bool.{true, false}
 use mathlib.Core.List.{List, [], _∷_}
-use Rattle.payload.specs.declared.PayloadAcc.{PayloadAcc}
-use Rattle.payload.specs.Gather.{nothing, inChunk, inBuffer, number, Gathered, fresh, untouched, copied, accepted, gathered, partOf}
+use Rattle.gathering.specs.Gather.{Gatherer, nothing, inChunk, inBuffer, number, Gathered, fresh, untouched, copied, accepted, gathered, partOf}
 
 -- a row: the state, the payload's length, the piece's offset and the chunk; what the first call says and leaves, and the second's part
 pub record Row : Type 0 where
-  pub held : PayloadAcc
+  pub held : Gatherer
   pub total : ℕ
   pub offset : ℕ
   pub chunk : List ℕ
@@ -28,13 +27,13 @@ saidAll [] = []
 saidAll (r ∷ rs) = said r ∷ saidAll rs
 
 -- two bytes held of a payload; the same once it is whole; and more held than the buffer has
-abbrev two : PayloadAcc
+abbrev two : Gatherer
 two = record { len = 2; complete = false }
 
-abbrev over : PayloadAcc
+abbrev over : Gatherer
 over = record { len = 2; complete = true }
 
-abbrev wild : PayloadAcc
+abbrev wild : Gatherer
 wild = record { len = 5; complete = true }
 
 abbrev pub table : List Row

@@ -6,11 +6,11 @@ use mathlib.Core.List.{List, []}
 use lib.ListN.{length, take}
 use lib.Seq.{paste}
 use lib.Dec.{eqb, leb, ltb}
-use Rattle.types.specs.Types.{numberOf}
-use Rattle.payload.specs.declared.PayloadAcc.{PayloadAcc}
-use Rattle.payload.specs.declared.Answer.{Answer}
-use Rattle.payload.specs.declared.Answer.the-variants.{Nothing, InChunk, InBuffer, Refused}
-use Rattle.payload.specs.declared.Fed.{Fed}
+
+-- The gatherer's state: how much of the current payload the lent buffer holds, and whether that payload was already whole.
+pub record Gatherer : Type 0 where
+  pub len : ℕ
+  pub complete : Bool
 
 -- What `feed` says, in 01's words: "nothing yet"; whole, as the first so many bytes of the chunk or of the buffer; or a refusal's number.
 pub data Said : Type 0 where
@@ -19,36 +19,25 @@ pub data Said : Type 0 where
   inBuffer : ℕ → Said
   number : ℕ → Said
 
--- 01's words and number of each answer.
-abbrev pub saidOf : Answer → Said
-saidOf Nothing = nothing
-saidOf (InChunk n) = inChunk n
-saidOf (InBuffer n) = inBuffer n
-saidOf (Refused e) = number (numberOf e)
-
 -- What a call of `feed` says and leaves: the state, and the lent buffer.
 pub record Gathered : Type 0 where
   pub said : Said
-  pub acc : PayloadAcc
+  pub acc : Gatherer
   pub buf : List ℕ
 
--- The code's result and the buffer as the call leaves it, as such a record.
-abbrev pub resultOf : Fed → List ℕ → Gathered
-resultOf r b = record { said = saidOf (r .answer); acc = r .acc; buf = b }
-
 -- "Gatherer: length held at most the lent buffer's."
-abbrev pub sound : PayloadAcc → List ℕ → Bool
+abbrev pub sound : Gatherer → List ℕ → Bool
 sound a b = leb (a .len) (length b)
 
-abbrev pub fresh : PayloadAcc
+abbrev pub fresh : Gatherer
 fresh = record { len = 0; complete = false }
 
 -- "Offset 0 forgets the last payload."
-abbrev pub begun : PayloadAcc → ℕ → PayloadAcc
+abbrev pub begun : Gatherer → ℕ → Gatherer
 begun a offset = cond (eqb offset 0) fresh a
 
 -- The answer of a call that leaves the buffer as it is.
-abbrev pub untouched : Said → PayloadAcc → List ℕ → Gathered
+abbrev pub untouched : Said → Gatherer → List ℕ → Gathered
 untouched w a b = record { said = w; acc = a; buf = b }
 
 -- "The bytes still owed", of so many given: none where "`total` shrinks below the length held".
@@ -56,7 +45,7 @@ abbrev pub owed : ℕ → ℕ → ℕ → ℕ
 owed held total given = min (total - held) given
 
 -- "The bytes still owed are copied, none beyond them, and, once all are there, the answer is that part of the buffer."
-unfoldable pub copied : PayloadAcc → List ℕ → ℕ → List ℕ → Gathered
+unfoldable pub copied : Gatherer → List ℕ → ℕ → List ℕ → Gathered
 copied a b total chunk =
     let n = owed (a .len) total (length chunk) in
     let whole = leb total (a .len + n) in
@@ -72,7 +61,7 @@ holdsWhole total offset given = eqb offset 0 && leb total given
 
 -- A state that is sound and has forgotten what it had to: one after completion says "nothing yet"; then comes number 4; then "the answer is that
 -- part of the chunk and the buffer is untouched"; "a chunk at any other offset than the length held" has "nothing yet".
-unfoldable pub accepted : PayloadAcc → List ℕ → ℕ → ℕ → List ℕ → Gathered
+unfoldable pub accepted : Gatherer → List ℕ → ℕ → ℕ → List ℕ → Gathered
 unfolding copied
 accepted a b total offset chunk =
     cond (a .complete) (untouched nothing a b)
@@ -82,7 +71,7 @@ accepted a b total offset chunk =
     (untouched nothing a b))))
 
 -- A call of `feed`. "Number 3: the gatherer state isn't sound; state and buffer return unaltered."
-unfoldable pub gathered : PayloadAcc → List ℕ → ℕ → ℕ → List ℕ → Gathered
+unfoldable pub gathered : Gatherer → List ℕ → ℕ → ℕ → List ℕ → Gathered
 unfolding accepted
 gathered a b total offset chunk =
     cond (sound a b) (accepted (begun a offset) b total offset chunk) (untouched (number 3) a b)
@@ -99,5 +88,5 @@ named (inBuffer n) b chunk = firstOf b n
 named (number k) b chunk = []
 
 -- A call of `payload`. "It returns an empty part where that answer isn't whole, the state isn't sound or the slice lent is too short."
-abbrev pub partOf : Said → PayloadAcc → List ℕ → List ℕ → List ℕ
+abbrev pub partOf : Said → Gatherer → List ℕ → List ℕ → List ℕ
 partOf w a b chunk = cond (sound a b) (named w b chunk) []

@@ -6,7 +6,7 @@ use Rattle.layout.specs.Limits.{base, pick}
 use Rattle.layout.specs.Field.{Subtype, float, raw, string, blob}
 use Rattle.types.specs.declared.FixlenType.{FixlenType}
 use Rattle.types.specs.Types.{subtype, refusal}
-use Rattle.answers.specs.Judged.{Test}
+use Rattle.refusals.specs.Judged.{Test}
 
 -- "Number 5: an opening offset exceeds the buffer, or a writer to be drained would have no byte free".
 abbrev pub badBuffer : ℕ → ℕ → Bool → Test

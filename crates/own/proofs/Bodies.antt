@@ -1,7 +1,8 @@
 -- What follows a header, type by type: with the header it is a field in its shortest form.
-use Prim.Native.Nat.{ℕ, zero, suc, _+_, _*_, _/_, _%_, _^_, _≤_, _<_}
+use Prim.Native.Nat.{ℕ, zero, suc, _+_, _-_, _*_, _/_, _%_, _^_, _≤_, _<_}
 use mathlib.Core.Path.{_≡_, refl, sym, ap, _∙_, subst}
 use mathlib.Core.List.{List, [], _∷_, _++_, append-nil}
+use native.Mathlib.Nat.{pow-suc}
 use native.Mathlib.Numerals.{add-one}
 use native.Mathlib.Omega.{arith}
 use lib.IntN.{ℤ}
@@ -10,15 +11,15 @@ use lib.Seq.{length-take-le}
 use Rattle.layout.specs.Limits.{base}
 use Rattle.layout.specs.Varint.{shortest}
 use Rattle.layout.specs.Zigzag.{zigzag, unzigzag}
-use Rattle.layout.specs.Field.{Width, Wire, bytesOf, subtypeNumber, wireNumber, header, word, lowBytes, each}
-use Rattle.layout.specs.Field.{float, T-unsigned, T-signed, T-unsigneds, T-signeds, T-floats, T-begin}
-use Rattle.layout.specs.Field.{unsigned, signed, unsignedArray, signedArray, floatArray, begin}
+use Rattle.layout.specs.Field.{Width, Raw, Wire, bytesOf, subtypeNumber, wireNumber, header, word, lowBytes, each}
+use Rattle.layout.specs.Field.{float, raw, T-unsigned, T-signed, T-fixlen, T-unsigneds, T-signeds, T-floats, T-begin}
+use Rattle.layout.specs.Field.{unsigned, signed, payload, unsignedArray, signedArray, floatArray, begin, end}
 use Rattle.layout.specs.Copy.{fieldBytes}
 use Rattle.layout.specs.Message.{All, Bytes, depthAfter}
 use Rattle.varint.proofs.Zigzag.{zigzag-unzigzag}
 use Rattle.shortest.specs.Own.{OwnFields, Numbers, Number, Body}
 use Rattle.shortest.proofs.Spans.{bytes-drop, bytes-front}
-use Rattle.shortest.proofs.Fields.{fields-one, Low, low-of}
+use Rattle.own.proofs.Runs.{fields-one}
 
 -- ---- scalars
 
@@ -34,6 +35,27 @@ signed-body bs n id d h =
     (ap (λ (l : List ℕ). header id T-signed ++ l) (n .2 ∙ ap shortest e))
 
 -- ---- floats, low byte first
+
+record Low (n : ℕ) (bs : List ℕ) : Type 0 where
+  bits : ℕ
+  small : bits < 256 ^ n
+  bytes : bs ≡ lowBytes n bits
+
+low-of : (n : ℕ) (bs : List ℕ) → Bytes bs → length bs ≡ n → Low n bs
+unfolding lowBytes
+low-of zero [] a e = record { bits = 0; small = omega arith; bytes = refl }
+low-of zero (b ∷ bs) a e = absurd (omega arith)
+low-of (suc n) [] a e = absurd (omega arith)
+low-of (suc n) (b ∷ bs) a e =
+    let l = low-of n bs (a .1) (omega arith) in
+    let h : b < 256 = a .0 in
+    let q : (b + 256 * l .bits) / 256 ≡ l .bits = omega arith in
+    let r : (b + 256 * l .bits) % 256 ≡ b = omega arith in
+    record {
+      bits = b + 256 * l .bits;
+      small = omega (arith, l .small, pow-suc 256 n);
+      bytes = ap (λ (x : List ℕ). b ∷ x) (l .bytes ∙ ap (lowBytes n) (sym q)) ∙ ap (λ (x : ℕ). x ∷ lowBytes n ((b + 256 * l .bits) / 256)) (sym r);
+    }
 
 record Lows (w n : ℕ) (bs : List ℕ) : Type 0 where
   list : List ℕ
@@ -63,6 +85,25 @@ lows-of w (suc n) bs a e =
     lows-more w n bs
     (low-of w (take w bs) (bytes-front (take w bs) (drop w bs) (subst Bytes (sym (take-append-drop w bs)) a)) (length-take-le w bs (omega arith)))
     (lows-of w n (drop w bs) (bytes-drop w bs a) (omega (arith, length-drop w bs)))
+
+-- ---- a word and the bytes after it
+
+worded : (w : ℕ) (n s : ℕ) → w / 8 ≡ n → w % 8 ≡ s → w ≡ n * 8 + s
+worded w n s p q = omega arith
+
+pub float-body : (x : Width) (w : ℕ) → w ≡ bytesOf x * 8 + subtypeNumber (float x) → (xs ys : List ℕ) → xs ≡ shortest w → (length ys ≡ bytesOf x) × Bytes ys → Body T-fixlen (xs ++ ys)
+unfolding fieldBytes depthAfter
+float-body x w f xs ys e b id d h =
+    let l = low-of (bytesOf x) ys (b .1) (b .0) in
+    fields-one base d (float id x (l .bits)) _ (h, l .small) tt
+    (ap (λ (z : List ℕ). header id T-fixlen ++ (z ++ ys)) (e ∙ ap shortest f)
+    ∙ ap (λ (z : List ℕ). header id T-fixlen ++ (word (bytesOf x) (float x) ++ z)) (l .bytes))
+
+pub raw-body : (r : Raw) (w : ℕ) → w % 8 ≡ subtypeNumber (raw r) → w / 8 ≤ base .size → (xs ys : List ℕ) → xs ≡ shortest w → (length ys ≡ w / 8) × Bytes ys → Body T-fixlen (xs ++ ys)
+unfolding fieldBytes depthAfter
+raw-body r w s n xs ys e b id d h =
+    fields-one base d (payload id r ys) _ (h, subst (λ (k : ℕ). k ≤ base .size) (sym (b .0)) n, b .1) tt
+    (ap (λ (z : List ℕ). header id T-fixlen ++ (z ++ ys)) (e ∙ ap shortest (worded w (length ys) (subtypeNumber (raw r)) (sym (b .0)) s)))
 
 -- ---- arrays
 
@@ -124,3 +165,7 @@ unfolding fieldBytes depthAfter
 opens h d i e l =
     subst (λ (n : ℕ). OwnFields base d (shortest h ++ []) n) (sym (add-one d))
     (fields-one base d (begin (h / 8)) _ i l (append-nil (shortest h) ∙ headed h T-begin e))
+
+pub closes : (h d : ℕ) → h ≡ 7 → 0 < d → OwnFields base d (shortest h ++ []) (d - 1)
+unfolding fieldBytes depthAfter
+closes h d e l = fields-one base d (end 0) _ (omega arith) l (append-nil (shortest h) ∙ ap shortest e)

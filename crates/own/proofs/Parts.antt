@@ -1,17 +1,17 @@
 -- What stands at a place of a slice, part after part; and the runs of numbers and of fields.
 use Prim.Native.Nat.{ℕ, zero, suc, _+_, _-_, _*_, _/_, _%_, _≤_, _<_}
 use mathlib.Core.Path.{_≡_, refl, sym, subst}
-use mathlib.Core.List.{List, _++_, append-nil}
+use mathlib.Core.List.{List, _++_}
 use native.Mathlib.Omega.{arith}
 use lib.ListN.{length, getD}
 use Rattle.layout.specs.Limits.{base}
 use Rattle.layout.specs.Varint.{shortest}
-use Rattle.layout.specs.Field.{Width, bytesOf, subtypeNumber, float, T-unsigned, T-signed, T-fixlen, T-unsigneds, T-signeds, T-floats}
-use Rattle.shortest.specs.Own.{OwnFields, Numbers, Number, Body, Worded, Stretch, Ends}
+use Rattle.layout.specs.Field.{Width, bytesOf, subtypeNumber, float, string, blob, T-unsigned, T-signed, T-fixlen, T-unsigneds, T-signeds, T-floats}
+use Rattle.shortest.specs.Own.{OwnFields, Numbers, Number, Body, Stretch, Ends}
 use Rattle.shortest.proofs.Spans.{here, stretch-then, all-bytes, reaches, found-at, ends-bytes, ends-then}
 use Rattle.shortest.proofs.Varints.{one}
 use Rattle.own.proofs.Runs.{fields-none, fields-append, numbers-none, numbers-one, numbers-append}
-use Rattle.own.proofs.Bodies.{unsigned-body, signed-body, unsigneds-body, signeds-body, floats-body, with-header, opens}
+use Rattle.own.proofs.Bodies.{unsigned-body, signed-body, float-body, raw-body, unsigneds-body, signeds-body, floats-body, with-header, opens, closes}
 
 -- ---- numbers in a row
 
@@ -27,11 +27,19 @@ row-next {n = n} r l e z =
 
 -- ---- what follows a header
 
--- a word and as many bytes as it says
-pub word-ends : {t : List ℕ} {at i : ℕ} (w r : ℕ) → ((k : ℕ) → getD t k 0 < 256) → Ends t at (λ bs. bs ≡ shortest w) i → (i ≡ 0 → ⊥) → Worded w
-    → Ends t i (λ bs. length bs ≡ w / 8) r → Ends t at (Body T-fixlen) r
-word-ends {t} w r b e n f j =
-    ends-then (found-at e n) (ends-bytes (all-bytes t b) j) (λ xs ys p q. subst (λ (x : List ℕ). Body T-fixlen (x ++ ys)) (sym p) (f ys (q .0) (q .1)))
+module _ {t : List ℕ} {at i : ℕ} (w : ℕ) (b : (k : ℕ) → getD t k 0 < 256) (e : Ends t at (λ bs. bs ≡ shortest w) i) (n : i ≡ 0 → ⊥) where
+  pub float-ends : (x : Width) (r : ℕ) → w % 8 ≡ subtypeNumber (float x) → w / 8 ≡ bytesOf x → Ends t i (λ bs. length bs ≡ bytesOf x) r → Ends t at (Body T-fixlen) r
+  float-ends x r s l j = ends-then (found-at e n) (ends-bytes (all-bytes t b) j) (float-body x w (omega arith))
+
+  pub raw-ends : (r : ℕ) → (w % 8 ≡ 0 → ⊥) → (w % 8 ≡ 1 → ⊥) → w % 8 < 4 → w / 8 ≤ base .size → Ends t i (λ bs. length bs ≡ w / 8) r → Ends t at (Body T-fixlen) r
+  raw-ends r p q l s j = go (w % 8) refl p q l
+    where
+      go : (k : ℕ) → w % 8 ≡ k → (k ≡ 0 → ⊥) → (k ≡ 1 → ⊥) → k < 4 → Ends t at (Body T-fixlen) r
+      go zero g p q l = absurd (p refl)
+      go (suc zero) g p q l = absurd (q refl)
+      go (suc (suc zero)) g p q l = ends-then (found-at e n) (ends-bytes (all-bytes t b) j) (raw-body string w g s)
+      go (suc (suc (suc zero))) g p q l = ends-then (found-at e n) (ends-bytes (all-bytes t b) j) (raw-body blob w g s)
+      go (suc (suc (suc (suc k)))) g p q l = absurd (omega arith)
 
 module _ {t : List ℕ} {at i c : ℕ} (e : Ends t at (λ bs. (c ≤ base .count) × (bs ≡ shortest c)) i) (n : i ≡ 0 → ⊥) where
   pub count-small : c ≤ base .count
@@ -88,8 +96,8 @@ array-field h d bs i a g l b = go (h % 8) refl a g l
 pub open-ends : (t : List ℕ) (at h d : ℕ) → at ≤ length t → h / 8 ≤ base .id → h % 8 ≡ 6 → d < base .depth → Ends t at (λ bs. OwnFields base d (shortest h ++ bs) (d + 1)) at
 open-ends t at h d p i e l = reaches p (here at (opens h d i e l))
 
-pub close-ends : (t : List ℕ) (at h d : ℕ) → at ≤ length t → OwnFields base d (shortest h) (d - 1) → Ends t at (λ bs. OwnFields base d (shortest h ++ bs) (d - 1)) at
-close-ends t at h d p o = reaches p (here at (subst (λ (x : List ℕ). OwnFields base d x (d - 1)) (sym (append-nil (shortest h))) o))
+pub close-ends : (t : List ℕ) (at h d : ℕ) → at ≤ length t → h ≡ 7 → 0 < d → Ends t at (λ bs. OwnFields base d (shortest h ++ bs) (d - 1)) at
+close-ends t at h d p e l = reaches p (here at (closes h d e l))
 
 -- a header and what follows it
 pub field-ends : {t : List ℕ} {at i r : ℕ} (h d f : ℕ) → Ends t at (λ bs. (h / 8 ≤ base .id) × (bs ≡ shortest h)) i → (i ≡ 0 → ⊥) →

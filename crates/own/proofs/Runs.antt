@@ -8,7 +8,7 @@ use Rattle.layout.specs.Varint.{shortest}
 use Rattle.layout.specs.Field.{Field, each}
 use Rattle.layout.specs.Copy.{fieldBytes, encode}
 use Rattle.layout.specs.Message.{All, depthAfter}
-use Rattle.laws.specs.Legal.{Legal, Balanced}
+use Rattle.laws.specs.Legal.{Legal, Nests, Balanced}
 use Rattle.shortest.specs.Own.{OwnFields, Numbers}
 
 each-append : {A : Type 0} (f : A → List ℕ) (xs ys : List A) → each f (xs ++ ys) ≡ each f xs ++ each f ys
@@ -29,6 +29,10 @@ balanced-append L d e f (x ∷ xs) ys a b = (a .0, balanced-append L (depthAfter
 pub fields-none : (L : Limits) (d : ℕ) → OwnFields L d [] d
 unfolding encode each
 fields-none L d = record { fields = []; legal = tt; balanced = refl; bytes = refl }
+
+pub fields-one : (L : Limits) (d : ℕ) (x : Field) (bs : List ℕ) → Legal L x → Nests L d x → bs ≡ fieldBytes x → OwnFields L d bs (depthAfter d x)
+unfolding encode each
+fields-one L d x bs l n e = record { fields = x ∷ []; legal = (l, tt); balanced = (n, refl); bytes = e ∙ sym (append-nil (fieldBytes x)) }
 
 pub fields-append : (L : Limits) (d e f : ℕ) (xs ys : List ℕ) → OwnFields L d xs e → OwnFields L e ys f → OwnFields L d (xs ++ ys) f
 unfolding encode

@@ -11,9 +11,11 @@ ghost use Rattle.layout.specs.Varint.{shortest};
 ghost use Rattle.layout.specs.Field.{T-fixlen, T-unsigneds, T-signeds, T-floats};
 ghost use Rattle.shortest.specs.Own.{OwnFields, Numbers, Number, Body, Stretch, Ends};
 use shortest::is_close;
-use shortest::is_word;
+use shortest::is_fp32_length;
+use shortest::is_fp64_length;
 use shortest::long_number_at;
 use types::ARRAY_MAX;
+use types::FIXLEN_MAX;
 use types::ID_MAX;
 use types::MAX_DEPTH;
 use varint::Acc;
@@ -224,7 +226,19 @@ fn fixlen_at(t: &[u8], at: usize) -> usize
     if i == 0 {
         return 0;
     }
-    if is_word(w) { jump(t, i, w / 8) } else { 0 }
+    let n = w / 8;
+    match w % 8 {
+        0 => { if is_fp32_length(n) { jump(t, i, 4) } else { 0 } }
+        1 => { if is_fp64_length(n) { jump(t, i, 8) } else { 0 } }
+        2 | 3 => {
+            if n <= FIXLEN_MAX as u64 {
+                jump(t, i, n)
+            } else {
+                0
+            }
+        }
+        _ => 0,
+    }
 }
 
 // Signed elements are in their shortest form where unsigned ones are.
@@ -306,14 +320,15 @@ fn body_at(t: &[u8], at: usize, h: u64, depth: u8) -> Next
             }
         }
         _ => {
-            if is_close(h, depth) {
-                Next {
-                    at,
-                    depth: depth - 1,
+            if is_close(h) {
+                if 0 < depth {
+                    return Next {
+                        at,
+                        depth: depth - 1,
+                    };
                 }
-            } else {
-                Next { at: 0, depth }
             }
+            Next { at: 0, depth }
         }
     }
 }

@@ -1,14 +1,14 @@
 -- Bytes that are whole fields, or an array's elements, in their shortest form; and what an answer says of the bytes before the place that
 -- it names.
-use Prim.Native.Nat.{ℕ, _/_, _^_, _≤_, _<_}
+use Prim.Native.Nat.{ℕ, _^_, _≤_, _<_}
 use mathlib.Core.Path.{_≡_}
 use mathlib.Core.List.{List, _++_}
 use lib.ListN.{length, drop}
 use Rattle.layout.specs.Limits.{Limits, base}
 use Rattle.layout.specs.Varint.{shortest}
-use Rattle.layout.specs.Field.{Wire, Field, T-fixlen, header, each}
+use Rattle.layout.specs.Field.{Wire, Field, header, each}
 use Rattle.layout.specs.Copy.{encode}
-use Rattle.layout.specs.Message.{All, Bytes}
+use Rattle.layout.specs.Message.{All}
 use Rattle.laws.specs.Legal.{Legal, Balanced}
 
 -- bytes that are whole fields in their shortest form, from one depth to another
@@ -32,10 +32,6 @@ Number bs = (v : ℕ) × (v < 2 ^ base .bits) × (bs ≡ shortest v)
 -- what makes a field in its shortest form of a header of this type, whatever the id; the depth stays
 abbrev pub Body : Wire → List ℕ → Type 0
 Body w bs = (id d : ℕ) → id ≤ base .id → OwnFields base d (header id w ++ bs) d
-
--- a word that makes such a field with as many bytes behind it as it says
-abbrev pub Worded : ℕ → Type 0
-Worded w = (bs : List ℕ) → length bs ≡ w / 8 → Bytes bs → Body T-fixlen (shortest w ++ bs)
 
 -- the bytes of t from one place to another are such
 pub record Stretch (t : List ℕ) (at i : ℕ) (P : List ℕ → Type 0) : Type 0 where

@@ -1,16 +1,12 @@
-// One thing recognised in its shortest form: a varint whose value is not asked for, the word of a fixed-length field, a close. The functions
-// answer 0 or false for what is not so, or not whole. The contracts say what holds of the bytes else: an answer too few would make `own`
-// slower and no less right.
+// One thing recognised in its shortest form: a varint whose value is not asked for, a float's length, a close's header.
 ghost use mathlib.Core.Path.{_≡_};
-ghost use mathlib.Core.Bool.{true};
-ghost use Prim.Native.Nat.{_-_, _<_};
-ghost use Rattle.layout.specs.Limits.{base};
-ghost use Rattle.layout.specs.Varint.{shortest};
-ghost use Rattle.shortest.specs.Own.{OwnFields, Number, Worded, Ends};
-use types::FIXLEN_MAX;
+ghost use Prim.Native.Nat.{_+_, _*_};
+ghost use lib.Dec.{eqb};
+ghost use Rattle.layout.specs.Field.{bytesOf, fp32, fp64, wireNumber, T-end};
+ghost use Rattle.shortest.specs.Own.{Number, Ends};
 use varint::LAST_BYTE;
 
-// The place after a varint.
+// The place after a varint; 0 where it is longer than needed, or not whole.
 pub fn long_number_at(t: &[u8], at: usize) -> usize
     ensures { λ r. ⌜ Ends (now (t .entry)) at Number r ⌝ }
 {
@@ -38,22 +34,22 @@ pub fn long_number_at(t: &[u8], at: usize) -> usize
     0
 }
 
-// Whether a word has a subtype of the layout and a length that it may have.
-pub fn is_word(w: u64) -> bool
-    ensures { λ r. ⌜ (r ≡ true → Worded w) ⌝ }
+// Whether a length is that of a float of this width.
+pub fn is_fp32_length(n: u64) -> bool
+    ensures { λ r. ⌜ r ≡ eqb n (bytesOf fp32) ⌝ }
 {
-    let n = w / 8;
-    match w % 8 {
-        0 => n == 4,
-        1 => n == 8,
-        2 | 3 => n <= FIXLEN_MAX as u64,
-        _ => false,
-    }
+    n == 4
 }
 
-// Whether a header is a close's in its shortest form, 07, at a depth where one may stand.
-pub fn is_close(h: u64, depth: u8) -> bool
-    ensures { λ r. ⌜ (r ≡ true → (0 < depth) × OwnFields base depth (shortest h) (depth - 1)) ⌝ }
+pub fn is_fp64_length(n: u64) -> bool
+    ensures { λ r. ⌜ r ≡ eqb n (bytesOf fp64) ⌝ }
 {
-    h == 7 && 0 < depth
+    n == 8
+}
+
+// Whether a header is the one that a close has in a plain copy, with id 0.
+pub fn is_close(h: u64) -> bool
+    ensures { λ r. ⌜ r ≡ eqb h (0 * 8 + wireNumber T-end) ⌝ }
+{
+    h == 7
 }

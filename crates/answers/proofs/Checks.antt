@@ -7,8 +7,9 @@ use native.Mathlib.Omega.{arith}
 use borrow.Author.Tests.{ltb-false, not-false}
 use Rattle.layout.specs.Limits.{pick}
 use Rattle.answers.specs.declared.Check.{Check}
-use Rattle.answers.specs.Judged.{Test, Judgement, accepted, refusedWith, judged, checkOf}
-use Rattle.answers.specs.Tests.{unsoundWriter, idTooLarge, tooLong}
+use Rattle.refusals.specs.Judged.{Test, Judgement, accepted, refusedWith, judged}
+use Rattle.answers.specs.Check.{checkOf}
+use Rattle.refusals.specs.Tests.{unsoundWriter, idTooLarge, tooLong}
 
 pub passed : (t : Test) (ts : List Test) → judged (t ∷ ts) ≡ accepted → (t .fails ≡ false) × (judged ts ≡ accepted)
 passed t ts e = go (t .fails) refl e

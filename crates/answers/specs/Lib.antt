@@ -1,5 +1,3 @@
--- What a call of the writer answers, without its state: `Judged` (tests in order), `Tests` (each test by its numbers), `Outcome` (all out,
--- full, or refused).
-pub mod Judged
-pub mod Tests
+-- What a call of the writer answers, without its state: `Check` (whether the first tests pass), `Outcome` (all out, full, or refused).
+pub mod Check
 pub mod Outcome

@@ -6,11 +6,12 @@ use types::FixlenType;
 use types::ID_MAX;
 use types::MAX_DEPTH;
 ghost use mathlib.Core.Path.{_≡_};
-ghost use mathlib.Core.List.{[], _∷_};
 ghost use mathlib.Core.Bool.{true, false};
 ghost use Rattle.types.specs.Types.{subtype};
-ghost use Rattle.answers.specs.Judged.{accepted, refusedWith, judged, checkOf};
-ghost use Rattle.answers.specs.Tests.{badBuffer, unsoundWriter, isString, stringSubtype, deepest, outermost, idTooLarge, tooLong, payloadTooLong};
+ghost use Rattle.refusals.specs.Judged.{accepted, refusedWith, judged};
+ghost use Rattle.refusals.specs.Tests.{badBuffer, isString};
+ghost use Rattle.refusals.specs.Orders.{changeTests, scalarTests, sizedTests, fixlenTests, beginTests, endTests};
+ghost use Rattle.answers.specs.Check.{checkOf};
 ghost use Rattle.answers.specs.Outcome.{reaches};
 ghost use Prim.Native.Nat.{_≤_, min};
 
@@ -67,7 +68,7 @@ pub fn unfit(size: usize, offset: usize, drained: bool) -> bool
 
 // The refusals of a buffer change: the new buffer, then the state.
 pub fn check_change(sound: bool, size: usize, offset: usize, drained: bool) -> Check
-    ensures { λ r. ⌜ r ≡ checkOf (judged (badBuffer size offset drained ∷ unsoundWriter sound ∷ [])) ⌝ }
+    ensures { λ r. ⌜ r ≡ checkOf (judged (changeTests sound size offset drained)) ⌝ }
 {
     if unfit(size, offset, drained) {
         return failed(Error::BadBuffer);
@@ -80,7 +81,7 @@ pub fn check_change(sound: bool, size: usize, offset: usize, drained: bool) -> C
 
 // The refusals of a field: the state, the id.
 pub fn check_field(sound: bool, id: u32) -> Check
-    ensures { λ r. ⌜ r ≡ checkOf (judged (unsoundWriter sound ∷ idTooLarge id ∷ [])) ⌝ }
+    ensures { λ r. ⌜ r ≡ checkOf (judged (scalarTests sound id)) ⌝ }
 {
     if !sound {
         return failed(Error::UnsoundWriter);
@@ -93,7 +94,7 @@ pub fn check_field(sound: bool, id: u32) -> Check
 
 // And those of one with a payload or an array: how long it is, against the limit of its kind.
 pub fn check_sized(sound: bool, id: u32, len: usize, most: u32) -> Check
-    ensures { λ r. ⌜ r ≡ checkOf (judged (unsoundWriter sound ∷ idTooLarge id ∷ tooLong most len ∷ [])) ⌝ }
+    ensures { λ r. ⌜ r ≡ checkOf (judged (sizedTests sound id most len)) ⌝ }
 {
     if !sound {
         return failed(Error::UnsoundWriter);
@@ -109,7 +110,7 @@ pub fn check_sized(sound: bool, id: u32, len: usize, most: u32) -> Check
 
 // The refusals of a fixed-length field of any subtype: a string's, too, behind the state.
 pub fn check_fixlen(sound: bool, t: FixlenType, id: u32, len: usize) -> Check
-    ensures { λ r. ⌜ r ≡ checkOf (judged (unsoundWriter sound ∷ stringSubtype t ∷ idTooLarge id ∷ payloadTooLong len ∷ [])) ⌝ }
+    ensures { λ r. ⌜ r ≡ checkOf (judged (fixlenTests sound t id len)) ⌝ }
 {
     if !sound {
         return failed(Error::UnsoundWriter);
@@ -122,7 +123,7 @@ pub fn check_fixlen(sound: bool, t: FixlenType, id: u32, len: usize) -> Check
 
 // The refusals of an open: the state, the depth, the id.
 pub fn check_begin(sound: bool, depth: u16, id: u32) -> Check
-    ensures { λ r. ⌜ r ≡ checkOf (judged (unsoundWriter sound ∷ deepest depth ∷ idTooLarge id ∷ [])) ⌝ }
+    ensures { λ r. ⌜ r ≡ checkOf (judged (beginTests sound depth id)) ⌝ }
 {
     if !sound {
         return failed(Error::UnsoundWriter);
@@ -138,7 +139,7 @@ pub fn check_begin(sound: bool, depth: u16, id: u32) -> Check
 
 // The refusals of a close: the state, the depth.
 pub fn check_end(sound: bool, depth: u16) -> Check
-    ensures { λ r. ⌜ r ≡ checkOf (judged (unsoundWriter sound ∷ outermost depth ∷ [])) ⌝ }
+    ensures { λ r. ⌜ r ≡ checkOf (judged (endTests sound depth)) ⌝ }
 {
     if !sound {
         return failed(Error::UnsoundWriter);

@@ -32,9 +32,9 @@ use Rattle.istream.proofs.Calls.{state-of-stream}
 use Rattle.istream.proofs.Laws.{is-sound, sound-is}
 use Rattle.copying.proofs.OneEvent.{AsIs, none-as-is}
 use Rattle.copying.proofs.AsIs.{fields-as-is, unsigneds-as-is, signeds-as-is, floats-as-is}
-use Rattle.own.specs.Own as own
-use Rattle.own.specs.Own.{Numbers}
-use Rattle.own.proofs.Spans.{all-bytes, bytes-front}
+use Rattle.shortest.specs.Own as own
+use Rattle.shortest.specs.Own.{Numbers}
+use Rattle.shortest.proofs.Spans.{all-bytes, bytes-front}
 use Rattle.as_is.specs.declared.Block.{Block}
 use Rattle.as_is.specs.Ahead.{Ahead}
 

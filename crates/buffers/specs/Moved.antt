@@ -2,8 +2,9 @@
 use mathlib.Core.Bool.{Bool}
 use mathlib.Core.List.{List, [], _∷_}
 use Prim.Native.Nat.{ℕ}
-use Rattle.answers.specs.Judged.{Test, Judgement, accepted, refusedWith, judged}
-use Rattle.answers.specs.Tests.{badBuffer, unsoundWriter}
+use Rattle.refusals.specs.Judged.{Judgement, accepted, refusedWith, judged}
+use Rattle.refusals.specs.Tests.{unsoundWriter}
+use Rattle.refusals.specs.Orders.{changeTests}
 use Rattle.held.specs.Places.{soundFor}
 use Rattle.buffers.specs.declared.Moved.{Moved}
 use Rattle.buffers.specs.declared.Moved.the-variants.{To, Refused}
@@ -15,9 +16,6 @@ movedBy (refusedWith e) pos next = Refused e
 -- A drain: "the bytes below the position" are sent, "after which writing starts at 0".
 abbrev pub drainedTo : ℕ → ℕ → ℕ → List ℕ → ℕ → Moved
 drainedTo pos depth held places size = movedBy (judged (unsoundWriter (soundFor pos depth held places size) ∷ [])) pos 0
-
-abbrev pub changeTests : Bool → ℕ → ℕ → Bool → List Test
-changeTests sound new offset drained = badBuffer new offset drained ∷ unsoundWriter sound ∷ []
 
 -- A change "sets the position to the new offset, and answers the old position"; "Number 5 judges the new buffer there, then number 6 the
 -- state by the old one."

@@ -10,7 +10,7 @@ use Rattle.layout.specs.Message.{Verdict, complete, verdictOf}
 use Rattle.layout.specs.Copy.{plainCopy}
 use Rattle.laws.specs.Legal.{Balanced}
 use Rattle.laws.proofs.Laws.{fit-base}
-use Rattle.own.specs.Own.{OwnFields}
+use Rattle.shortest.specs.Own.{OwnFields}
 use Rattle.copying.proofs.AsIs.{own-copy}
 use Rattle.exports.specs.Exports.{filled, copied}
 

@@ -3,15 +3,16 @@ use mathlib.Core.Bool.{Bool}
 use mathlib.Core.List.{List, [], _∷_}
 use Prim.Native.Nat.{ℕ}
 use lib.ListN.{take}
+use Rattle.refusals.specs.Orders.{changeTests}
 use Rattle.ostream.specs.declared.OStream.{OStream}
 use Rattle.ostream.specs.declared.Answer.the-variants.{Done}
 use Rattle.ostream.specs.declared.Written.{Written}
 use Rattle.ostream.specs.declared.Count.the-variants.{Bytes, Refused}
 use Rattle.ostream.specs.declared.Counted.{Counted}
-use Rattle.ostream.specs.Stream.{at, opened}
+use Rattle.ostream.specs.Stream.{at, opened, soundStream}
 use Rattle.ostream.specs.Emission.{Judgement, accepted, refusedWith, judged, refused}
 use Rattle.ostream.specs.Calls.{unsound}
-pub use Rattle.answers.specs.Tests.{badBuffer}
+pub use Rattle.refusals.specs.Tests.{badBuffer}
 
 -- "Opening at offset o leaves the buffer's first o bytes as they came". Where it is refused the state is that of a writer at 0.
 abbrev pub openedBy : Judgement → ℕ → Written
@@ -36,4 +37,4 @@ sent s b = take (s .offset) b
 -- "Changing the buffer keeps depth and held ids, sets the position to the new offset, and answers the old position"; "Number 5 judges
 -- the new buffer there, then number 6 the state by the old one."
 unfoldable pub changing : OStream → ℕ → ℕ → ℕ → Bool → Counted
-changing s old new offset drained = countedBy (judged (badBuffer new offset drained ∷ unsound s old ∷ [])) s offset
+changing s old new offset drained = countedBy (judged (changeTests (soundStream s old) new offset drained)) s offset

@@ -1,24 +1,25 @@
 -- The writing calls, each by its refusals in order, its output and the state that it leaves.
 use mathlib.Core.Bool.{Bool}
-use mathlib.Core.List.{List, [], _∷_, _++_}
+use mathlib.Core.List.{List, [], _++_}
 use Prim.Native.Nat.{ℕ, _+_, _-_, _*_}
 use lib.Dec.{ltb, eqb}
 use lib.ListN.{length}
 use lib.IntN.{ℤ}
-use Rattle.layout.specs.Limits.{pick}
+use Rattle.layout.specs.Limits.{base, pick}
 use Rattle.layout.specs.Varint.{shortest}
 use Rattle.layout.specs.Field.{Width, Raw, float, unsigned, signed, payload, unsignedArray, signedArray, floatArray, begin, end}
 use Rattle.layout.specs.Copy.{fieldBytes}
 use Rattle.types.specs.declared.FixlenType.{FixlenType}
 use Rattle.types.specs.Types.{subtype}
-use Rattle.answers.specs.Tests.{unsoundWriter, deepest, outermost}
+use Rattle.refusals.specs.Tests.{unsoundWriter, deepest, outermost}
+use Rattle.refusals.specs.Orders.{scalarTests, sizedTests, fixlenTests, beginTests, endTests}
 use Rattle.ostream.specs.declared.OStream.{OStream}
 use Rattle.ostream.specs.Stream.{soundStream, lazyDepth, heldBytes, committed, holding, dropped}
 use Rattle.ostream.specs.Emission.{Test, Call}
-pub use Rattle.answers.specs.Tests.{stringSubtype, idTooLarge, payloadTooLong, arrayTooLong}
+pub use Rattle.refusals.specs.Tests.{stringSubtype, idTooLarge, payloadTooLong, arrayTooLong}
 unfoldable pub use Rattle.write_slowly.specs.Went.{fixlenBytes}
 
--- ---- the refusals that look at the state; the others are `Tests` of `answers`
+-- ---- the refusals that look at the state; the others, and their order, are `Tests` and `Orders` of `refusals`
 
 -- "Number 6: the writer state isn't sound for the lent buffer".
 abbrev pub unsound : OStream → ℕ → Test
@@ -33,7 +34,7 @@ noneOpen s = outermost (s .depth)
 
 -- the tests of a field with a payload of n bytes
 abbrev pub fieldTests : OStream → ℕ → ℕ → ℕ → List Test
-fieldTests s size id n = unsound s size ∷ idTooLarge id ∷ payloadTooLong n ∷ []
+fieldTests s size id n = sizedTests (soundStream s size) id (base .size) n
 
 -- ---- a field
 
@@ -43,7 +44,7 @@ content tests s bytes = record { tests = tests; output = heldBytes s ++ bytes; d
 
 -- a field of one varint
 abbrev pub scalar : OStream → ℕ → ℕ → List ℕ → Call
-scalar s size id bytes = content (unsound s size ∷ idTooLarge id ∷ []) s bytes
+scalar s size id bytes = content (scalarTests (soundStream s size) id) s bytes
 
 -- a field of one varint by the type's number and the varint's value
 abbrev pub varintCall : OStream → ℕ → ℕ → ℕ → ℕ → Call
@@ -66,7 +67,7 @@ rawCall s size id bytes t = content (fieldTests s size id (length bytes)) s (fix
 
 abbrev pub fixlenCall : OStream → ℕ → ℕ → List ℕ → FixlenType → Call
 fixlenCall s size id bytes t =
-    content (unsound s size ∷ stringSubtype t ∷ idTooLarge id ∷ payloadTooLong (length bytes) ∷ []) s (fixlenBytes id (subtype t) bytes)
+    content (fixlenTests (soundStream s size) t id (length bytes)) s (fixlenBytes id (subtype t) bytes)
 
 abbrev pub floatCall : OStream → ℕ → ℕ → Width → ℕ → Call
 floatCall s size id w bits = scalar s size id (fieldBytes (float id w bits))
@@ -77,7 +78,7 @@ payloadCall s size id r bytes = content (fieldTests s size id (length bytes)) s 
 -- ---- arrays
 
 abbrev pub arrayCall : OStream → ℕ → ℕ → ℕ → List ℕ → Call
-arrayCall s size id count bytes = content (unsound s size ∷ idTooLarge id ∷ arrayTooLong count ∷ []) s bytes
+arrayCall s size id count bytes = content (sizedTests (soundStream s size) id (base .count) count) s bytes
 
 abbrev pub unsignedArrayCall : OStream → ℕ → ℕ → List ℕ → Call
 unsignedArrayCall s size id ns = arrayCall s size id (length ns) (fieldBytes (unsignedArray id ns))
@@ -95,7 +96,7 @@ floatArrayCall s size id w xs = arrayCall s size id (length xs) (fieldBytes (flo
 abbrev pub beginCall : OStream → ℕ → ℕ → Call
 beginCall s size id =
     record {
-      tests = unsound s size ∷ tooDeep s ∷ idTooLarge id ∷ [];
+      tests = beginTests (soundStream s size) (s .depth) id;
       output = pick (ltb (s .npending) lazyDepth) [] (heldBytes s ++ fieldBytes (begin id));
       done = pick (ltb (s .npending) lazyDepth) (holding s id) (committed s (s .depth + 1));
     }
@@ -104,7 +105,7 @@ beginCall s size id =
 abbrev pub endCall : OStream → ℕ → Call
 endCall s size =
     record {
-      tests = unsound s size ∷ noneOpen s ∷ [];
+      tests = endTests (soundStream s size) (s .depth);
       output = pick (eqb (s .npending) 0) (fieldBytes (end 0)) [];
       done = pick (eqb (s .npending) 0) (committed s (s .depth - 1)) (dropped s);
     }
@@ -112,4 +113,4 @@ endCall s size =
 -- a keeping close
 abbrev pub endKeepCall : OStream → ℕ → Call
 endKeepCall s size =
-    record { tests = unsound s size ∷ noneOpen s ∷ []; output = heldBytes s ++ fieldBytes (end 0); done = committed s (s .depth - 1) }
+    record { tests = endTests (soundStream s size) (s .depth); output = heldBytes s ++ fieldBytes (end 0); done = committed s (s .depth - 1) }

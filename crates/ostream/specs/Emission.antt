@@ -14,7 +14,7 @@ use Rattle.ostream.specs.declared.Answer.{Answer}
 use Rattle.ostream.specs.declared.Answer.the-variants.{Done, Full, Refused}
 use Rattle.ostream.specs.declared.Written.{Written}
 use Rattle.ostream.specs.Stream.{at}
-pub use Rattle.answers.specs.Judged.{Test, Judgement, accepted, refusedWith, judged}
+pub use Rattle.refusals.specs.Judged.{Test, Judgement, accepted, refusedWith, judged}
 
 pub record Call : Type 0 where
   pub tests : List Test

@@ -17,8 +17,8 @@ use Rattle.layout.specs.Field.{unsigned, signed, payload, unsignedArray, signed
 use Rattle.layout.specs.Copy.{fieldBytes}
 use Rattle.layout.specs.Message.{All, Bytes, depthAfter}
 use Rattle.varint.proofs.Zigzag.{zigzag-unzigzag}
-use Rattle.own.specs.Own.{OwnFields, Numbers, Number, Body}
-use Rattle.own.proofs.Spans.{bytes-drop, bytes-front}
+use Rattle.shortest.specs.Own.{OwnFields, Numbers, Number, Body}
+use Rattle.shortest.proofs.Spans.{bytes-drop, bytes-front}
 use Rattle.own.proofs.Runs.{fields-one}
 
 -- ---- scalars

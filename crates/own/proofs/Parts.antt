@@ -7,9 +7,9 @@ use lib.ListN.{length, getD}
 use Rattle.layout.specs.Limits.{base}
 use Rattle.layout.specs.Varint.{shortest}
 use Rattle.layout.specs.Field.{Width, bytesOf, subtypeNumber, float, string, blob, T-unsigned, T-signed, T-fixlen, T-unsigneds, T-signeds, T-floats}
-use Rattle.own.specs.Own.{OwnFields, Numbers, Number, Body, Stretch, Ends}
-use Rattle.own.proofs.Spans.{here, stretch-then, all-bytes, reaches, found-at, ends-bytes, ends-then}
-use Rattle.own.proofs.Varints.{one}
+use Rattle.shortest.specs.Own.{OwnFields, Numbers, Number, Body, Stretch, Ends}
+use Rattle.shortest.proofs.Spans.{here, stretch-then, all-bytes, reaches, found-at, ends-bytes, ends-then}
+use Rattle.shortest.proofs.Varints.{one}
 use Rattle.own.proofs.Runs.{fields-none, fields-append, numbers-none, numbers-one, numbers-append}
 use Rattle.own.proofs.Bodies.{unsigned-body, signed-body, float-body, raw-body, unsigneds-body, signeds-body, floats-body, with-header, opens, closes}
 

@@ -9,7 +9,7 @@ use Rattle.layout.specs.Field.{Field, each}
 use Rattle.layout.specs.Copy.{fieldBytes, encode}
 use Rattle.layout.specs.Message.{All, depthAfter}
 use Rattle.laws.specs.Legal.{Legal, Nests, Balanced}
-use Rattle.own.specs.Own.{OwnFields, Numbers}
+use Rattle.shortest.specs.Own.{OwnFields, Numbers}
 
 each-append : {A : Type 0} (f : A → List ℕ) (xs ys : List A) → each f (xs ++ ys) ≡ each f xs ++ each f ys
 unfolding each

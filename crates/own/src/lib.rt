@@ -9,13 +9,16 @@ ghost use lib.ListN.{length, take};
 ghost use Rattle.layout.specs.Limits.{base};
 ghost use Rattle.layout.specs.Varint.{shortest};
 ghost use Rattle.layout.specs.Field.{T-fixlen, T-unsigneds, T-signeds, T-floats};
-ghost use Rattle.own.specs.Own.{OwnFields, Numbers, Number, Body, Stretch, Ends};
+ghost use Rattle.shortest.specs.Own.{OwnFields, Numbers, Number, Body, Stretch, Ends};
+use shortest::is_close;
+use shortest::is_fp32_length;
+use shortest::is_fp64_length;
+use shortest::long_number_at;
 use types::ARRAY_MAX;
 use types::FIXLEN_MAX;
 use types::ID_MAX;
 use types::MAX_DEPTH;
 use varint::Acc;
-use varint::LAST_BYTE;
 use varint::Push;
 
 // Fields: how many bytes they have, and the depth after them.
@@ -49,34 +52,6 @@ struct Next {
 }
 
 // ---- varints
-
-// A varint whose value is not asked for, out of line.
-fn long_number_at(t: &[u8], at: usize) -> usize
-    ensures { λ r. ⌜ Ends (now (t .entry)) at Number r ⌝ }
-{
-    let mut i = at;
-    while i < t.len() {
-        let b = t[i];
-        if i - at < LAST_BYTE as usize {
-            if b < 128 {
-                if i == at {
-                    return i + 1;
-                }
-                if b == 0 {
-                    return 0;
-                }
-                return i + 1;
-            }
-            i += 1;
-        } else {
-            if b == 1 {
-                return i + 1;
-            }
-            return 0;
-        }
-    }
-    0
-}
 
 // Most elements are one byte or two.
 fn number_at(t: &[u8], at: usize) -> usize
@@ -253,8 +228,8 @@ fn fixlen_at(t: &[u8], at: usize) -> usize
     }
     let n = w / 8;
     match w % 8 {
-        0 => { if n == 4 { jump(t, i, 4) } else { 0 } }
-        1 => { if n == 8 { jump(t, i, 8) } else { 0 } }
+        0 => { if is_fp32_length(n) { jump(t, i, 4) } else { 0 } }
+        1 => { if is_fp64_length(n) { jump(t, i, 8) } else { 0 } }
         2 | 3 => {
             if n <= FIXLEN_MAX as u64 {
                 jump(t, i, n)
@@ -345,7 +320,7 @@ fn body_at(t: &[u8], at: usize, h: u64, depth: u8) -> Next
             }
         }
         _ => {
-            if h == 7 {
+            if is_close(h) {
                 if 0 < depth {
                     return Next {
                         at,

@@ -1,5 +1,1 @@
-pub mod Cases
-pub mod Whole
-pub mod Sound
 pub mod Words
-pub mod Sentences

@@ -8,7 +8,8 @@ use Rattle.types.specs.declared.Error.{Error}
 use Rattle.types.specs.declared.Error.the-variants as Err
 use Rattle.payload.specs.declared.Answer.{Answer}
 use Rattle.payload.specs.declared.Answer.the-variants.{Nothing, InChunk, InBuffer, Refused}
-use Rattle.payload.specs.Gather.{Said, nothing, inChunk, inBuffer, number, saidOf}
+use Rattle.gathering.specs.Gather.{Said, nothing, inChunk, inBuffer, number}
+use Rattle.payload.specs.Words.{saidOf}
 
 abbrev numbered : ℕ → Error
 numbered n =

@@ -6,7 +6,8 @@ ghost use mathlib.Core.Bool.{false};
 ghost use Prim.Native.Nat.{_+_, _≤_};
 ghost use lib.ListN.{length};
 ghost use lib.Seq.{paste};
-ghost use Rattle.payload.specs.Gather.{saidOf, resultOf, fresh, begun, owed, holdsWhole, accepted, copied, gathered, firstOf, partOf};
+ghost use Rattle.gathering.specs.Gather.{fresh, begun, owed, holdsWhole, accepted, copied, gathered, firstOf, partOf};
+ghost use Rattle.payload.specs.Words.{stateOf, saidOf, resultOf};
 
 // How much of the current payload the lent buffer holds, and whether that payload was already whole.
 pub struct PayloadAcc {
@@ -65,7 +66,7 @@ fn first<'a>(s: &'a [u8], n: usize) -> &'a [u8]
 
 impl PayloadAcc {
     pub fn new() -> PayloadAcc
-        ensures { λ r. ⌜ r ≡ fresh ⌝ }
+        ensures { λ r. ⌜ stateOf r ≡ fresh ⌝ }
     {
         PayloadAcc {
             len: 0,
@@ -75,7 +76,7 @@ impl PayloadAcc {
 
     // A payload always starts at offset 0, and what is still held of another is forgotten there.
     fn begin(self, offset: usize) -> PayloadAcc
-        ensures { λ r. ⌜ r ≡ begun self offset ⌝ }
+        ensures { λ r. ⌜ stateOf r ≡ begun (stateOf self) offset ⌝ }
     {
         if offset == 0 { PayloadAcc::new() } else { self }
     }
@@ -83,7 +84,7 @@ impl PayloadAcc {
     // The next bytes of the payload held, and no more than it owes.
     fn append(mut self, buf: &mut [u8], total: usize, chunk: &[u8]) -> Fed
         requires { ⌜ (self .len ≤ length (now buf)) × (total ≤ length (now buf)) × (self .complete ≡ false) ⌝ }
-        ensures { λ r. ⌜ resultOf r (now (buf .exit)) ≡ copied self (now (buf .entry)) total (now (chunk .entry)) ⌝ }
+        ensures { λ r. ⌜ resultOf r (now (buf .exit)) ≡ copied (stateOf self) (now (buf .entry)) total (now (chunk .entry)) ⌝ }
     {
         let held = self.len;
         let n = owing(held, total, chunk.len());
@@ -106,7 +107,7 @@ impl PayloadAcc {
     // The order of the tests is 01's: a payload already whole, number 4, whole in the chunk, another offset than the length held.
     fn accept(mut self, buf: &mut [u8], total: usize, offset: usize, chunk: &[u8]) -> Fed
         requires { ⌜ self .len ≤ length (now buf) ⌝ }
-        ensures { λ r. ⌜ resultOf r (now (buf .exit)) ≡ accepted self (now (buf .entry)) total offset (now (chunk .entry)) ⌝ }
+        ensures { λ r. ⌜ resultOf r (now (buf .exit)) ≡ accepted (stateOf self) (now (buf .entry)) total offset (now (chunk .entry)) ⌝ }
     {
         if self.complete {
             return Fed {
@@ -139,7 +140,7 @@ impl PayloadAcc {
 
     // Takes one piece of a payload of `total` bytes: the chunk, which starts at `offset` in it.
     pub fn feed(self, buf: &mut [u8], total: usize, offset: usize, chunk: &[u8]) -> Fed
-        ensures { λ r. ⌜ resultOf r (now (buf .exit)) ≡ gathered self (now (buf .entry)) total offset (now (chunk .entry)) ⌝ }
+        ensures { λ r. ⌜ resultOf r (now (buf .exit)) ≡ gathered (stateOf self) (now (buf .entry)) total offset (now (chunk .entry)) ⌝ }
     {
         // Rebuilt from its fields (docs/PERFORMANCE.md).
         let held = PayloadAcc {
@@ -158,7 +159,7 @@ impl PayloadAcc {
 
     // Drops a payload that is not whole. Rarely needed: the next one's first piece does the same.
     pub fn reset(self) -> PayloadAcc
-        ensures { λ r. ⌜ r ≡ fresh ⌝ }
+        ensures { λ r. ⌜ stateOf r ≡ fresh ⌝ }
     {
         PayloadAcc::new()
     }
@@ -180,7 +181,7 @@ impl PayloadAcc {
 
 // The payload that an answer of `feed` calls whole, given the state and the slices that this call left: a part of one of them.
 pub fn payload<'a>(answer: Answer, acc: PayloadAcc, buf: &'a [u8], chunk: &'a [u8]) -> &'a [u8]
-    ensures { λ r. ⌜ now r ≡ partOf (saidOf answer) acc (now (buf .entry)) (now (chunk .entry)) ⌝ }
+    ensures { λ r. ⌜ now r ≡ partOf (saidOf answer) (stateOf acc) (now (buf .entry)) (now (chunk .entry)) ⌝ }
 {
     if buf.len() < acc.len {
         return &buf[..0];

@@ -6,7 +6,7 @@ use mathlib.Core.List.{List, [], _∷_, _++_}
 use lib.ListN.{length}
 use Rattle.layout.specs.Field.{Raw}
 use Rattle.layout.specs.Event.{Event, Unsigned, Signed, Float, Piece, Fixlen, Array, Begin, End, cutFrom, cutPiece, cut, bytewise}
-use Rattle.payload.specs.Run.{joined, Split, one, more}
+use Rattle.gathering.specs.Run.{joined, Split, one, more}
 use Rattle.reassembly.specs.Pieces.{pieceEvents, NotPiece, Next}
 
 -- ---- where an event that is no piece stands

@@ -12,10 +12,9 @@ use Rattle.layout.specs.Message.{eventsOf}
 use Rattle.machine.specs.Calls.{fresh}
 use Rattle.machine.specs.Run.{chunks, join}
 use Rattle.machine.proofs.Runs.{reads}
-use Rattle.payload.specs.declared.PayloadAcc.{PayloadAcc}
-use Rattle.payload.specs.Gather.{sound}
-use Rattle.payload.specs.Run.{joined, Pieces, empty, split, refused, outcomes, handedWhole, atLast}
-use Rattle.payload.proofs.Whole.{whole-at-last, too-long-throughout}
+use Rattle.gathering.specs.Gather.{Gatherer, sound}
+use Rattle.gathering.specs.Run.{joined, Pieces, empty, split, refused, outcomes, handedWhole, atLast}
+use Rattle.gathering.proofs.Whole.{whole-at-last, too-long-throughout}
 use Rattle.reassembly.specs.Pieces.{pieceEvents, Next}
 use Rattle.reassembly.proofs.Cuts.{found, parted}
 
@@ -64,8 +63,8 @@ pub record Gathers (es : List Event) (id : ℕ) (r : Raw) (bytes : List ℕ) (pr
   pub given : es ≡ before ++ (Fixlen id (raw r) (length bytes) ∷ (pieceEvents id r (length bytes) 0 parts ++ after))
   pub earlier : bytewise before ≡ pre
   pub later : bytewise after ≡ post
-  pub brought : (a : PayloadAcc) (b : List ℕ) → sound a b ≡ true → length bytes ≤ length b → outcomes (handedWhole a b parts) ≡ atLast (length parts) bytes
-  pub too-long : (a : PayloadAcc) (b : List ℕ) → sound a b ≡ true → length b < length bytes → handedWhole a b parts ≡ replicate (length parts) (record { outcome = refused 4; buf = b })
+  pub brought : (a : Gatherer) (b : List ℕ) → sound a b ≡ true → length bytes ≤ length b → outcomes (handedWhole a b parts) ≡ atLast (length parts) bytes
+  pub too-long : (a : Gatherer) (b : List ℕ) → sound a b ≡ true → length b < length bytes → handedWhole a b parts ≡ replicate (length parts) (record { outcome = refused 4; buf = b })
 
 -- For every list of chunks, and every payload among the layout's events of the bytes that they join to.
 pub gathers : (L : Limits) (cs : List (List ℕ)) (id : ℕ) (r : Raw) (bytes : List ℕ) (pre post : List Event) → Next post

@@ -48,7 +48,7 @@ use Rattle.turns.specs.declared.Answer.the-variants.{Status}
 use Rattle.turns.specs.Said.{Said, saidOf}
 use Rattle.turns.specs.Turns.{standing, Ended, endedIn, fullStop, eventTurn, eventBuf, heardTurn, heardBuf, Stops, Went, Turned, later}
 use Rattle.turns.proofs.Events.{AtEvent, Bytes, Steady, call-level, fair}
-use Rattle.own.proofs.Spans.{all-bytes}
+use Rattle.shortest.proofs.Spans.{all-bytes}
 
 -- ---- what the reader is handed
 

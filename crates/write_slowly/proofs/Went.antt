@@ -8,8 +8,9 @@ use borrow.Author.Tests.{leb-true}
 use Rattle.answers.specs.declared.Check.{Check}
 use Rattle.answers.specs.declared.Outcome.{Outcome}
 use Rattle.answers.specs.declared.Outcome.the-variants.{Refused}
-use Rattle.answers.specs.Judged.{Test, Judgement, accepted, checkOf}
-use Rattle.answers.specs.Tests.{idTooLarge, tooLong}
+use Rattle.refusals.specs.Judged.{Test, Judgement, accepted}
+use Rattle.answers.specs.Check.{checkOf}
+use Rattle.refusals.specs.Tests.{idTooLarge, tooLong}
 use Rattle.answers.specs.Outcome.{reaches}
 use Rattle.answers.proofs.Checks.{check-passes, check-fails, check-sound, check-short}
 use Rattle.held.specs.Places.{lazyDepth, soundFor}

@@ -6,8 +6,8 @@ use lib.ListN.{length}
 use Rattle.layout.specs.Field.{Subtype, header, word, T-fixlen}
 use Rattle.answers.specs.declared.Outcome.{Outcome}
 use Rattle.answers.specs.declared.Outcome.the-variants.{Refused}
-use Rattle.answers.specs.Judged.{Test, Judgement, accepted, refusedWith, judged}
-use Rattle.answers.specs.Tests.{unsoundWriter, idTooLarge}
+use Rattle.refusals.specs.Judged.{Test, Judgement, accepted, refusedWith, judged}
+use Rattle.refusals.specs.Tests.{unsoundWriter, idTooLarge}
 use Rattle.answers.specs.Outcome.{reaches}
 use Rattle.held.specs.Places.{soundFor}
 use Rattle.held.specs.Headers.{headersOf, bufferAfter}

@@ -28,8 +28,8 @@ ghost use Rattle.layout.specs.Varint.{shortest};
 ghost use Rattle.layout.specs.Field.{fp32, fp64, unsignedArray, signedArray, floatArray};
 ghost use Rattle.layout.specs.Copy.{fieldBytes};
 ghost use Rattle.types.specs.Types.{subtype};
-ghost use Rattle.answers.specs.Judged.{checkOf};
-ghost use Rattle.answers.specs.Tests.{payloadTooLong, arrayTooLong};
+ghost use Rattle.answers.specs.Check.{checkOf};
+ghost use Rattle.refusals.specs.Tests.{payloadTooLong, arrayTooLong};
 ghost use Rattle.write_slowly.specs.Went.{wentBy, fixlenBytes, judgementOf, fieldFrom};
 
 // The refusals of a field with a payload, in order: the state, the id, the length.

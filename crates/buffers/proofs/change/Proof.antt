@@ -1,10 +1,12 @@
 -- `buffers::change`: 5 by the new buffer, then 6 by the old one; else the old position, and the offset.
 use mathlib.Core.Bool.{Bool, not}
 use mathlib.Core.Path.{_≡_, sym, ap, _∙_}
-use Rattle.answers.specs.Judged.{Judgement, judged, checkOf}
+use Rattle.refusals.specs.Judged.{Judgement, judged}
+use Rattle.refusals.specs.Orders.{changeTests}
+use Rattle.answers.specs.Check.{checkOf}
 use Rattle.answers.proofs.Checks.{check-passes, check-fails}
 use Rattle.held.specs.Places.{soundFor}
-use Rattle.buffers.specs.Moved.{movedBy, changeTests}
+use Rattle.buffers.specs.Moved.{movedBy}
 use borrow.Author.Needs.{needs}
 use Rattle.buffers.proofs.change.Statement.{statement}
 use Rattle.buffers.proofs.change.Tie as tie

@@ -6,7 +6,7 @@ use mir.Facts.{toZ-pos}
 use mir.Syntax.{w64}
 use Rattle.copier.specs.Calls.{Started}
 use Rattle.exports.specs.Exports.{resultOf}
-use Rattle.own.proofs.Spans.{all-bytes}
+use Rattle.shortest.proofs.Spans.{all-bytes}
 use Rattle.host.proofs.Fresh.{answers-full, answers-length, offset-small}
 use borrow.Author.Needs.{needs}
 use Rattle.host.proofs.copy.Statement.{statement}

@@ -1,5 +1,5 @@
 -- `own::array_at` meets its contract.
-use Rattle.own.proofs.Spans.{none}
+use Rattle.shortest.proofs.Spans.{none}
 use Rattle.own.proofs.Parts.{count-small, array-ends}
 use borrow.Author.Needs.{needs}
 use Rattle.own.proofs.array_at.Statement.{statement}

@@ -1,6 +1,8 @@
 -- `own::body_at` meets its contract, type by type.
+use mathlib.Core.Path.{sym, _∙_}
+use borrow.Author.Tests.{eqb-true}
 use Rattle.layout.specs.Field.{T-fixlen, T-floats}
-use Rattle.own.proofs.Spans.{none, ends-as}
+use Rattle.shortest.proofs.Spans.{none, ends-as}
 use Rattle.own.proofs.Bodies.{with-header}
 use Rattle.own.proofs.Parts.{scalar-field, array-field, open-ends, close-ends}
 use borrow.Author.Needs.{needs}
@@ -8,7 +10,9 @@ use Rattle.own.proofs.body_at.Statement.{statement}
 use Rattle.own.proofs.body_at.Tie as tie
 
 returns : tie.Need-returns
-returns c = close-ends _ _ _ _ (c .before .before .before .before .before .before .pre .0) (c .before .if4 .taken) (c .if5 .taken)
+returns c =
+    let w = c .before .before in
+    close-ends _ _ _ _ (w .before .before .before .before .before .pre .0) (eqb-true _ _ (sym (w .is-close .ensures) ∙ c .before .if4 .taken)) (c .if5 .taken)
 
 returns-2 : tie.Need-returns-2
 returns-2 c = ends-as (c .fixlen-at .ensures) (λ bs. with-header _ _ T-fixlen bs (c .before .before .before .pre .1) (c .before .match .keys1))
@@ -41,5 +45,5 @@ body-at-spec =
     tie.close
     (tie.spec
     (λ c κs. search needs) (λ c κs. search needs) (λ c. search needs) (λ c. search needs) (λ c κs. search needs)
-    (λ c κs. search needs) (λ c. search needs) returns returns-2 returns-3 returns-4 returns-5 returns-6 returns-7
-    returns-8 returns-9)
+    (λ c κs. search needs) (λ c κs. search needs) (λ c. search needs) returns returns-2 returns-3 returns-4 returns-5
+    returns-6 returns-7 returns-8 returns-9)

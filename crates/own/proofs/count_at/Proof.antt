@@ -1,5 +1,5 @@
 -- `own::count_at` meets its contract.
-use Rattle.own.proofs.Spans.{none, ends-as}
+use Rattle.shortest.proofs.Spans.{none, ends-as}
 use borrow.Author.Needs.{needs}
 use Rattle.own.proofs.count_at.Statement.{statement}
 use Rattle.own.proofs.count_at.Tie as tie

@@ -1,5 +1,5 @@
 -- `own::elements` meets its contract.
-use Rattle.own.proofs.Spans.{stretch-take}
+use Rattle.shortest.proofs.Spans.{stretch-take}
 use borrow.Author.Needs.{needs}
 use Rattle.own.proofs.elements.Statement.{statement}
 use Rattle.own.proofs.elements.Tie as tie

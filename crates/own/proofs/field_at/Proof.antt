@@ -1,5 +1,5 @@
 -- `own::field_at` meets its contract.
-use Rattle.own.proofs.Spans.{none, found-at, ends-as}
+use Rattle.shortest.proofs.Spans.{none, found-at, ends-as}
 use Rattle.own.proofs.Parts.{field-ends}
 use borrow.Author.Needs.{needs}
 use Rattle.own.proofs.field_at.Statement.{statement}

@@ -1,7 +1,7 @@
 -- `own::fields` meets its contract: whole fields in their shortest form stand from the start to the place reached.
 use Prim.Native.Nat.{_-_}
 use lib.ListN.{length}
-use Rattle.own.proofs.Spans.{stretch-take}
+use Rattle.shortest.proofs.Spans.{stretch-take}
 use Rattle.own.proofs.Parts.{Ran, ran-start, ran-next}
 use borrow.Author.Needs.{needs}
 use Rattle.own.proofs.fields.Statement.{statement}

@@ -1,6 +1,6 @@
 -- `own::float_array_at` meets its contract.
 use Rattle.layout.specs.Field.{fp32, fp64}
-use Rattle.own.proofs.Spans.{none}
+use Rattle.shortest.proofs.Spans.{none}
 use Rattle.own.proofs.Parts.{count-small, floats-ends}
 use borrow.Author.Needs.{needs}
 use Rattle.own.proofs.float_array_at.Statement.{statement}

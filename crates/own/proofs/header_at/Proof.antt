@@ -1,5 +1,5 @@
 -- `own::header_at` meets its contract.
-use Rattle.own.proofs.Spans.{none, ends-as}
+use Rattle.shortest.proofs.Spans.{none, ends-as}
 use borrow.Author.Needs.{needs}
 use Rattle.own.proofs.header_at.Statement.{statement}
 use Rattle.own.proofs.header_at.Tie as tie

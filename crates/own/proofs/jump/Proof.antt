@@ -1,5 +1,5 @@
 -- `own::jump` meets its contract.
-use Rattle.own.proofs.Spans.{none, jumps}
+use Rattle.shortest.proofs.Spans.{none, jumps}
 use borrow.Author.Needs.{needs}
 use Rattle.own.proofs.jump.Statement.{statement}
 use Rattle.own.proofs.jump.Tie as tie

@@ -2,8 +2,8 @@
 use Prim.Native.Nat.{_-_}
 use mathlib.Core.Path.{sym, _∙_}
 use lib.ListN.{length}
-use Rattle.own.proofs.Spans.{none}
-use Rattle.own.proofs.Varints.{Coming, coming-start, coming-more, coming-value, coming-one}
+use Rattle.shortest.proofs.Spans.{none}
+use Rattle.own.proofs.Values.{Coming, coming-start, coming-more, coming-value, coming-one}
 use borrow.Author.Needs.{needs}
 use Rattle.own.proofs.long_value_at.Statement.{statement}
 use Rattle.own.proofs.long_value_at.Tie as tie

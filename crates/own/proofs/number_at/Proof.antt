@@ -1,6 +1,6 @@
 -- `own::number_at` meets its contract.
 use mathlib.Core.Path.{refl}
-use Rattle.own.proofs.Varints.{one-ends, two-ends}
+use Rattle.shortest.proofs.Varints.{one-ends, two-ends}
 use borrow.Author.Needs.{needs}
 use Rattle.own.proofs.number_at.Statement.{statement}
 use Rattle.own.proofs.number_at.Tie as tie

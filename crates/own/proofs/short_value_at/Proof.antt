@@ -1,6 +1,6 @@
 -- `own::short_value_at` meets its contract.
-use Rattle.own.proofs.Spans.{none}
-use Rattle.own.proofs.Varints.{one-value, two-value}
+use Rattle.shortest.proofs.Spans.{none}
+use Rattle.shortest.proofs.Varints.{one-value, two-value}
 use borrow.Author.Needs.{needs}
 use Rattle.own.proofs.short_value_at.Statement.{statement}
 use Rattle.own.proofs.short_value_at.Tie as tie

@@ -1,5 +1,5 @@
 -- `own::small_at` meets its contract.
-use Rattle.own.proofs.Spans.{none}
+use Rattle.shortest.proofs.Spans.{none}
 use Rattle.own.proofs.Parts.{small-ends}
 use borrow.Author.Needs.{needs}
 use Rattle.own.proofs.small_at.Statement.{statement}

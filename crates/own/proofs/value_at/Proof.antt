@@ -1,5 +1,5 @@
 -- `own::value_at` meets its contract.
-use Rattle.own.proofs.Spans.{ends-as}
+use Rattle.shortest.proofs.Spans.{ends-as}
 use borrow.Author.Needs.{needs}
 use Rattle.own.proofs.value_at.Statement.{statement}
 use Rattle.own.proofs.value_at.Tie as tie

@@ -8,7 +8,7 @@ use Rattle.layout.specs.Limits.{base}
 use Rattle.layout.specs.Varint.{shortest}
 use Rattle.types.specs.Types.{subtype}
 use Rattle.held.specs.Headers.{headersOf}
-use Rattle.answers.specs.Tests.{payloadTooLong}
+use Rattle.refusals.specs.Tests.{payloadTooLong}
 use Rattle.write_slowly.specs.Went.{fixlenBytes}
 use Rattle.write_slowly.proofs.Went.{sized-goes, refuses, goes}
 use borrow.Author.Needs.{needs}

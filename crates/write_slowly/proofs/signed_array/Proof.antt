@@ -5,7 +5,7 @@ use lib.ListN.{length}
 use Rattle.layout.specs.Limits.{base}
 use Rattle.layout.specs.Field.{signedArray}
 use Rattle.layout.specs.Copy.{fieldBytes}
-use Rattle.answers.specs.Tests.{arrayTooLong}
+use Rattle.refusals.specs.Tests.{arrayTooLong}
 use Rattle.write_slowly.proofs.Went.{sized-goes, refuses, goes}
 use borrow.Author.Needs.{needs}
 use Rattle.write_slowly.proofs.signed_array.Statement.{statement}

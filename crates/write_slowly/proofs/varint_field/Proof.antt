@@ -5,7 +5,8 @@ use lib.ListN.{length}
 use mathlib.Core.Path.{_≡_, ap, _∙_}
 use mathlib.Core.List.{[], _++_}
 use Rattle.layout.specs.Varint.{shortest}
-use Rattle.answers.specs.Judged.{judged, checkOf}
+use Rattle.refusals.specs.Judged.{judged}
+use Rattle.answers.specs.Check.{checkOf}
 use Rattle.held.specs.Headers.{headersOf}
 use Rattle.write_slowly.specs.Went.{tests, judgementOf}
 use Rattle.write_slowly.proofs.Went.{may-go, refuses, goes}

@@ -8,8 +8,9 @@ use lib.ListN.{length}
 use Rattle.layout.specs.Limits.{base}
 use Rattle.layout.specs.Varint.{shortest}
 use Rattle.layout.specs.Copy.{fieldBytes}
-use Rattle.answers.specs.Judged.{Judgement, accepted, judged, checkOf}
-use Rattle.answers.specs.Tests.{unsoundWriter, deepest, idTooLarge}
+use Rattle.refusals.specs.Judged.{Judgement, accepted, judged}
+use Rattle.answers.specs.Check.{checkOf}
+use Rattle.refusals.specs.Tests.{unsoundWriter, deepest, idTooLarge}
 use Rattle.answers.proofs.Checks.{check-passes, check-fails}
 use Rattle.ostream.proofs.Calls.{Sound, refuses, settles, alters, begin-knows, few-clears}
 use borrow.Author.Tests.{lt-ltb, le-ltb}

@@ -6,8 +6,9 @@ use mathlib.Core.Path.{_≡_, refl, sym, ap, _∙_}
 use native.Mathlib.Omega.{arith}
 use lib.ListN.{length}
 use Rattle.layout.specs.Copy.{fieldBytes}
-use Rattle.answers.specs.Judged.{Judgement, accepted, judged, checkOf}
-use Rattle.answers.specs.Tests.{unsoundWriter, outermost}
+use Rattle.refusals.specs.Judged.{Judgement, accepted, judged}
+use Rattle.answers.specs.Check.{checkOf}
+use Rattle.refusals.specs.Tests.{unsoundWriter, outermost}
 use Rattle.answers.proofs.Checks.{check-passes, check-fails}
 use Rattle.ostream.proofs.Calls.{refuses, alters, recalled, none-held, is-sound, end-knows}
 use borrow.Author.Tests.{eq-eqb, ne-eqb}

@@ -3,8 +3,9 @@ use mathlib.Core.Bool.{Bool}
 use mathlib.Core.List.{[], _∷_}
 use mathlib.Core.Path.{_≡_, refl, sym, ap, _∙_}
 use lib.ListN.{length}
-use Rattle.answers.specs.Judged.{Judgement, judged, checkOf}
-use Rattle.answers.specs.Tests.{unsoundWriter, stringSubtype, idTooLarge, payloadTooLong}
+use Rattle.refusals.specs.Judged.{Judgement, judged}
+use Rattle.answers.specs.Check.{checkOf}
+use Rattle.refusals.specs.Tests.{unsoundWriter, stringSubtype, idTooLarge, payloadTooLong}
 use Rattle.answers.proofs.Checks.{check-passes, check-fails}
 use Rattle.ostream.proofs.Calls.{refuses, recalled, without}
 use Rattle.ostream.specs.Calls.{fixlenCall, unsound}

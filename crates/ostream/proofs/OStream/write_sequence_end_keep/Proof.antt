@@ -3,8 +3,9 @@ use mathlib.Core.Bool.{Bool}
 use mathlib.Core.List.{[], _∷_}
 use mathlib.Core.Path.{_≡_, ap, _∙_}
 use lib.ListN.{length}
-use Rattle.answers.specs.Judged.{Judgement, accepted, judged, checkOf}
-use Rattle.answers.specs.Tests.{unsoundWriter, outermost}
+use Rattle.refusals.specs.Judged.{Judgement, accepted, judged}
+use Rattle.answers.specs.Check.{checkOf}
+use Rattle.refusals.specs.Tests.{unsoundWriter, outermost}
 use Rattle.answers.proofs.Checks.{check-passes, check-fails}
 use Rattle.ostream.proofs.Calls.{refuses, end-knows}
 use Rattle.ostream.specs.Calls.{endKeepCall}

@@ -1,7 +1,7 @@
 -- `payload::PayloadAcc::accept` meets its contract: each test of the code is the definition's test in the same place.
 use mathlib.Core.Path.{sym, _∙_}
 use borrow.Author.Needs.{needs}
-use Rattle.payload.proofs.Cases.{over-already, too-long, whole-chunk, elsewhere, next}
+use Rattle.gathering.proofs.Cases.{over-already, too-long, whole-chunk, elsewhere, next}
 use Rattle.payload.proofs.PayloadAcc.accept.Statement.{statement}
 use Rattle.payload.proofs.PayloadAcc.accept.Tie as tie
 

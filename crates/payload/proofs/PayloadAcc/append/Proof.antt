@@ -1,6 +1,6 @@
 -- `payload::PayloadAcc::append` meets its contract: the bytes owed are copied, and the answer is whole once they are all there.
 use borrow.Author.Needs.{needs}
-use Rattle.payload.proofs.Cases.{partial, filled}
+use Rattle.gathering.proofs.Cases.{partial, filled}
 use Rattle.payload.proofs.PayloadAcc.append.Statement.{statement}
 use Rattle.payload.proofs.PayloadAcc.append.Tie as tie
 

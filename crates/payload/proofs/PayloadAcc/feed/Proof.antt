@@ -1,9 +1,9 @@
 -- `payload::PayloadAcc::feed` meets its contract: number 3 first, then what a sound state does.
 use mathlib.Core.Path.{sym, ap, _∙_}
 use borrow.Author.Needs.{needs}
-use Rattle.payload.specs.declared.PayloadAcc.{PayloadAcc}
-use Rattle.payload.specs.Gather.{accepted}
-use Rattle.payload.proofs.Cases.{unsound, in-order, begun-within}
+use Rattle.gathering.specs.Gather.{Gatherer, accepted}
+use Rattle.payload.specs.Words.{stateOf}
+use Rattle.gathering.proofs.Cases.{unsound, in-order, begun-within}
 use Rattle.payload.proofs.PayloadAcc.feed.Statement.{statement}
 use Rattle.payload.proofs.PayloadAcc.feed.Tie as tie
 
@@ -13,7 +13,7 @@ returns c = unsound _ _ _ _ _ (c .if1 .taken)
 accept-requires : tie.Need-accept-requires
 accept-requires c κs =
     let a = c .before .before .before .before .before .before .args in
-    begun-within (a .self) _ (a .offset) _ (c .before .begin .ensures) (c .before .before .if1 .left)
+    begun-within (stateOf (a .self)) _ (a .offset) _ (c .before .begin .ensures) (c .before .before .if1 .left)
 
 returns-2 : tie.Need-returns-2
 returns-2 c =
@@ -21,8 +21,8 @@ returns-2 c =
     let s = r .before .before in
     let a = s .before .before .before .before .before .args in
     r .accept .ensures
-    ∙ ap (λ (x : PayloadAcc). accepted x (a .buf .now) (a .total) (a .offset) (a .chunk .now)) (s .begin .ensures)
-    ∙ sym (in-order (a .self) (a .buf .now) (a .total) (a .offset) (a .chunk .now) (s .before .if1 .left))
+    ∙ ap (λ (x : Gatherer). accepted x (a .buf .now) (a .total) (a .offset) (a .chunk .now)) (s .begin .ensures)
+    ∙ sym (in-order (stateOf (a .self)) (a .buf .now) (a .total) (a .offset) (a .chunk .now) (s .before .if1 .left))
 
 pub feed-spec : {M : Type 1} → statement M
 feed-spec =

@@ -7,172 +7,116 @@ use libc::STDERR_FILENO;
 use libc::STDIN_FILENO;
 use libc::STDOUT_FILENO;
 use ostream::Count;
+use std::num::wrapping_add_u64;
+use std::num::wrapping_add_usize;
 
-// Where the copy stands: the chunk's rest is still to be handed in; the verdict once the chunk is spent; or a read or a write failed.
-enum State {
-    More,
-    Complete,
-    Incomplete,
-    Broken,
-    Unread,
-    Unwritten,
-}
+// Where the copy stands: the chunk's rest is still to be handed in; the verdict once the chunk is spent; or it can't go on.
+const MORE: u8 = 0;
 
-// The copier, how much of the chunk it has used, how many bytes of the message it was given, and whether the input is at its end.
+const COMPLETE: u8 = 1;
+
+const INCOMPLETE: u8 = 2;
+
+const BROKEN: u8 = 3;
+
+const UNREAD: u8 = 4;
+
+const UNWRITTEN: u8 = 5;
+
+// The copier, the chunk and how much of it is used, how many bytes of the message it was given, and whether that is all.
 struct Copy {
     copier: Copier,
     from: usize,
+    to: usize,
     bytes: u64,
+    state: u8,
     ended: bool,
-    state: State,
 }
 
-// What is left of a drain: whether the bytes went out.
-struct Sent {
-    copier: Copier,
-    out: bool,
-}
-
-// The place that many bytes on, within the chunk.
-fn advance(len: usize, from: usize, used: usize) -> usize {
-    if from <= len {
-        if used <= len - from {
-            return from + used;
-        }
+fn verdict(s: Status) -> u8 {
+    match s {
+        Status::Complete => COMPLETE,
+        Status::Incomplete => INCOMPLETE,
     }
-    len
 }
 
-// The buffer's bytes go to standard output.
-fn drain(copier: Copier, out: &[u8]) -> Sent {
-    let drained = copier.flush(out);
-    let answer = drained.answer;
+fn state(a: Answer) -> u8 {
+    match a {
+        Answer::Full => MORE,
+        Answer::Status(s) => verdict(s),
+        Answer::Refused(_) => BROKEN,
+    }
+}
+
+// Whether the buffer's bytes went to standard output.
+fn sent(count: Count, out: &[u8]) -> bool {
+    match count {
+        Count::Bytes(n) => n <= out.len() && io::write_all(STDOUT_FILENO, &out[0..n]),
+        Count::Refused(_) => false,
+    }
+}
+
+fn drain(mut c: Copy, out: &[u8]) -> Copy {
+    let drained = c.copier.flush(out);
+    let count = drained.answer;
     let next = drained.copier;
-    match answer {
-        Count::Bytes(n) => Sent {
-            copier: next,
-            out: n <= out.len() && io::write_all(STDOUT_FILENO, &out[0..n]),
-        },
-        Count::Refused(_) => Sent {
-            copier: next,
-            out: false,
-        },
-    }
-}
-
-// After "full": the chunk's rest is next, unless the bytes don't go out.
-fn make_room(copier: Copier, out: &[u8], from: usize, bytes: u64) -> Copy {
-    let sent = drain(copier, out);
-    let next = sent.copier;
-    Copy {
-        copier: next,
-        from,
-        bytes,
-        ended: false,
-        state: if sent.out {
-            State::More
-        } else {
-            State::Unwritten
-        },
-    }
-}
-
-fn at_verdict(copier: Copier, from: usize, bytes: u64, state: State) -> Copy {
-    Copy {
-        copier,
-        from,
-        bytes,
-        ended: false,
-        state,
-    }
-}
-
-// One call on the rest of the chunk.
-fn call(c: Copy, len: usize, rest: &[u8], out: &mut [u8]) -> Copy {
-    let copier = c.copier;
-    let copied = copier.feed(rest, out);
-    let answer = copied.answer;
-    let next = copied.copier;
-    let from = advance(len, c.from, copied.used);
-    let bytes = std::num::wrapping_add_u64(c.bytes, copied.used as u64);
-    match answer {
-        Answer::Full => make_room(next, out, from, bytes),
-        Answer::Status(s) => match s {
-            Status::Complete => at_verdict(next, from, bytes, State::Complete),
-            Status::Incomplete => at_verdict(next, from, bytes, State::Incomplete),
-        },
-        Answer::Refused(_) => at_verdict(next, from, bytes, State::Broken),
-    }
-}
-
-fn step(c: Copy, chunk: &[u8], out: &mut [u8]) -> Copy {
-    let from = c.from;
-    if from <= chunk.len() {
-        call(c, chunk.len(), &chunk[from..], out)
-    } else {
-        call(c, chunk.len(), &chunk[0..0], out)
-    }
-}
-
-fn with(c: Copy, ended: bool, state: State) -> Copy {
-    let copier = c.copier;
-    Copy {
-        copier,
-        from: 0,
-        bytes: c.bytes,
-        ended,
-        state,
-    }
-}
-
-// A chunk to its end. Nothing but the count says to the prover that this ends.
-fn copy_chunk(start: Copy, chunk: &[u8], out: &mut [u8]) -> Copy {
-    let mut c = step(start, chunk, out);
-    let mut turns = u64::MAX;
-    while 0 < turns {
-        let state = c.state;
-        let State::More = state else {
-            return c;
-        };
-        c = step(c, chunk, out);
-        turns -= 1;
+    c.copier = next;
+    if !sent(count, out) {
+        c.state = UNWRITTEN;
     }
     c
 }
 
-// One chunk of the input. At its end the verdict stays as it is.
-fn take_chunk(c: Copy, input: &mut [u8], out: &mut [u8]) -> Copy {
+fn part(input: &[u8], from: usize, to: usize) -> &[u8] {
+    if from <= to && to <= input.len() {
+        &input[from..to]
+    } else {
+        &input[0..0]
+    }
+}
+
+// The next chunk, where this one is spent. At the input's end the verdict stays as it is.
+fn refill(mut c: Copy, input: &mut [u8]) -> Copy {
+    if c.state == MORE {
+        return c;
+    }
     let got = libc::read(STDIN_FILENO, input);
     let n = io::count(got, input);
     if got < 0 {
-        return with(c, true, State::Unread);
+        c.state = UNREAD;
     }
-    if n == 0 {
-        let state = c.state;
-        return with(c, true, state);
-    }
-    let state = c.state;
-    copy_chunk(with(c, false, state), &input[..n], out)
+    c.from = 0;
+    c.to = n;
+    c.ended = n == 0;
+    c
 }
 
-fn goes_on(c: Copy) -> bool {
-    let state = c.state;
-    match state {
-        State::Complete => !c.ended,
-        State::Incomplete => !c.ended,
-        _ => false,
+// One call on the rest of the chunk. After "full" that goes on, once the bytes are out.
+fn step(mut c: Copy, input: &[u8], out: &mut [u8]) -> Copy {
+    if c.ended {
+        return c;
     }
+    let copied = c.copier.feed(part(input, c.from, c.to), out);
+    let answer = copied.answer;
+    let next = copied.copier;
+    c.copier = next;
+    c.from = wrapping_add_usize(c.from, copied.used);
+    c.bytes = wrapping_add_u64(c.bytes, copied.used as u64);
+    c.state = state(answer);
+    if c.state == MORE {
+        c = drain(c, out);
+    }
+    c.ended = BROKEN <= c.state;
+    c
 }
 
-// Chunk by chunk to the end of the input. Nothing says that an input ends, so the count falls from a number that no run uses up.
+// Call by call to the end of the input. Nothing says that an input ends, so the count falls from a number that no run uses up.
 fn copy_all(start: Copy, input: &mut [u8], out: &mut [u8]) -> Copy {
     let mut c = start;
     let mut turns = u64::MAX;
-    while 0 < turns {
-        if !goes_on(c) {
-            return c;
-        }
-        c = take_chunk(c, input, out);
+    while 0 < turns && !c.ended {
+        c = refill(c, input);
+        c = step(c, input, out);
         turns -= 1;
     }
     c
@@ -181,30 +125,24 @@ fn copy_all(start: Copy, input: &mut [u8], out: &mut [u8]) -> Copy {
 fn complain(what: &[u8]) {
     io::write_all(STDERR_FILENO, b"manifest: ");
     io::write_all(STDERR_FILENO, what);
-    io::write_all(STDERR_FILENO, b"\n");
 }
 
 fn complain_at(what: &[u8], byte: u64) {
-    io::write_all(STDERR_FILENO, b"manifest: ");
-    io::write_all(STDERR_FILENO, what);
+    complain(what);
     io::print_decimal(STDERR_FILENO, byte);
     io::write_all(STDERR_FILENO, b"\n");
 }
 
 // The rest goes out, and what is wrong is said: a failed write first, since then the output is too short.
 fn finish(c: Copy, out: &[u8]) {
-    let state = c.state;
-    let bytes = c.bytes;
-    let sent = drain(c.copier, out);
-    if !sent.out {
-        return complain(b"standard output cannot be written");
-    }
+    let left = drain(c, out);
+    let state = left.state;
     match state {
-        State::Complete => (),
-        State::Incomplete => complain_at(b"incomplete, it ends after byte ", bytes),
-        State::Broken => complain_at(b"broken at byte ", bytes),
-        State::Unread => complain(b"standard input cannot be read"),
-        _ => complain(b"standard output cannot be written"),
+        UNWRITTEN => complain(b"standard output cannot be written\n"),
+        UNREAD => complain(b"standard input cannot be read\n"),
+        BROKEN => complain_at(b"broken at byte ", left.bytes),
+        INCOMPLETE => complain_at(b"incomplete, it ends after byte ", left.bytes),
+        _ => (),
     }
 }
 
@@ -217,9 +155,10 @@ fn main() {
     let start = Copy {
         copier,
         from: 0,
+        to: 0,
         bytes: 0,
+        state: COMPLETE,
         ended: false,
-        state: State::Complete,
     };
     let c = copy_all(start, &mut input, &mut out);
     finish(c, &out);

@@ -1,13 +1,9 @@
--- `manifest::copy_all` is safe and ends.
+-- `manifest::copy_all` is safe and ends: each turn takes one from `turns`.
+use borrow.Author.Needs.{needs}
 use mathlib.Core.Path.{_≡_}
 use lib.ListN.{length}
-use borrow.Author.Needs.{needs}
 use Rattle.manifest.proofs.copy_all.Statement.{statement}
 use Rattle.manifest.proofs.copy_all.Tie as tie
-use Rattle.manifest.proofs.copy_all.Reads as reads
-use Rattle.manifest.proofs.copy_all.Lts as lts
-use Rattle.manifest.proofs.goes_on.Reads as goes-on-reads
-use Rattle.manifest.proofs.take_chunk.Reads as take-chunk-reads
 
 abbrev Inv-loop : tie.InvT-loop
 Inv-loop input₀ out₀ c₀ turns₀ input out c turns = (length input ≡ length input₀) × (length out ≡ length out₀)
@@ -19,6 +15,6 @@ pub copy-all-spec : {M : Type 1} → statement M
 copy-all-spec =
     tie.close
     (tie.spec
-    Inv-loop μ-loop (λ c. search needs) (λ c κs. search needs) (λ c. search needs) (λ c. search needs)
-    (λ c. search needs) (λ c κs. search needs) (λ c. search needs) (λ c. search needs) (λ c. search needs)
+    Inv-loop μ-loop (λ c. search needs) (λ c κs. search needs) (λ c κs. search needs) (λ c. search needs)
+    (λ c. search needs) (λ c. search needs) (λ c. search needs) (λ c. search needs) (λ c. search needs)
     (λ c. search needs) (λ c. search needs) (λ c. search needs))

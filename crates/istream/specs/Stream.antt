@@ -9,12 +9,8 @@ use Rattle.machine.specs.Calls.{State, reading, owing, broke, Called, call, sta
 use Rattle.machine.specs.Calls as calls
 use Rattle.types.specs.Types.{refusal}
 use Rattle.event.specs.Event.{declared}
-use Rattle.phase.specs.declared.Carried.{Carried}
-use Rattle.phase.specs.declared.Phase.{Phase}
 use Rattle.phase.specs.Phases.{stateAt, phaseOf, carriedOf, soundPhase}
 use Rattle.stepped.specs.Steps.{covered}
-use Rattle.stepped.specs.declared.Stepped.{Stepped}
-use Rattle.stepped.specs.declared.Stepped.the-variants.{On, Raised, Bad}
 use Rattle.istream.specs.declared.IStream.{IStream}
 use Rattle.istream.specs.declared.Status.{Status}
 use Rattle.istream.specs.declared.Status.the-variants.{Complete, Incomplete}
@@ -55,12 +51,6 @@ statusIn complete = Complete
 statusIn incomplete = Incomplete
 statusIn (brokenAt n) = Incomplete
 
--- the verdict of where a message stands
-abbrev pub verdictIn : Standing → Status
-verdictIn Standings.Complete = Complete
-verdictIn Standings.Incomplete = Incomplete
-verdictIn Standings.Invalid = Incomplete
-
 -- the machine's answer after n bytes as this crate's: a piece ends at the bytes read
 abbrev pub answerIn : ℕ → calls.Said → Answer
 answerIn n (calls.event e) = Answers.Event (declared (n - covered e) e)
@@ -69,16 +59,6 @@ answerIn n calls.invalid = Answers.Refused (refusal 2)
 
 unfoldable pub fedIn : Called → Fed
 fedIn c = record { read = c .read; answer = answerIn (c .read) (c .answer); stream = streamIn (c .state) }
-
--- a call's end: the bytes read, the answer, and the reader in a phase with what is carried along
-abbrev pub fedAt : ℕ → Answer → Phase → Carried → Fed
-fedAt n a p k = record { read = n; answer = a; stream = record { phase = p; carried = k } }
-
--- where a byte leaves a call that has read n: at an event, broken, or at the chunk's end
-abbrev pub stopped : ℕ → Stepped → Fed
-stopped n (On p k) = fedAt n (Answers.Status (verdictIn (statusOf (record { phase = p; carried = k })))) p k
-stopped n (Raised e p k) = fedAt n (Answers.Event e) p k
-stopped n Bad = record { read = n; answer = Answers.Refused (refusal 2); stream = streamIn broke }
 
 -- "Number 1: the reader state isn't sound; nothing is read and the state returns unaltered."
 abbrev pub ifSound : Limits → IStream → List ℕ → Fed

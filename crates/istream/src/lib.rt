@@ -1,15 +1,12 @@
 // The reference reader, the Rust's istream.rs: a machine on bytes whose state is taken and handed back by value.
 // A call reads on to the next event and stops there, or gives the verdict once the chunk is spent. No byte is copied or held: a piece of
 // a payload is its bounds in the chunk.
-// The state and the calls that users make are here; what a call does where nothing stands whole in the chunk is in `slowly`.
-mod slowly;
-
+// The state and the calls that users make are here; what stands whole in the chunk is read by `read_at_once`, the rest by `read_slowly`.
 ghost use mathlib.Core.Path.{_≡_};
 ghost use Rattle.layout.specs.Limits.{base};
 ghost use Rattle.machine.specs.Calls.{fresh};
-ghost use Rattle.istream.specs.Stream.{streamIn, soundStream, statusOf, fedAt, fedOf, takenOf};
-use crate::slowly::feed_out_of_line;
-use crate::slowly::payload;
+ghost use Rattle.istream.specs.Stream.{streamIn, soundStream, statusOf, fedOf, takenOf};
+ghost use Rattle.istream.specs.Private.{answerBy, fedAt, fedBy};
 use event::Event;
 use phase::Carried;
 use phase::Phase;
@@ -18,6 +15,11 @@ use phase::sound;
 use phase::sound_payload;
 use read_at_once::Once;
 use read_at_once::at_once;
+use read_slowly::Outcome;
+use read_slowly::Went;
+use read_slowly::complete;
+use read_slowly::out_of_line;
+use read_slowly::payload;
 use types::Error;
 
 // What is under way, and what goes along with it.
@@ -74,6 +76,26 @@ fn answered(read: usize, answer: Answer, phase: Phase, carried: Carried) -> Fed
     }
 }
 
+// What a call comes to slowly, as its answer and its end.
+fn answer_by(outcome: Outcome) -> Answer
+    ensures { λ r. ⌜ r ≡ answerBy outcome ⌝ }
+{
+    match outcome {
+        Outcome::Event(e) => Answer::Event(e),
+        Outcome::Complete => Answer::Status(Status::Complete),
+        Outcome::Incomplete => Answer::Status(Status::Incomplete),
+        Outcome::Refused(e) => Answer::Refused(e),
+    }
+}
+
+fn fed_by(w: Went) -> Fed
+    ensures { λ r. ⌜ r ≡ fedBy w ⌝ }
+{
+    let outcome = w.outcome;
+    let phase = w.phase;
+    answered(w.read, answer_by(outcome), phase, w.carried)
+}
+
 impl IStream {
     pub fn new() -> IStream
         ensures { λ r. ⌜ r ≡ streamIn fresh ⌝ }
@@ -89,16 +111,10 @@ impl IStream {
         ensures { λ r. ⌜ r ≡ statusOf self ⌝ }
     {
         let phase = self.phase;
-        let depth = self.carried.depth;
+        if complete(phase, self.carried) {
+            return Standing::Complete;
+        }
         match phase {
-            Phase::Header(a) => {
-                if a.taken == 0 {
-                    if depth == 0 {
-                        return Standing::Complete;
-                    }
-                }
-                Standing::Incomplete
-            }
             Phase::Broken => Standing::Invalid,
             _ => Standing::Incomplete,
         }
@@ -120,13 +136,13 @@ impl IStream {
         let carried = self.carried;
         if let Phase::Payload(id, r, total, offset) = phase {
             if sound_payload(id, r, total, offset) {
-                return payload(carried, id, r, total, offset, chunk);
+                return fed_by(payload(carried, id, r, total, offset, chunk));
             }
         }
         let other = self.phase;
         let q = at_once(carried, other, chunk);
         let Once::Done(p, k, e, n) = q else {
-            return feed_out_of_line(self, chunk);
+            return fed_by(out_of_line(other, carried, chunk));
         };
         answered(n, Answer::Event(e), p, k)
     }

@@ -1,0 +1,161 @@
+// A call from any state, by its phase and what is carried along: what it refuses, and else a payload's bytes in one piece, an empty payload's
+// piece that is due, or bytes one by one.
+ghost use mathlib.Core.Path.{_≡_};
+ghost use Prim.Native.Nat.{_<_};
+ghost use Rattle.layout.specs.Limits.{base};
+ghost use Rattle.machine.specs.Machine.{inPayload};
+ghost use Rattle.machine.specs.Calls.{reading, call, verdictSo};
+ghost use Rattle.types.specs.Types.{rawSort};
+ghost use Rattle.phase.specs.Phases.{stateAt};
+ghost use Rattle.phase.specs.Sound.{AtBytes};
+ghost use Rattle.read_slowly.specs.Slowly.{isComplete, wentAt, wentIn, stopped, wentOf};
+use event::Event;
+use phase::Carried;
+use phase::Phase;
+use phase::idle;
+use phase::rebuilt;
+use phase::sound;
+use step::step;
+use stepped::Stepped;
+use stepped::piece;
+use types::Error;
+use types::RawType;
+
+// What a call comes to: an event, the verdict once the chunk is spent, or a refusal.
+pub enum Outcome {
+    Event(Event),
+    Complete,
+    Incomplete,
+    Refused(Error),
+}
+
+// The bytes read of the chunk, what the call comes to, and the state after it.
+pub struct Went {
+    pub read: usize,
+    pub outcome: Outcome,
+    pub phase: Phase,
+    pub carried: Carried,
+}
+
+// A call's end.
+fn ended(read: usize, outcome: Outcome, phase: Phase, carried: Carried) -> Went
+    ensures { λ r. ⌜ r ≡ wentAt read outcome phase carried ⌝ }
+{
+    Went {
+        read,
+        outcome,
+        phase,
+        carried,
+    }
+}
+
+// Whether no field is under way and no sequence is open.
+pub fn complete(phase: Phase, carried: Carried) -> bool
+    ensures { λ r. ⌜ r ≡ isComplete (verdictSo (stateAt (carried .depth) phase)) ⌝ }
+{
+    match phase {
+        Phase::Header(a) => {
+            if a.taken == 0 {
+                return carried.depth == 0;
+            }
+            false
+        }
+        _ => false,
+    }
+}
+
+// Where a byte leaves a call that has read n.
+fn stop(n: usize, s: Stepped) -> Went
+    ensures { λ r. ⌜ r ≡ stopped n s ⌝ }
+{
+    match s {
+        Stepped::On(phase, carried) => {
+            if complete(phase, carried) {
+                return ended(n, Outcome::Complete, phase, carried);
+            }
+            ended(n, Outcome::Incomplete, phase, carried)
+        }
+        Stepped::Raised(event, phase, carried) => ended(n, Outcome::Event(event), phase, carried),
+        Stepped::Bad => ended(
+            n,
+            Outcome::Refused(Error::InvalidMsg),
+            Phase::Broken,
+            Carried { depth: 0 },
+        ),
+    }
+}
+
+// Reads on byte by byte.
+fn scan(from: Phase, with: Carried, chunk: &[u8]) -> Went
+    requires { ⌜ AtBytes base (stateAt (with .depth) from) ⌝ }
+    ensures { λ r. ⌜ r ≡ wentIn (call base (stateAt (with .depth) from) (now (chunk .entry))) ⌝ }
+{
+    let mut phase = from;
+    let mut carried = with;
+    let mut n: usize = 0;
+    while n < chunk.len() {
+        let s = step(carried, phase, chunk[n]);
+        let read = n + 1;
+        let Stepped::On(p, k) = s else {
+            return stop(read, s);
+        };
+        phase = p;
+        carried = k;
+        n = read;
+    }
+    stop(n, Stepped::On(phase, carried))
+}
+
+// A payload's bytes in one piece, as many as the chunk has.
+pub fn payload(carried: Carried, id: u32, r: RawType, total: u32, offset: u32, chunk: &[u8]) -> Went
+    requires { ⌜ offset < total ⌝ }
+    ensures { λ f. ⌜ f ≡ wentIn (call base (reading (carried .depth) (inPayload id (rawSort r) total offset)) (now (chunk .entry))) ⌝ }
+{
+    let len = chunk.len();
+    let owed = (total - offset) as usize;
+    if len == 0 {
+        let here = Phase::Payload(id, r, total, offset);
+        return ended(0, Outcome::Incomplete, here, carried);
+    }
+    if len < owed {
+        let part = Outcome::Event(piece(id, r, total, offset, len));
+        let rest = Phase::Payload(id, r, total, offset + (len as u32));
+        return ended(len, part, rest, carried);
+    }
+    let last = Outcome::Event(piece(id, r, total, offset, owed));
+    ended(owed, last, idle(), carried)
+}
+
+// From any state; an unsound and a broken one stay as they are.
+fn slowly(phase: Phase, carried: Carried, chunk: &[u8]) -> Went
+    ensures { λ r. ⌜ r ≡ wentOf base phase carried (now (chunk .entry)) ⌝ }
+{
+    if !sound(phase) {
+        return ended(0, Outcome::Refused(Error::UnsoundReader), phase, carried);
+    }
+    match phase {
+        Phase::Payload(id, r, total, offset) => payload(carried, id, r, total, offset, chunk),
+        Phase::Empty(id, r) => ended(0, Outcome::Event(piece(id, r, 0, 0, 0)), idle(), carried),
+        Phase::Broken => ended(0, Outcome::Refused(Error::InvalidMsg), phase, carried),
+        _ => scan(phase, carried, chunk),
+    }
+}
+
+fn went_rebuilt(w: Went) -> Went
+    ensures { λ r. ⌜ r ≡ w ⌝ }
+{
+    let outcome = w.outcome;
+    let phase = w.phase;
+    ended(w.read, outcome, rebuilt(phase), w.carried)
+}
+
+// The same, out of line.
+pub fn out_of_line(phase: Phase, carried: Carried, chunk: &[u8]) -> Went
+    ensures { λ r. ⌜ r ≡ wentOf base phase carried (now (chunk .entry)) ⌝ }
+{
+    let copy = rebuilt(phase);
+    if carried.depth == 0 {
+        return went_rebuilt(slowly(copy, carried, chunk));
+    }
+    went_rebuilt(slowly(copy, carried, chunk))
+}

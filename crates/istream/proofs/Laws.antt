@@ -28,8 +28,9 @@ use Rattle.istream.specs.declared.Answer.the-variants as Answers
 use Rattle.phase.specs.Phases.{stateAt, soundPhase}
 use Rattle.read_at_once.specs.declared.Once.the-variants.{Done}
 use Rattle.read_at_once.specs.AtOnce.{StopsAt, RightFrom}
-use Rattle.read_slowly.specs.declared.Went.{Went}
-use Rattle.read_slowly.specs.Slowly.{outcomeIn, wentIn, refused, wentFrom, wentOf}
+use Rattle.went.specs.declared.Went.{Went}
+use Rattle.went.specs.Went.{outcomeIn, wentIn, refused}
+use Rattle.read_slowly.specs.Slowly.{wentFrom, wentOf}
 use Rattle.istream.specs.Stream.{stateOf, streamIn, soundStream, answerIn, fedIn, ifSound, still, fedFrom, fedOf}
 use Rattle.istream.specs.Private.{answerBy, fedAt, fedBy}
 use Rattle.phase.specs.Sound.{SoundState, AtBytes, Kept}

@@ -15,7 +15,7 @@ use Rattle.phase.specs.declared.Phase.{Phase}
 use Rattle.phase.specs.declared.Phase.the-variants.{Header, Unsigned, Signed, Word, UnsignedCount, SignedCount, FloatCount, ArrayWord, Float, Payload, Empty, Broken}
 use Rattle.phase.specs.Phases.{stateAt, soundPhase, carriedAt}
 use Rattle.phase.proofs.Phase.{the-type}
-use Rattle.read_slowly.specs.Slowly.{isComplete}
+use Rattle.went.specs.Went.{isComplete}
 use Rattle.istream.specs.declared.IStream.{IStream}
 use Rattle.istream.specs.declared.Standing.the-variants.{Complete, Incomplete, Invalid}
 use Rattle.istream.specs.Stream.{stateOf, standingIn, statusOf, soundStream}

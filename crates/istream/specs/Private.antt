@@ -2,9 +2,9 @@
 use Prim.Native.Nat.{ℕ}
 use Rattle.phase.specs.declared.Carried.{Carried}
 use Rattle.phase.specs.declared.Phase.{Phase}
-use Rattle.read_slowly.specs.declared.Outcome.{Outcome}
-use Rattle.read_slowly.specs.declared.Outcome.the-variants as Outcomes
-use Rattle.read_slowly.specs.declared.Went.{Went}
+use Rattle.went.specs.declared.Outcome.{Outcome}
+use Rattle.went.specs.declared.Outcome.the-variants as Outcomes
+use Rattle.went.specs.declared.Went.{Went}
 use Rattle.istream.specs.declared.Status.the-variants.{Complete, Incomplete}
 use Rattle.istream.specs.declared.Answer.{Answer}
 use Rattle.istream.specs.declared.Answer.the-variants as Answers

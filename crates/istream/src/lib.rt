@@ -15,12 +15,12 @@ use phase::sound;
 use phase::sound_payload;
 use read_at_once::Once;
 use read_at_once::at_once;
-use read_slowly::Outcome;
-use read_slowly::Went;
-use read_slowly::complete;
 use read_slowly::out_of_line;
 use read_slowly::payload;
 use types::Error;
+use went::Outcome;
+use went::Went;
+use went::complete;
 
 // What is under way, and what goes along with it.
 pub struct IStream {

@@ -33,8 +33,8 @@ use Rattle.stepped.specs.declared.Stepped.{Stepped}
 use Rattle.stepped.specs.declared.Stepped.the-variants.{On, Raised}
 use Rattle.stepped.specs.Steps.{stepped, stepOn, covered, pieceIn}
 use Rattle.stepped.proofs.Stepped.{the-type}
-use Rattle.read_slowly.specs.declared.Outcome.the-variants.{Event as Happened, Incomplete}
-use Rattle.read_slowly.specs.Slowly.{spent, wentIn, wentAt, stopped}
+use Rattle.went.specs.declared.Outcome.the-variants.{Event as Happened, Incomplete}
+use Rattle.went.specs.Went.{spent, wentIn, wentAt, stopped}
 
 -- ---- reading on from a state, n bytes being read
 

@@ -1,4 +1,3 @@
--- `Calls` says what a call comes to; `Ways`, that it is the answer from any state; `Tests`, what the verdict's test is.
+-- `Calls` says what a call comes to; `Ways`, that it is the answer from any state.
 pub mod Calls
-pub mod Tests
 pub mod Ways

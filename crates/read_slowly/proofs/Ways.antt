@@ -17,8 +17,9 @@ use Rattle.phase.specs.declared.Phase.the-variants.{Broken}
 use Rattle.phase.specs.Phases.{stateAt, soundPhase, phaseIn, carriedAt}
 use Rattle.phase.proofs.Phases.{Live, both, broken-sound}
 use Rattle.stepped.specs.Steps.{pieceIn}
-use Rattle.read_slowly.specs.declared.Outcome.the-variants.{Event as Happened}
-use Rattle.read_slowly.specs.Slowly.{wentIn, wentAt, refused, wentFrom, wentOf}
+use Rattle.went.specs.declared.Outcome.the-variants.{Event as Happened}
+use Rattle.went.specs.Went.{wentIn, wentAt, refused}
+use Rattle.read_slowly.specs.Slowly.{wentFrom, wentOf}
 
 pub went-sound : (L : Limits) (p : Phase) (k : Carried) (st : State) (c : List ℕ) → stateAt (k .depth) p ≡ st → Live st → soundPhase L p ≡ true → wentIn (call L st c) ≡ wentOf L p k c
 unfolding wentOf

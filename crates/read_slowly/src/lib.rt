@@ -4,12 +4,12 @@ ghost use mathlib.Core.Path.{_≡_};
 ghost use Prim.Native.Nat.{_<_};
 ghost use Rattle.layout.specs.Limits.{base};
 ghost use Rattle.machine.specs.Machine.{inPayload};
-ghost use Rattle.machine.specs.Calls.{reading, call, verdictSo};
+ghost use Rattle.machine.specs.Calls.{reading, call};
 ghost use Rattle.types.specs.Types.{rawSort};
 ghost use Rattle.phase.specs.Phases.{stateAt};
 ghost use Rattle.phase.specs.Sound.{AtBytes};
-ghost use Rattle.read_slowly.specs.Slowly.{isComplete, wentAt, wentIn, stopped, wentOf};
-use event::Event;
+ghost use Rattle.went.specs.Went.{wentIn};
+ghost use Rattle.read_slowly.specs.Slowly.{wentOf};
 use phase::Carried;
 use phase::Phase;
 use phase::idle;
@@ -20,70 +20,11 @@ use stepped::Stepped;
 use stepped::piece;
 use types::Error;
 use types::RawType;
-
-// What a call comes to: an event, the verdict once the chunk is spent, or a refusal.
-pub enum Outcome {
-    Event(Event),
-    Complete,
-    Incomplete,
-    Refused(Error),
-}
-
-// The bytes read of the chunk, what the call comes to, and the state after it.
-pub struct Went {
-    pub read: usize,
-    pub outcome: Outcome,
-    pub phase: Phase,
-    pub carried: Carried,
-}
-
-// A call's end.
-fn ended(read: usize, outcome: Outcome, phase: Phase, carried: Carried) -> Went
-    ensures { λ r. ⌜ r ≡ wentAt read outcome phase carried ⌝ }
-{
-    Went {
-        read,
-        outcome,
-        phase,
-        carried,
-    }
-}
-
-// Whether no field is under way and no sequence is open.
-pub fn complete(phase: Phase, carried: Carried) -> bool
-    ensures { λ r. ⌜ r ≡ isComplete (verdictSo (stateAt (carried .depth) phase)) ⌝ }
-{
-    match phase {
-        Phase::Header(a) => {
-            if a.taken == 0 {
-                return carried.depth == 0;
-            }
-            false
-        }
-        _ => false,
-    }
-}
-
-// Where a byte leaves a call that has read n.
-fn stop(n: usize, s: Stepped) -> Went
-    ensures { λ r. ⌜ r ≡ stopped n s ⌝ }
-{
-    match s {
-        Stepped::On(phase, carried) => {
-            if complete(phase, carried) {
-                return ended(n, Outcome::Complete, phase, carried);
-            }
-            ended(n, Outcome::Incomplete, phase, carried)
-        }
-        Stepped::Raised(event, phase, carried) => ended(n, Outcome::Event(event), phase, carried),
-        Stepped::Bad => ended(
-            n,
-            Outcome::Refused(Error::InvalidMsg),
-            Phase::Broken,
-            Carried { depth: 0 },
-        ),
-    }
-}
+use went::Outcome;
+use went::Went;
+use went::ended;
+use went::stop;
+use went::unsound;
 
 // Reads on byte by byte.
 fn scan(from: Phase, with: Carried, chunk: &[u8]) -> Went
@@ -131,7 +72,7 @@ fn slowly(phase: Phase, carried: Carried, chunk: &[u8]) -> Went
     ensures { λ r. ⌜ r ≡ wentOf base phase carried (now (chunk .entry)) ⌝ }
 {
     if !sound(phase) {
-        return ended(0, Outcome::Refused(Error::UnsoundReader), phase, carried);
+        return unsound(phase, carried);
     }
     match phase {
         Phase::Payload(id, r, total, offset) => payload(carried, id, r, total, offset, chunk),

@@ -17,7 +17,7 @@ use Rattle.read_slowly.proofs.slowly.Tie as tie
 returns : tie.Need-returns
 returns c =
     let f : Fits w8 (c .before .before .before .before .args .carried .depth) = search needs in
-    c .ended .ensures ∙ went-unsound base (c .before .before .before .before .args .phase) (c .before .before .before .before .args .carried) (c .before .before .before .before .args .chunk .now) (omega (arith, f .fits)) (sym (c .before .before .sound .ensures) ∙ not-true _ (c .before .if1 .taken))
+    c .unsound .ensures ∙ went-unsound base (c .before .before .before .before .args .phase) (c .before .before .before .before .args .carried) (c .before .before .before .before .args .chunk .now) (omega (arith, f .fits)) (sym (c .before .before .sound .ensures) ∙ not-true _ (c .before .if1 .taken))
 
 payload-requires : tie.Need-payload-requires
 payload-requires c κs =
@@ -35,11 +35,11 @@ returns-2 c =
 
 returns-3 : tie.Need-returns-3
 returns-3 c =
-    c .ended2 .ensures ∙ owed-piece base (c .before .before .before .before .before .before .before .before .before .args .carried .depth) (c .before .before .before .before .phase2 .given .0 .0) (c .before .before .before .before .phase2 .given .0 .1 .0) (c .before .before .before .before .before .before .before .before .before .args .chunk .now) (c .before .before .piece .result) (c .before .idle .result) (c .before .before .piece .ensures) (c .before .idle .ensures) ∙ went-sound base (c .before .before .before .before .before .before .before .before .before .args .phase) (c .before .before .before .before .before .before .before .before .before .args .carried) _ (c .before .before .before .before .before .before .before .before .before .args .chunk .now) (ap (λ (p : Phase). stateAt (c .before .before .before .before .before .before .before .before .before .args .carried .depth) p) (c .before .before .before .before .phase2 .given .1)) tt (sym (c .before .before .before .before .before .before .before .sound .ensures) ∙ not-false _ (c .before .before .before .before .before .before .if1 .left))
+    c .ended .ensures ∙ owed-piece base (c .before .before .before .before .before .before .before .before .before .args .carried .depth) (c .before .before .before .before .phase2 .given .0 .0) (c .before .before .before .before .phase2 .given .0 .1 .0) (c .before .before .before .before .before .before .before .before .before .args .chunk .now) (c .before .before .piece .result) (c .before .idle .result) (c .before .before .piece .ensures) (c .before .idle .ensures) ∙ went-sound base (c .before .before .before .before .before .before .before .before .before .args .phase) (c .before .before .before .before .before .before .before .before .before .args .carried) _ (c .before .before .before .before .before .before .before .before .before .args .chunk .now) (ap (λ (p : Phase). stateAt (c .before .before .before .before .before .before .before .before .before .args .carried .depth) p) (c .before .before .before .before .phase2 .given .1)) tt (sym (c .before .before .before .before .before .before .before .sound .ensures) ∙ not-false _ (c .before .before .before .before .before .before .if1 .left))
 
 returns-4 : tie.Need-returns-4
 returns-4 c =
-    c .ended3 .ensures ∙ went-broken base (c .before .before .before .before .before .before .args .phase) (c .before .before .before .before .before .before .args .carried) (c .before .before .before .before .before .before .args .chunk .now) (c .before .enum-told .given .1)
+    c .ended2 .ensures ∙ went-broken base (c .before .before .before .before .before .before .args .phase) (c .before .before .before .before .before .before .args .carried) (c .before .before .before .before .before .before .args .chunk .now) (c .before .enum-told .given .1)
 
 returns-5 : tie.Need-returns-5
 returns-5 c =

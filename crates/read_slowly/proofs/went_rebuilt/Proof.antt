@@ -1,6 +1,6 @@
 -- `read_slowly::went_rebuilt` meets its contract.
 use Rattle.phase.specs.declared.Phase.{Phase}
-use Rattle.read_slowly.specs.Slowly.{wentAt}
+use Rattle.went.specs.Went.{wentAt}
 use mathlib.Core.Path.{ap, _∙_}
 use borrow.Author.Needs.{needs}
 use Rattle.read_slowly.proofs.went_rebuilt.Statement.{statement}

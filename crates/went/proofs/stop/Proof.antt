@@ -1,11 +1,11 @@
--- `read_slowly::stop` meets its contract.
+-- `went::stop` meets its contract.
 use mathlib.Core.Path.{sym, ap, _∙_}
 use mathlib.Core.Bool.{true, false}
-use Rattle.read_slowly.specs.Slowly.{stopped}
-use Rattle.read_slowly.proofs.Tests.{stop-spent}
+use Rattle.went.specs.Went.{stopped}
+use Rattle.went.proofs.Tests.{stop-spent}
 use borrow.Author.Needs.{needs}
-use Rattle.read_slowly.proofs.stop.Statement.{statement}
-use Rattle.read_slowly.proofs.stop.Tie as tie
+use Rattle.went.proofs.stop.Statement.{statement}
+use Rattle.went.proofs.stop.Tie as tie
 
 returns : tie.Need-returns
 returns c =

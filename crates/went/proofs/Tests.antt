@@ -18,8 +18,8 @@ use Rattle.phase.specs.Phases.{stateAt}
 use Rattle.phase.proofs.Phase.{the-type}
 use Rattle.stepped.specs.declared.Stepped.{Stepped}
 use Rattle.stepped.specs.declared.Stepped.the-variants.{On}
-use Rattle.read_slowly.specs.declared.Outcome.the-variants.{Complete, Incomplete}
-use Rattle.read_slowly.specs.Slowly.{isComplete, wentAt, stopped}
+use Rattle.went.specs.declared.Outcome.the-variants.{Complete, Incomplete}
+use Rattle.went.specs.Went.{isComplete, wentAt, stopped}
 
 -- within anything but a header
 pub no-header : (d : ℕ) (p : Phase) → OneOf (1 ∷ 2 ∷ 3 ∷ 4 ∷ 5 ∷ 6 ∷ 7 ∷ 8 ∷ 9 ∷ 10 ∷ 11 ∷ []) (tagOf the-type p) → false ≡ isComplete (verdictSo (stateAt d p))

@@ -1,8 +1,8 @@
--- `read_slowly::complete` meets its contract: between fields at depth 0.
-use Rattle.read_slowly.proofs.Tests.{no-header, between-fields, within-header}
+-- `went::complete` meets its contract: between fields at depth 0.
+use Rattle.went.proofs.Tests.{no-header, between-fields, within-header}
 use borrow.Author.Needs.{needs}
-use Rattle.read_slowly.proofs.complete.Statement.{statement}
-use Rattle.read_slowly.proofs.complete.Tie as tie
+use Rattle.went.proofs.complete.Statement.{statement}
+use Rattle.went.proofs.complete.Tie as tie
 
 returns : tie.Need-returns
 returns c = between-fields (c .before .before .before .before .before .before .args .carried .depth) (c .before .before .before .before .before .before .args .phase) _ (c .before .before .before .before .phase .given .1) (c .before .if1 .taken)

@@ -11,8 +11,6 @@ use Rattle.layout.specs.Limits.{Limits, pick}
 use Rattle.layout.specs.Field.{Raw, bytesOf}
 use Rattle.machine.specs.Machine as machine
 use Rattle.machine.specs.Machine.{inHeader, inUnsigned, inSigned, inWord, inUnsignedCount, inSignedCount, inFloatCount, inArrayWord, inFloat, inPayload, idle, on, bad}
-use Rattle.layout.specs.Message.{complete, incomplete, brokenAt}
-use Rattle.machine.specs.Calls as calls
 use Rattle.machine.specs.Calls.{State, reading, owing, broke, fresh, Called, call, scan, scanned}
 use Rattle.types.specs.declared.RawType.{RawType}
 use Rattle.types.specs.declared.RawType.the-variants as Raws
@@ -23,16 +21,15 @@ use Rattle.phase.specs.declared.Carried.{Carried}
 use Rattle.phase.specs.declared.Phase.{Phase}
 use Rattle.phase.specs.declared.Phase.the-variants.{Header, Unsigned, Signed, Word, UnsignedCount, SignedCount, FloatCount, ArrayWord, Float, Payload, Empty, Broken}
 use Rattle.istream.specs.declared.IStream.{IStream}
-use Rattle.istream.specs.declared.Answer.{Answer}
-use Rattle.istream.specs.declared.Answer.the-variants as Answers
+use Rattle.went.specs.declared.Answer.the-variants as Answers
 use Rattle.phase.specs.Phases.{stateAt, soundPhase}
 use Rattle.read_at_once.specs.declared.Once.the-variants.{Done}
 use Rattle.read_at_once.specs.AtOnce.{StopsAt, RightFrom}
 use Rattle.went.specs.declared.Went.{Went}
-use Rattle.went.specs.Went.{outcomeIn, wentIn, refused}
+use Rattle.went.specs.Went.{wentIn, refused}
 use Rattle.read_slowly.specs.Slowly.{wentFrom, wentOf}
 use Rattle.istream.specs.Stream.{stateOf, streamIn, soundStream, answerIn, fedIn, ifSound, still, fedFrom, fedOf}
-use Rattle.istream.specs.Private.{answerBy, fedAt, fedBy}
+use Rattle.istream.specs.Private.{fedAt, fedBy}
 use Rattle.phase.specs.Sound.{SoundState, AtBytes, Kept}
 use Rattle.phase.proofs.Phases.{width-back, Live, both, join, phase-is, varint-is}
 use Rattle.phase.proofs.Keeps.{step-keeps}
@@ -77,17 +74,10 @@ pub fed-broken : (L : Limits) (s : IStream) (c : List ℕ) → s .phase ≡ Brok
 unfolding fedOf
 fed-broken L s c e = sym (ap (λ (p : Phase). fedFrom L (stateAt (s .carried .depth) p) s c) e)
 
--- what the machine answers, by the slow form's answer
-answer-by : (n : ℕ) (a : calls.Said) → answerBy (outcomeIn n a) ≡ answerIn n a
-answer-by n (calls.event e) = refl
-answer-by n (calls.verdict complete) = refl
-answer-by n (calls.verdict incomplete) = refl
-answer-by n (calls.verdict (brokenAt k)) = refl
-answer-by n calls.invalid = refl
-
+-- what a call comes to in a crate below, as a call's end
 fed-by : (c : Called) → fedBy (wentIn c) ≡ fedIn c
 unfolding wentIn fedIn
-fed-by c = ap (λ (a : Answer). record { read = c .read; answer = a; stream = streamIn (c .state) }) (answer-by (c .read) (c .answer))
+fed-by c = refl
 
 -- the slow form, from any state
 pub fed-slowly : (L : Limits) (s : IStream) (c : List ℕ) → s .carried .depth ≤ L .depth → fedBy (wentOf L (s .phase) (s .carried) c) ≡ fedOf L s c

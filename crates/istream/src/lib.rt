@@ -6,21 +6,22 @@ ghost use mathlib.Core.Path.{_≡_};
 ghost use Rattle.layout.specs.Limits.{base};
 ghost use Rattle.machine.specs.Calls.{fresh};
 ghost use Rattle.istream.specs.Stream.{streamIn, soundStream, statusOf, fedOf, takenOf};
-ghost use Rattle.istream.specs.Private.{answerBy, fedAt, fedBy};
+ghost use Rattle.istream.specs.Private.{fedAt, fedBy};
 use event::Event;
 use phase::Carried;
 use phase::Phase;
 use phase::idle;
+use phase::rebuilt;
 use phase::sound;
 use phase::sound_payload;
 use read_at_once::Once;
 use read_at_once::at_once;
-use read_slowly::out_of_line;
 use read_slowly::payload;
-use types::Error;
-use went::Outcome;
+use read_slowly::slowly;
+pub use went::Answer;
+pub use went::Status;
 use went::Went;
-use went::complete;
+use went::verdict;
 
 // What is under way, and what goes along with it.
 pub struct IStream {
@@ -28,23 +29,11 @@ pub struct IStream {
     pub carried: Carried,
 }
 
-// A verdict, once a chunk is spent: the bytes so far end at a field boundary with no sequence open, or within something.
-pub enum Status {
-    Complete,
-    Incomplete,
-}
-
 // Where a reader stands between two calls: as a verdict says, or broken, after which every call is refused.
 pub enum Standing {
     Complete,
     Incomplete,
     Invalid,
-}
-
-pub enum Answer {
-    Event(Event),
-    Status(Status),
-    Refused(Error),
 }
 
 // The bytes read of the chunk, the answer and the state after the call.
@@ -76,24 +65,46 @@ fn answered(read: usize, answer: Answer, phase: Phase, carried: Carried) -> Fed
     }
 }
 
-// What a call comes to slowly, as its answer and its end.
-fn answer_by(outcome: Outcome) -> Answer
-    ensures { λ r. ⌜ r ≡ answerBy outcome ⌝ }
-{
-    match outcome {
-        Outcome::Event(e) => Answer::Event(e),
-        Outcome::Complete => Answer::Status(Status::Complete),
-        Outcome::Incomplete => Answer::Status(Status::Incomplete),
-        Outcome::Refused(e) => Answer::Refused(e),
-    }
-}
-
+// The same, from what a call comes to in a crate below.
 fn fed_by(w: Went) -> Fed
     ensures { λ r. ⌜ r ≡ fedBy w ⌝ }
 {
-    let outcome = w.outcome;
+    let answer = w.answer;
     let phase = w.phase;
-    answered(w.read, answer_by(outcome), phase, w.carried)
+    answered(w.read, answer, phase, w.carried)
+}
+
+// The slow form: from any state, byte by byte.
+fn feed_slowly(stream: IStream, chunk: &[u8]) -> Fed
+    ensures { λ r. ⌜ r ≡ fedOf base stream (now (chunk .entry)) ⌝ }
+{
+    let phase = stream.phase;
+    fed_by(slowly(phase, stream.carried, chunk))
+}
+
+fn fed_rebuilt(f: Fed) -> Fed
+    ensures { λ r. ⌜ r ≡ f ⌝ }
+{
+    let answer = f.answer;
+    let stream = f.stream;
+    let phase = stream.phase;
+    answered(f.read, answer, rebuilt(phase), stream.carried)
+}
+
+// The slow form, out of line.
+fn feed_out_of_line(stream: IStream, chunk: &[u8]) -> Fed
+    ensures { λ r. ⌜ r ≡ fedOf base stream (now (chunk .entry)) ⌝ }
+{
+    let phase = stream.phase;
+    let carried = stream.carried;
+    let copy = IStream {
+        phase: rebuilt(phase),
+        carried,
+    };
+    if carried.depth == 0 {
+        return fed_rebuilt(feed_slowly(copy, chunk));
+    }
+    fed_rebuilt(feed_slowly(copy, chunk))
 }
 
 impl IStream {
@@ -111,12 +122,13 @@ impl IStream {
         ensures { λ r. ⌜ r ≡ statusOf self ⌝ }
     {
         let phase = self.phase;
-        if complete(phase, self.carried) {
-            return Standing::Complete;
-        }
-        match phase {
-            Phase::Broken => Standing::Invalid,
-            _ => Standing::Incomplete,
+        let v = verdict(phase, self.carried);
+        match v {
+            Status::Complete => Standing::Complete,
+            Status::Incomplete => match phase {
+                Phase::Broken => Standing::Invalid,
+                _ => Standing::Incomplete,
+            },
         }
     }
 
@@ -142,7 +154,7 @@ impl IStream {
         let other = self.phase;
         let q = at_once(carried, other, chunk);
         let Once::Done(p, k, e, n) = q else {
-            return fed_by(out_of_line(other, carried, chunk));
+            return feed_out_of_line(self, chunk);
         };
         answered(n, Answer::Event(e), p, k)
     }

@@ -33,8 +33,9 @@ use Rattle.stepped.specs.declared.Stepped.{Stepped}
 use Rattle.stepped.specs.declared.Stepped.the-variants.{On, Raised}
 use Rattle.stepped.specs.Steps.{stepped, stepOn, covered, pieceIn}
 use Rattle.stepped.proofs.Stepped.{the-type}
-use Rattle.went.specs.declared.Outcome.the-variants.{Event as Happened, Incomplete}
-use Rattle.went.specs.Went.{spent, wentIn, wentAt, stopped}
+use Rattle.went.specs.declared.Status.the-variants.{Incomplete}
+use Rattle.went.specs.declared.Answer.the-variants.{Event as Happened, Status}
+use Rattle.went.specs.Went.{statusIn, wentIn, wentAt, stopped}
 
 -- ---- reading on from a state, n bytes being read
 
@@ -93,7 +94,7 @@ goes-on L n broke b bs q k₁ a h e = absurd a
 -- the chunk's end
 spent-at : (L : Limits) (n d : ℕ) (p : Phase) (st : State) → stateAt d p ≡ st → phaseOf st ≡ p → depthOf st ≡ d → AtBytes L st → stopped n (On p (carriedAt d)) ≡ wentIn (scanOn L n st [])
 unfolding verdictSo scan wentIn
-spent-at L n d p (reading d′ q) e f g a = λ i. wentAt n (spent (verdictSo (e i))) (sym f i) (carriedAt (sym g i))
+spent-at L n d p (reading d′ q) e f g a = λ i. wentAt n (Status (statusIn (verdictSo (e i)))) (sym f i) (carriedAt (sym g i))
 spent-at L n d p (owing d′ id r) e f g a = absurd a
 spent-at L n d p broke e f g a = absurd a
 
@@ -126,7 +127,7 @@ module _ (L : Limits) (chunk : List ℕ) (st : State) (p : Phase) (d n : ℕ) (a
 -- ---- payloads
 
 -- In a payload, an empty chunk gives the verdict incomplete and no empty piece.
-pub no-bytes : (L : Limits) (d id : ℕ) (r : RawType) (total o : ℕ) (c : List ℕ) → length c ≡ 0 → wentAt 0 Incomplete (Payload id r total o) (carriedAt d) ≡ wentIn (call L (reading d (inPayload id (rawSort r) total o)) c)
+pub no-bytes : (L : Limits) (d id : ℕ) (r : RawType) (total o : ℕ) (c : List ℕ) → length c ≡ 0 → wentAt 0 (Status Incomplete) (Payload id r total o) (carriedAt d) ≡ wentIn (call L (reading d (inPayload id (rawSort r) total o)) c)
 unfolding call scan wentIn machine.ending machine.verdictAfter
 no-bytes L d id Raws.Str total o [] h = refl
 no-bytes L d id Raws.Blob total o [] h = refl

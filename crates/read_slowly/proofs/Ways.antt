@@ -17,7 +17,7 @@ use Rattle.phase.specs.declared.Phase.the-variants.{Broken}
 use Rattle.phase.specs.Phases.{stateAt, soundPhase, phaseIn, carriedAt}
 use Rattle.phase.proofs.Phases.{Live, both, broken-sound}
 use Rattle.stepped.specs.Steps.{pieceIn}
-use Rattle.went.specs.declared.Outcome.the-variants.{Event as Happened}
+use Rattle.went.specs.declared.Answer.the-variants.{Event as Happened}
 use Rattle.went.specs.Went.{wentIn, wentAt, refused}
 use Rattle.read_slowly.specs.Slowly.{wentFrom, wentOf}
 

@@ -13,14 +13,14 @@ ghost use Rattle.read_slowly.specs.Slowly.{wentOf};
 use phase::Carried;
 use phase::Phase;
 use phase::idle;
-use phase::rebuilt;
 use phase::sound;
 use step::step;
 use stepped::Stepped;
 use stepped::piece;
 use types::Error;
 use types::RawType;
-use went::Outcome;
+use went::Answer;
+use went::Status;
 use went::Went;
 use went::ended;
 use went::stop;
@@ -56,19 +56,19 @@ pub fn payload(carried: Carried, id: u32, r: RawType, total: u32, offset: u32, c
     let owed = (total - offset) as usize;
     if len == 0 {
         let here = Phase::Payload(id, r, total, offset);
-        return ended(0, Outcome::Incomplete, here, carried);
+        return ended(0, Answer::Status(Status::Incomplete), here, carried);
     }
     if len < owed {
-        let part = Outcome::Event(piece(id, r, total, offset, len));
+        let part = Answer::Event(piece(id, r, total, offset, len));
         let rest = Phase::Payload(id, r, total, offset + (len as u32));
         return ended(len, part, rest, carried);
     }
-    let last = Outcome::Event(piece(id, r, total, offset, owed));
+    let last = Answer::Event(piece(id, r, total, offset, owed));
     ended(owed, last, idle(), carried)
 }
 
 // From any state; an unsound and a broken one stay as they are.
-fn slowly(phase: Phase, carried: Carried, chunk: &[u8]) -> Went
+pub fn slowly(phase: Phase, carried: Carried, chunk: &[u8]) -> Went
     ensures { λ r. ⌜ r ≡ wentOf base phase carried (now (chunk .entry)) ⌝ }
 {
     if !sound(phase) {
@@ -76,27 +76,8 @@ fn slowly(phase: Phase, carried: Carried, chunk: &[u8]) -> Went
     }
     match phase {
         Phase::Payload(id, r, total, offset) => payload(carried, id, r, total, offset, chunk),
-        Phase::Empty(id, r) => ended(0, Outcome::Event(piece(id, r, 0, 0, 0)), idle(), carried),
-        Phase::Broken => ended(0, Outcome::Refused(Error::InvalidMsg), phase, carried),
+        Phase::Empty(id, r) => ended(0, Answer::Event(piece(id, r, 0, 0, 0)), idle(), carried),
+        Phase::Broken => ended(0, Answer::Refused(Error::InvalidMsg), phase, carried),
         _ => scan(phase, carried, chunk),
     }
-}
-
-fn went_rebuilt(w: Went) -> Went
-    ensures { λ r. ⌜ r ≡ w ⌝ }
-{
-    let outcome = w.outcome;
-    let phase = w.phase;
-    ended(w.read, outcome, rebuilt(phase), w.carried)
-}
-
-// The same, out of line.
-pub fn out_of_line(phase: Phase, carried: Carried, chunk: &[u8]) -> Went
-    ensures { λ r. ⌜ r ≡ wentOf base phase carried (now (chunk .entry)) ⌝ }
-{
-    let copy = rebuilt(phase);
-    if carried.depth == 0 {
-        return went_rebuilt(slowly(copy, carried, chunk));
-    }
-    went_rebuilt(slowly(copy, carried, chunk))
 }

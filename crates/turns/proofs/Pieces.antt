@@ -23,7 +23,7 @@ use Rattle.varint.proofs.Laws.{sound-start}
 use Rattle.istream.specs.declared.IStream.{IStream}
 use Rattle.phase.specs.declared.Phase as code
 use Rattle.phase.specs.declared.Phase.the-variants as phases
-use Rattle.istream.specs.declared.Status.the-variants.{Incomplete}
+use Rattle.went.specs.declared.Status.the-variants.{Incomplete}
 use Rattle.phase.specs.Phases.{phaseIn, carriedAt}
 use Rattle.istream.specs.Stream.{stateOf, streamIn}
 use Rattle.phase.specs.Sound.{SoundState}

@@ -13,9 +13,9 @@ use Rattle.event.specs.declared.Event.{Event}
 use Rattle.event.specs.Event.{eventOf}
 use Rattle.istream.specs.declared.IStream.{IStream}
 use Rattle.istream.specs.declared.Fed.{Fed}
-use Rattle.istream.specs.declared.Status as verdicts
-use Rattle.istream.specs.declared.Answer as answers
-use Rattle.istream.specs.declared.Answer.the-variants as heard
+use Rattle.went.specs.declared.Status as verdicts
+use Rattle.went.specs.declared.Answer as answers
+use Rattle.went.specs.declared.Answer.the-variants as heard
 use Rattle.phase.specs.declared.Phase as code
 use Rattle.phase.specs.declared.Phase.the-variants as phases
 use Rattle.phase.specs.Phases.{stateAt}

@@ -17,9 +17,9 @@ use Rattle.phase.specs.Phases.{phaseIn}
 use Rattle.phase.proofs.Phases.{Live}
 use Rattle.istream.specs.declared.IStream.{IStream}
 use Rattle.istream.specs.declared.Fed.{Fed}
-use Rattle.istream.specs.declared.Answer as heard
-use Rattle.istream.specs.declared.Answer.the-variants as answers
-use Rattle.istream.specs.declared.Status.the-variants.{Incomplete}
+use Rattle.went.specs.declared.Answer as heard
+use Rattle.went.specs.declared.Answer.the-variants as answers
+use Rattle.went.specs.declared.Status.the-variants.{Incomplete}
 use Rattle.istream.specs.Stream.{stateOf, streamIn, soundStream}
 use Rattle.emit.specs.Put.{put, reached}
 use Rattle.copying.specs.Owed.{nothing}

@@ -1,54 +1,60 @@
-// What a call comes to and the state after it: where a byte leaves it, and where it is refused.
+// What a call answers and the state after it: where a byte leaves the call, and where it is refused.
 ghost use mathlib.Core.Path.{_≡_};
 ghost use Rattle.machine.specs.Calls.{verdictSo};
 ghost use Rattle.phase.specs.Phases.{stateAt};
-ghost use Rattle.went.specs.Went.{isComplete, wentAt, stopped, refused};
+ghost use Rattle.went.specs.Went.{statusIn, wentAt, stopped, refused};
 use event::Event;
 use phase::Carried;
 use phase::Phase;
 use stepped::Stepped;
 use types::Error;
 
-// What a call comes to: an event, the verdict once the chunk is spent, or a refusal.
-pub enum Outcome {
-    Event(Event),
+// A verdict, once a chunk is spent: the bytes so far end at a field boundary with no sequence open, or within something.
+pub enum Status {
     Complete,
     Incomplete,
+}
+
+pub enum Answer {
+    Event(Event),
+    Status(Status),
     Refused(Error),
 }
 
-// The bytes read of the chunk, what the call comes to, and the state after it.
+// The bytes read of the chunk, the answer, and the state after the call.
 pub struct Went {
     pub read: usize,
-    pub outcome: Outcome,
+    pub answer: Answer,
     pub phase: Phase,
     pub carried: Carried,
 }
 
 // A call's end.
-pub fn ended(read: usize, outcome: Outcome, phase: Phase, carried: Carried) -> Went
-    ensures { λ r. ⌜ r ≡ wentAt read outcome phase carried ⌝ }
+pub fn ended(read: usize, answer: Answer, phase: Phase, carried: Carried) -> Went
+    ensures { λ r. ⌜ r ≡ wentAt read answer phase carried ⌝ }
 {
     Went {
         read,
-        outcome,
+        answer,
         phase,
         carried,
     }
 }
 
-// Whether no field is under way and no sequence is open.
-pub fn complete(phase: Phase, carried: Carried) -> bool
-    ensures { λ r. ⌜ r ≡ isComplete (verdictSo (stateAt (carried .depth) phase)) ⌝ }
+// The verdict of a state that isn't broken: complete where no field is under way and no sequence is open.
+pub fn verdict(phase: Phase, carried: Carried) -> Status
+    ensures { λ r. ⌜ r ≡ statusIn (verdictSo (stateAt (carried .depth) phase)) ⌝ }
 {
     match phase {
         Phase::Header(a) => {
             if a.taken == 0 {
-                return carried.depth == 0;
+                if carried.depth == 0 {
+                    return Status::Complete;
+                }
             }
-            false
+            Status::Incomplete
         }
-        _ => false,
+        _ => Status::Incomplete,
     }
 }
 
@@ -58,15 +64,13 @@ pub fn stop(n: usize, s: Stepped) -> Went
 {
     match s {
         Stepped::On(phase, carried) => {
-            if complete(phase, carried) {
-                return ended(n, Outcome::Complete, phase, carried);
-            }
-            ended(n, Outcome::Incomplete, phase, carried)
+            let status = verdict(phase, carried);
+            ended(n, Answer::Status(status), phase, carried)
         }
-        Stepped::Raised(event, phase, carried) => ended(n, Outcome::Event(event), phase, carried),
+        Stepped::Raised(event, phase, carried) => ended(n, Answer::Event(event), phase, carried),
         Stepped::Bad => ended(
             n,
-            Outcome::Refused(Error::InvalidMsg),
+            Answer::Refused(Error::InvalidMsg),
             Phase::Broken,
             Carried { depth: 0 },
         ),
@@ -77,5 +81,5 @@ pub fn stop(n: usize, s: Stepped) -> Went
 pub fn unsound(phase: Phase, carried: Carried) -> Went
     ensures { λ r. ⌜ r ≡ refused 1 phase carried ⌝ }
 {
-    ended(0, Outcome::Refused(Error::UnsoundReader), phase, carried)
+    ended(0, Answer::Refused(Error::UnsoundReader), phase, carried)
 }

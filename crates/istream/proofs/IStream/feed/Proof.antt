@@ -4,9 +4,8 @@ use Rattle.machine.specs.Calls.{call}
 use Rattle.read_at_once.specs.declared.Once.{Once}
 use Rattle.read_at_once.specs.AtOnce.{RightFrom}
 use Rattle.istream.specs.Stream.{stateOf}
-use Rattle.istream.specs.Private.{fedBy}
-use Rattle.istream.proofs.Laws.{payload-owed, fed-slowly, from-payload, from-once}
-use mathlib.Core.Path.{sym, ap, _∙_, subst}
+use Rattle.istream.proofs.Laws.{payload-owed, from-payload, from-once}
+use mathlib.Core.Path.{sym, _∙_, subst}
 use native.Mathlib.Omega.{arith}
 use mir.Val.{Fits}
 use mir.Syntax.{w8}
@@ -23,11 +22,6 @@ returns c =
     let f : Fits w8 (c .before .before .before .before .before .before .before .before .before .args .self .carried .depth) = search needs in
     c .fed-by .ensures ∙ from-payload base (c .before .before .before .before .before .before .before .before .before .args .self) (c .before .before .before .before .before .before .before .before .before .args .chunk .now) _ _ _ _ (c .before .payload .result) (omega (arith, f .fits)) (c .before .before .before .before .before .phase .given .1) (sym (c .before .before .before .sound-payload .ensures) ∙ c .before .before .if1 .taken) (c .before .payload .ensures)
 
-returns-2 : tie.Need-returns-2
-returns-2 c =
-    let f : Fits w8 (c .before .before .before .before .before .before .before .before .args .self .carried .depth) = search needs in
-    c .fed-by2 .ensures ∙ ap fedBy (c .before .out-of-line .ensures) ∙ fed-slowly base (c .before .before .before .before .before .before .before .before .args .self) (c .before .before .before .before .before .before .before .before .args .chunk .now) (omega (arith, f .fits))
-
 returns-3 : tie.Need-returns-3
 returns-3 c =
     let f : Fits w8 (c .before .before .before .before .before .before .before .before .args .self .carried .depth) = search needs in
@@ -37,4 +31,5 @@ pub feed-spec : {M : Type 1} → statement M
 feed-spec =
     tie.close
     (tie.spec
-    (λ c. search needs) (λ c κs. search needs) payload-requires (λ c κs. search needs) returns (λ c κs. search needs) (λ c. search needs) (λ c. search needs) (λ c κs. search needs) (λ c κs. search needs) returns-2 (λ c κs. search needs) returns-3)
+    (λ c. search needs) (λ c κs. search needs) payload-requires (λ c κs. search needs) returns (λ c κs. search needs) (λ c. search needs)
+    (λ c. search needs) (λ c κs. search needs) (λ c. search needs) (λ c κs. search needs) returns-3)

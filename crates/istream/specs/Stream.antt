@@ -9,12 +9,13 @@ use Rattle.machine.specs.Calls as calls
 use Rattle.types.specs.Types.{refusal}
 use Rattle.phase.specs.Phases.{stateAt, phaseOf, carriedOf, soundPhase}
 use Rattle.went.specs.declared.Answer.the-variants as Answers
-pub use Rattle.went.specs.Went.{statusIn, answerIn}
 use Rattle.istream.specs.declared.IStream.{IStream}
 use Rattle.istream.specs.declared.Standing.{Standing}
 use Rattle.istream.specs.declared.Standing.the-variants as Standings
 use Rattle.istream.specs.declared.Fed.{Fed}
 use Rattle.istream.specs.declared.Taken.{Taken}
+-- the machine's verdict and answer as the code's
+pub use Rattle.went.specs.Went.{statusIn, answerIn}
 
 -- ---- the state
 

@@ -7,7 +7,6 @@ ghost use Rattle.layout.specs.Limits.{base};
 ghost use Rattle.machine.specs.Calls.{fresh};
 ghost use Rattle.istream.specs.Stream.{streamIn, soundStream, statusOf, fedOf, takenOf};
 ghost use Rattle.istream.specs.Private.{fedAt, fedBy};
-use event::Event;
 use phase::Carried;
 use phase::Phase;
 use phase::idle;

@@ -13,7 +13,7 @@ use borrow.Author.Tests.{leb-true, leb-false}
 use Rattle.layout.specs.Limits.{base}
 use Rattle.layout.specs.Message.{Bytes, complete, verdictOf}
 use Rattle.layout.specs.Copy.{plainCopy}
-use Rattle.istream.specs.declared.Status.the-variants.{Complete, Incomplete}
+use Rattle.call_end.specs.declared.Status.the-variants.{Complete, Incomplete}
 use Rattle.ostream.specs.declared.Written.{Written}
 use Rattle.ostream.specs.Stream.{opened}
 use Rattle.ostream.proofs.Buffers.{fits, open-taken, open-refused, opened-sound}

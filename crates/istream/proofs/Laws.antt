@@ -1,11 +1,11 @@
 -- What a caller may know: which states are sound, that a call keeps a state sound, and that the states are the machine's.
 use mathlib.Core.Path.{_≡_, refl, sym, ap, _∙_, subst}
-use mathlib.Core.Bool.{Bool, true, false, _&&_, true≢false}
+use mathlib.Core.Bool.{Bool, true, false}
 use mathlib.Core.List.{List, [], _∷_}
 use Prim.Native.Nat.{ℕ, suc, _+_, _-_, _<_, _≤_, min}
 use native.Mathlib.Omega.{arith}
 use lib.ListN.{length, getD}
-use lib.Dec.{ltb, leb}
+use lib.Dec.{ltb}
 use borrow.Author.Tests.{le-leb, lt-ltb, leb-true, ltb-true}
 use Rattle.layout.specs.Limits.{Limits, pick}
 use Rattle.layout.specs.Field.{Raw, bytesOf}
@@ -14,22 +14,24 @@ use Rattle.machine.specs.Machine.{inHeader, inUnsigned, inSigned, inWord, inUns
 use Rattle.machine.specs.Calls.{State, reading, owing, broke, fresh, Called, call, scan, scanned}
 use Rattle.types.specs.declared.RawType.{RawType}
 use Rattle.types.specs.declared.RawType.the-variants as Raws
-use Rattle.types.specs.Types.{rawSort, refusal}
+use Rattle.types.specs.Types.{rawSort}
 use Rattle.varint.proofs.Laws as varint
 use Rattle.event.specs.declared.Event as Given
 use Rattle.phase.specs.declared.Carried.{Carried}
 use Rattle.phase.specs.declared.Phase.{Phase}
 use Rattle.phase.specs.declared.Phase.the-variants.{Header, Unsigned, Signed, Word, UnsignedCount, SignedCount, FloatCount, ArrayWord, Float, Payload, Empty, Broken}
 use Rattle.istream.specs.declared.IStream.{IStream}
-use Rattle.istream.specs.declared.Answer.the-variants as Answers
-use Rattle.phase.specs.Phases.{stateAt, soundPhase, phaseIn, carriedAt}
+use Rattle.call_end.specs.declared.Answer.the-variants as Answers
+use Rattle.phase.specs.Phases.{stateAt, soundPhase}
 use Rattle.read_at_once.specs.declared.Once.the-variants.{Done}
 use Rattle.read_at_once.specs.AtOnce.{StopsAt, RightFrom}
-use Rattle.istream.specs.declared.Fed.{Fed}
-use Rattle.istream.specs.Stream.{stateOf, streamIn, soundStream, answerIn, fedIn, fedAt, still, fedFrom, fedOf}
-use Rattle.stepped.specs.Steps.{pieceIn}
+use Rattle.call_end.specs.declared.CallEnd.{CallEnd}
+use Rattle.call_end.specs.CallEnd.{endIn, refused}
+use Rattle.read_slowly.specs.Slowly.{wentFrom, endOf}
+use Rattle.istream.specs.Stream.{stateOf, streamIn, soundStream, answerIn, fedIn, ifSound, still, fedFrom, fedOf}
+use Rattle.istream.specs.Private.{fedAt, fedBy}
 use Rattle.phase.specs.Sound.{SoundState, AtBytes, Kept}
-use Rattle.phase.proofs.Phases.{width-back, Live, both, join, phase-is, varint-is, broken-sound}
+use Rattle.phase.proofs.Phases.{width-back, Live, both, join, phase-is, varint-is}
 use Rattle.phase.proofs.Keeps.{step-keeps}
 use Rattle.phase.proofs.Scans.{scan-end, scan-byte}
 use Rattle.istream.proofs.Tests.{sound-in}
@@ -72,32 +74,35 @@ pub fed-broken : (L : Limits) (s : IStream) (c : List ℕ) → s .phase ≡ Brok
 unfolding fedOf
 fed-broken L s c e = sym (ap (λ (p : Phase). fedFrom L (stateAt (s .carried .depth) p) s c) e)
 
-test-is : (L : Limits) (s : IStream) → soundStream L s ≡ (leb (s .carried .depth) (L .depth) && soundPhase L (s .phase))
-unfolding soundStream
-test-is L s = refl
+-- what a call comes to in a crate below, as a call's end
+fed-by : (c : Called) → fedBy (endIn c) ≡ fedIn c
+unfolding endIn fedIn
+fed-by c = refl
 
-pub fed-unsound : (L : Limits) (s : IStream) (c : List ℕ) → s .carried .depth ≤ L .depth → soundStream L s ≡ false → record { read = 0; answer = Answers.Refused (refusal 1); stream = s } ≡ fedOf L s c
-unfolding fedOf
-fed-unsound L s c h t = go (stateOf s) refl
+-- the slow form, from any state
+pub fed-slowly : (L : Limits) (s : IStream) (c : List ℕ) → s .carried .depth ≤ L .depth → fedBy (endOf L (s .phase) (s .carried) c) ≡ fedOf L s c
+unfolding endOf fedOf
+fed-slowly L s c h = go (stateOf s) refl
   where
-    go : (st : State) → stateOf s ≡ st → record { read = 0; answer = Answers.Refused (refusal 1); stream = s } ≡ fedFrom L (stateOf s) s c
-    go (reading d p) e = sym (ap (λ (x : State). fedFrom L x s c) e ∙ simp t)
-    go (owing d id r) e = sym (ap (λ (x : State). fedFrom L x s c) e ∙ simp t)
-    go broke e = absurd (true≢false (sym (broken-sound L (s .carried .depth) (s .phase) h e) ∙ sym (test-is L s) ∙ t))
+    picked : (b : Bool) (st : State) → stateOf s ≡ st → soundPhase L (s .phase) ≡ b → fedBy (pick (soundPhase L (s .phase)) (endIn (call L st c)) (refused 1 (s .phase) (s .carried))) ≡ ifSound L s c
+    picked true st e t =
+        simp (t, sym (sound-in L s (s .phase) h refl) ∙ t) (fed-by (call L st c) ∙ ap (λ (x : State). fedIn (call L x c)) (sym e))
+    picked false st e t = simp (t, sym (sound-in L s (s .phase) h refl) ∙ t)
 
--- an empty payload's piece
-pub owed-piece : (L : Limits) (d id : ℕ) (r : RawType) (c : List ℕ) (v : Given.Event) (p : Phase) → v ≡ pieceIn id r 0 0 0 → p ≡ phaseIn idle → record { read = 0; answer = Answers.Event v; stream = record { phase = p; carried = carriedAt d } } ≡ fedIn (call L (owing d id (rawSort r)) c)
-unfolding call fedIn
-owed-piece L d id Raws.Str c v p e f = λ i. record { read = 0; answer = Answers.Event (e i); stream = record { phase = f i; carried = carriedAt d } }
-owed-piece L d id Raws.Blob c v p e f = λ i. record { read = 0; answer = Answers.Event (e i); stream = record { phase = f i; carried = carriedAt d } }
+    go : (st : State) → stateOf s ≡ st → fedBy (wentFrom L (stateOf s) (s .phase) (s .carried) c) ≡ fedFrom L (stateOf s) s c
+    go (reading d p) e =
+        ap (λ (x : State). fedBy (wentFrom L x (s .phase) (s .carried) c)) e ∙ picked (soundPhase L (s .phase)) (reading d p) e refl ∙ sym (ap (λ (x : State). fedFrom L x s c) e)
+    go (owing d id r) e =
+        ap (λ (x : State). fedBy (wentFrom L x (s .phase) (s .carried) c)) e ∙ picked (soundPhase L (s .phase)) (owing d id r) e refl ∙ sym (ap (λ (x : State). fedFrom L x s c) e)
+    go broke e = ap (λ (x : State). fedBy (wentFrom L x (s .phase) (s .carried) c)) e ∙ sym (ap (λ (x : State). fedFrom L x s c) e)
 
 -- a payload under way
 pub payload-owed : (L : Limits) (id : ℕ) (r : RawType) (total o : ℕ) → soundPhase L (Payload id r total o) ≡ true → o < total
 payload-owed L id r total o t = phase-is L 0 (Payload id r total o) (omega arith) t .1 .1 .1
 
-pub from-payload : (L : Limits) (s : IStream) (c : List ℕ) (id : ℕ) (r : RawType) (total o : ℕ) (f : Fed) → s .carried .depth ≤ L .depth → s .phase ≡ Payload id r total o → soundPhase L (Payload id r total o) ≡ true
-    → f ≡ fedIn (call L (reading (s .carried .depth) (inPayload id (rawSort r) total o)) c) → f ≡ fedOf L s c
-from-payload L s c id r total o f b e t h = h ∙ fed-sound L s _ c (ap (stateAt (s .carried .depth)) e) tt (sym (sound-in L s (Payload id r total o) b e) ∙ t)
+pub from-payload : (L : Limits) (s : IStream) (c : List ℕ) (id : ℕ) (r : RawType) (total o : ℕ) (w : CallEnd) → s .carried .depth ≤ L .depth → s .phase ≡ Payload id r total o → soundPhase L (Payload id r total o) ≡ true
+    → w ≡ endIn (call L (reading (s .carried .depth) (inPayload id (rawSort r) total o)) c) → fedBy w ≡ fedOf L s c
+from-payload L s c id r total o w b e t h = ap fedBy h ∙ fed-by _ ∙ fed-sound L s _ c (ap (stateAt (s .carried .depth)) e) tt (sym (sound-in L s (Payload id r total o) b e) ∙ t)
 
 -- a broken reader stops at no event
 broken-live : (L : Limits) (st : State) (c : List ℕ) {p : Phase} {k : Carried} {e : Given.Event} {n : ℕ} → StopsAt p k e n (call L st c) → Live st

@@ -1,29 +1,21 @@
 -- The reader's state as the machine's and back, which states are sound, and what a call answers: `fedOf`.
-use Prim.Native.Nat.{ℕ, _-_}
+use Prim.Native.Nat.{ℕ}
 use mathlib.Core.Bool.{Bool, _&&_}
 use mathlib.Core.List.{List}
 use lib.Dec.{leb}
 use Rattle.layout.specs.Limits.{Limits, pick}
-use Rattle.layout.specs.Message.{Verdict, complete, incomplete, brokenAt}
 use Rattle.machine.specs.Calls.{State, reading, owing, broke, Called, call, standing}
 use Rattle.machine.specs.Calls as calls
 use Rattle.types.specs.Types.{refusal}
-use Rattle.event.specs.Event.{declared}
-use Rattle.phase.specs.declared.Carried.{Carried}
-use Rattle.phase.specs.declared.Phase.{Phase}
 use Rattle.phase.specs.Phases.{stateAt, phaseOf, carriedOf, soundPhase}
-use Rattle.stepped.specs.Steps.{covered}
-use Rattle.stepped.specs.declared.Stepped.{Stepped}
-use Rattle.stepped.specs.declared.Stepped.the-variants.{On, Raised, Bad}
+use Rattle.call_end.specs.declared.Answer.the-variants as Answers
 use Rattle.istream.specs.declared.IStream.{IStream}
-use Rattle.istream.specs.declared.Status.{Status}
-use Rattle.istream.specs.declared.Status.the-variants.{Complete, Incomplete}
 use Rattle.istream.specs.declared.Standing.{Standing}
 use Rattle.istream.specs.declared.Standing.the-variants as Standings
-use Rattle.istream.specs.declared.Answer.{Answer}
-use Rattle.istream.specs.declared.Answer.the-variants as Answers
 use Rattle.istream.specs.declared.Fed.{Fed}
 use Rattle.istream.specs.declared.Taken.{Taken}
+-- the machine's verdict and answer as the code's
+pub use Rattle.call_end.specs.CallEnd.{statusIn, answerIn}
 
 -- ---- the state
 
@@ -49,36 +41,8 @@ standingIn calls.broken = Standings.Invalid
 unfoldable pub statusOf : IStream → Standing
 statusOf s = standingIn (standing (stateOf s))
 
--- a verdict so far is never broken: a broken reader is refused
-abbrev pub statusIn : Verdict → Status
-statusIn complete = Complete
-statusIn incomplete = Incomplete
-statusIn (brokenAt n) = Incomplete
-
--- the verdict of where a message stands
-abbrev pub verdictIn : Standing → Status
-verdictIn Standings.Complete = Complete
-verdictIn Standings.Incomplete = Incomplete
-verdictIn Standings.Invalid = Incomplete
-
--- the machine's answer after n bytes as this crate's: a piece ends at the bytes read
-abbrev pub answerIn : ℕ → calls.Said → Answer
-answerIn n (calls.event e) = Answers.Event (declared (n - covered e) e)
-answerIn n (calls.verdict v) = Answers.Status (statusIn v)
-answerIn n calls.invalid = Answers.Refused (refusal 2)
-
 unfoldable pub fedIn : Called → Fed
 fedIn c = record { read = c .read; answer = answerIn (c .read) (c .answer); stream = streamIn (c .state) }
-
--- a call's end: the bytes read, the answer, and the reader in a phase with what is carried along
-abbrev pub fedAt : ℕ → Answer → Phase → Carried → Fed
-fedAt n a p k = record { read = n; answer = a; stream = record { phase = p; carried = k } }
-
--- where a byte leaves a call that has read n: at an event, broken, or at the chunk's end
-abbrev pub stopped : ℕ → Stepped → Fed
-stopped n (On p k) = fedAt n (Answers.Status (verdictIn (statusOf (record { phase = p; carried = k })))) p k
-stopped n (Raised e p k) = fedAt n (Answers.Event e) p k
-stopped n Bad = record { read = n; answer = Answers.Refused (refusal 2); stream = streamIn broke }
 
 -- "Number 1: the reader state isn't sound; nothing is read and the state returns unaltered."
 abbrev pub ifSound : Limits → IStream → List ℕ → Fed

@@ -1,24 +1,26 @@
 // The reference reader, the Rust's istream.rs: a machine on bytes whose state is taken and handed back by value.
 // A call reads on to the next event and stops there, or gives the verdict once the chunk is spent. No byte is copied or held: a piece of
 // a payload is its bounds in the chunk.
-// The state and the calls that users make are here; what a call does where nothing stands whole in the chunk is in `slowly`.
-mod slowly;
-
+// The state and the calls that users make are here; what stands whole in the chunk is read by `read_at_once`, the rest by `read_slowly`.
 ghost use mathlib.Core.Path.{_≡_};
 ghost use Rattle.layout.specs.Limits.{base};
 ghost use Rattle.machine.specs.Calls.{fresh};
-ghost use Rattle.istream.specs.Stream.{streamIn, soundStream, statusOf, fedAt, fedOf, takenOf};
-use crate::slowly::feed_out_of_line;
-use crate::slowly::payload;
-use event::Event;
+ghost use Rattle.istream.specs.Stream.{streamIn, soundStream, statusOf, fedOf, takenOf};
+ghost use Rattle.istream.specs.Private.{fedAt, fedBy};
+pub use call_end::Answer;
+use call_end::CallEnd;
+pub use call_end::Status;
+use call_end::verdict;
 use phase::Carried;
 use phase::Phase;
 use phase::idle;
+use phase::rebuilt;
 use phase::sound;
 use phase::sound_payload;
 use read_at_once::Once;
 use read_at_once::at_once;
-use types::Error;
+use read_slowly::payload;
+use read_slowly::slowly;
 
 // What is under way, and what goes along with it.
 pub struct IStream {
@@ -26,23 +28,11 @@ pub struct IStream {
     pub carried: Carried,
 }
 
-// A verdict, once a chunk is spent: the bytes so far end at a field boundary with no sequence open, or within something.
-pub enum Status {
-    Complete,
-    Incomplete,
-}
-
 // Where a reader stands between two calls: as a verdict says, or broken, after which every call is refused.
 pub enum Standing {
     Complete,
     Incomplete,
     Invalid,
-}
-
-pub enum Answer {
-    Event(Event),
-    Status(Status),
-    Refused(Error),
 }
 
 // The bytes read of the chunk, the answer and the state after the call.
@@ -74,6 +64,48 @@ fn answered(read: usize, answer: Answer, phase: Phase, carried: Carried) -> Fed
     }
 }
 
+// The same, from what a call comes to in a crate below.
+fn fed_by(w: CallEnd) -> Fed
+    ensures { λ r. ⌜ r ≡ fedBy w ⌝ }
+{
+    let answer = w.answer;
+    let phase = w.phase;
+    answered(w.read, answer, phase, w.carried)
+}
+
+// The slow form: from any state, byte by byte.
+fn feed_slowly(stream: IStream, chunk: &[u8]) -> Fed
+    ensures { λ r. ⌜ r ≡ fedOf base stream (now (chunk .entry)) ⌝ }
+{
+    let phase = stream.phase;
+    fed_by(slowly(phase, stream.carried, chunk))
+}
+
+fn fed_rebuilt(f: Fed) -> Fed
+    ensures { λ r. ⌜ r ≡ f ⌝ }
+{
+    let answer = f.answer;
+    let stream = f.stream;
+    let phase = stream.phase;
+    answered(f.read, answer, rebuilt(phase), stream.carried)
+}
+
+// The slow form, out of line.
+fn feed_out_of_line(stream: IStream, chunk: &[u8]) -> Fed
+    ensures { λ r. ⌜ r ≡ fedOf base stream (now (chunk .entry)) ⌝ }
+{
+    let phase = stream.phase;
+    let carried = stream.carried;
+    let copy = IStream {
+        phase: rebuilt(phase),
+        carried,
+    };
+    if carried.depth == 0 {
+        return fed_rebuilt(feed_slowly(copy, chunk));
+    }
+    fed_rebuilt(feed_slowly(copy, chunk))
+}
+
 impl IStream {
     pub fn new() -> IStream
         ensures { λ r. ⌜ r ≡ streamIn fresh ⌝ }
@@ -89,18 +121,13 @@ impl IStream {
         ensures { λ r. ⌜ r ≡ statusOf self ⌝ }
     {
         let phase = self.phase;
-        let depth = self.carried.depth;
-        match phase {
-            Phase::Header(a) => {
-                if a.taken == 0 {
-                    if depth == 0 {
-                        return Standing::Complete;
-                    }
-                }
-                Standing::Incomplete
-            }
-            Phase::Broken => Standing::Invalid,
-            _ => Standing::Incomplete,
+        let v = verdict(phase, self.carried);
+        match v {
+            Status::Complete => Standing::Complete,
+            Status::Incomplete => match phase {
+                Phase::Broken => Standing::Invalid,
+                _ => Standing::Incomplete,
+            },
         }
     }
 
@@ -120,7 +147,7 @@ impl IStream {
         let carried = self.carried;
         if let Phase::Payload(id, r, total, offset) = phase {
             if sound_payload(id, r, total, offset) {
-                return payload(carried, id, r, total, offset, chunk);
+                return fed_by(payload(carried, id, r, total, offset, chunk));
             }
         }
         let other = self.phase;

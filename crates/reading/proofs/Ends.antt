@@ -17,8 +17,8 @@ use Rattle.types.specs.Types.{refusal}
 use Rattle.event.specs.declared.Event as Events
 use Rattle.event.specs.Event.{eventOf}
 use Rattle.istream.specs.declared.IStream.{IStream}
-use Rattle.istream.specs.declared.Answer.{Answer}
-use Rattle.istream.specs.declared.Answer.the-variants.{Event, Status, Refused}
+use Rattle.call_end.specs.declared.Answer.{Answer}
+use Rattle.call_end.specs.declared.Answer.the-variants.{Event, Status, Refused}
 use Rattle.istream.specs.declared.Fed as Given
 use Rattle.istream.specs.Stream.{stateOf, soundStream, answerIn, fedIn, fedFrom, fedOf}
 use Rattle.istream.proofs.Calls.{state-of-stream}

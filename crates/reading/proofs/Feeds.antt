@@ -26,7 +26,7 @@ use Rattle.machine.proofs.Runs.{standingWith, standing-is, reads, verdicts-last
 use Rattle.event.specs.Event.{eventOf, declared}
 use Rattle.event.proofs.Laws.{InRange, declared-back}
 use Rattle.istream.specs.declared.IStream.{IStream}
-use Rattle.istream.specs.declared.Answer.the-variants as Answers
+use Rattle.call_end.specs.declared.Answer.the-variants as Answers
 use Rattle.istream.specs.declared.Fed as Given
 use Rattle.types.specs.Types.{refusal}
 use Rattle.istream.specs.Stream.{stateOf, streamIn, soundStream, standingIn, statusOf, statusIn, answerIn, fedIn, fedOf}
@@ -73,7 +73,7 @@ Ranged c n (verdict v) = Unit {0}
 Ranged c n invalid = Unit {0}
 
 -- the machine's last answer as the reader's
-abbrev final : Ending Said → Ending Rattle.istream.specs.declared.Answer.Answer
+abbrev final : Ending Said → Ending Rattle.call_end.specs.declared.Answer.Answer
 final (ended (event e)) = unfinished
 final (ended (verdict v)) = ended (Answers.Status (statusIn v))
 final (ended invalid) = ended (Answers.Refused (refusal 2))

@@ -11,9 +11,9 @@ use Rattle.machine.specs.Run.{Ending, ended, unfinished, Heard, status, refused
 use Rattle.types.specs.Types.{numberOf}
 use Rattle.event.specs.Event.{eventOf}
 use Rattle.istream.specs.declared.IStream.{IStream}
-use Rattle.istream.specs.declared.Answer.{Answer}
-use Rattle.istream.specs.declared.Answer.the-variants.{Event, Status, Refused}
-use Rattle.istream.specs.declared.Status.the-variants.{Complete, Incomplete}
+use Rattle.call_end.specs.declared.Answer.{Answer}
+use Rattle.call_end.specs.declared.Answer.the-variants.{Event, Status, Refused}
+use Rattle.call_end.specs.declared.Status.the-variants.{Complete, Incomplete}
 use Rattle.istream.specs.Stream.{streamIn, fedOf}
 
 -- ---- a chunk

@@ -15,9 +15,9 @@ use Rattle.phase.specs.Phases.{carriedAt}
 use Rattle.istream.specs.declared.IStream.{IStream}
 use Rattle.istream.specs.declared.Standing.{Standing}
 use Rattle.istream.specs.declared.Standing.the-variants as Standings
-use Rattle.istream.specs.declared.Answer.{Answer}
-use Rattle.istream.specs.declared.Answer.the-variants.{Event, Status, Refused}
-use Rattle.istream.specs.declared.Status.the-variants.{Complete, Incomplete}
+use Rattle.call_end.specs.declared.Answer.{Answer}
+use Rattle.call_end.specs.declared.Answer.the-variants.{Event, Status, Refused}
+use Rattle.call_end.specs.declared.Status.the-variants.{Complete, Incomplete}
 use Rattle.istream.specs.Stream.{streamIn, soundStream, statusOf, fedIn, fedOf}
 
 -- a row: a reader and a chunk; the bytes read, the answer, the reader after the call, and where it then stands

@@ -2,7 +2,7 @@
 use Prim.Native.Nat.{ℕ}
 use Rattle.layout.specs.Message.{Verdict, complete, incomplete}
 use Rattle.types.specs.Types.{numberOf}
-use Rattle.istream.specs.declared.Status.the-variants.{Complete, Incomplete}
+use Rattle.call_end.specs.declared.Status.the-variants.{Complete, Incomplete}
 use Rattle.copying.specs.Copy as copying
 use Rattle.turns.specs.declared.Answer.{Answer}
 use Rattle.turns.specs.declared.Answer.the-variants.{Full, Status, Refused}

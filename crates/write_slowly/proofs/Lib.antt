@@ -1,2 +1,2 @@
--- `Went` has the laws of a field that is refused, and of one that goes out.
-pub mod Went
+-- `CallEnd` has the laws of a field that is refused, and of one that goes out.
+pub mod CallEnd

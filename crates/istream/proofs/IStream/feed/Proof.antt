@@ -19,8 +19,8 @@ payload-requires c κs =
 
 returns : tie.Need-returns
 returns c =
-    let f : Fits w8 (c .before .before .before .before .before .before .before .before .args .self .carried .depth) = search needs in
-    from-payload base (c .before .before .before .before .before .before .before .before .args .self) (c .before .before .before .before .before .before .before .before .args .chunk .now) _ _ _ _ (c .payload .result) (omega (arith, f .fits)) (c .before .before .before .before .phase .given .1) (sym (c .before .before .sound-payload .ensures) ∙ c .before .if1 .taken) (c .payload .ensures)
+    let f : Fits w8 (c .before .before .before .before .before .before .before .before .before .args .self .carried .depth) = search needs in
+    c .fed-by .ensures ∙ from-payload base (c .before .before .before .before .before .before .before .before .before .args .self) (c .before .before .before .before .before .before .before .before .before .args .chunk .now) _ _ _ _ (c .before .payload .result) (omega (arith, f .fits)) (c .before .before .before .before .before .phase .given .1) (sym (c .before .before .before .sound-payload .ensures) ∙ c .before .before .if1 .taken) (c .before .payload .ensures)
 
 returns-3 : tie.Need-returns-3
 returns-3 c =
@@ -31,5 +31,5 @@ pub feed-spec : {M : Type 1} → statement M
 feed-spec =
     tie.close
     (tie.spec
-    (λ c. search needs) (λ c κs. search needs) payload-requires returns (λ c κs. search needs) (λ c. search needs)
+    (λ c. search needs) (λ c κs. search needs) payload-requires (λ c κs. search needs) returns (λ c κs. search needs) (λ c. search needs)
     (λ c. search needs) (λ c κs. search needs) (λ c. search needs) (λ c κs. search needs) returns-3)

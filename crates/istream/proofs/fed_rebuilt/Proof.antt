@@ -1,10 +1,10 @@
--- `istream::slowly::fed_rebuilt` meets its contract.
+-- `istream::fed_rebuilt` meets its contract.
 use Rattle.phase.specs.declared.Phase.{Phase}
-use Rattle.istream.specs.Stream.{fedAt}
+use Rattle.istream.specs.Private.{fedAt}
 use mathlib.Core.Path.{ap, _∙_}
 use borrow.Author.Needs.{needs}
-use Rattle.istream.proofs.slowly.fed_rebuilt.Statement.{statement}
-use Rattle.istream.proofs.slowly.fed_rebuilt.Tie as tie
+use Rattle.istream.proofs.fed_rebuilt.Statement.{statement}
+use Rattle.istream.proofs.fed_rebuilt.Tie as tie
 
 returns : tie.Need-returns
 returns c =

@@ -1,11 +1,11 @@
--- `istream::slowly::feed_out_of_line` meets its contract.
+-- `istream::feed_out_of_line` meets its contract.
 use Rattle.layout.specs.Limits.{base}
 use Rattle.istream.specs.Stream.{fedOf}
 use Rattle.phase.specs.declared.Phase.{Phase}
 use mathlib.Core.Path.{ap, _∙_}
 use borrow.Author.Needs.{needs}
-use Rattle.istream.proofs.slowly.feed_out_of_line.Statement.{statement}
-use Rattle.istream.proofs.slowly.feed_out_of_line.Tie as tie
+use Rattle.istream.proofs.feed_out_of_line.Statement.{statement}
+use Rattle.istream.proofs.feed_out_of_line.Tie as tie
 
 returns : tie.Need-returns
 returns c =

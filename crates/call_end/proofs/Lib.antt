@@ -1,0 +1,2 @@
+-- `Tests` says what the verdict's test is.
+pub mod Tests

@@ -1,0 +1,2 @@
+-- `CallEnd`: what a call of the reader comes to.
+pub mod CallEnd

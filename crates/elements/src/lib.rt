@@ -1,8 +1,8 @@
 // The elements of an array of integers, in bulk: all at once where there is room for them, else from the first byte on that is not out until the buffer is
 // full. Those that are out already are only counted, and those beyond the buffer's end not looked at.
+use byte_by_byte::put_whole;
 use emit::Cursor;
 use emit::put_fitting;
-use emit::put_whole;
 use varint::VARINT_MAX;
 use varint::varint_len;
 use varint::zigzag_encode;
@@ -14,7 +14,7 @@ ghost use Rattle.layout.specs.Varint.{shortest};
 ghost use Rattle.layout.specs.Field.{each};
 ghost use Rattle.layout.specs.Limits.{pick};
 ghost use Rattle.layout.specs.Zigzag.{zigzag};
-ghost use Rattle.emit.specs.Put.{put, reached};
+ghost use Rattle.putting.specs.Put.{put, reached};
 ghost use Rattle.emit.specs.Cursor.{placed, moved};
 ghost use Rattle.elements.specs.OutAfter.{OutAfter, elementsMost};
 

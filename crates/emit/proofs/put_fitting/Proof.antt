@@ -3,7 +3,7 @@ use native.Mathlib.Omega.{arith}
 use lib.ListN.{length-set}
 use borrow.Author.Needs.{needs}
 use Rattle.layout.specs.Varint.{shortest}
-use Rattle.emit.proofs.Turns.{Whole, one-byte, two-bytes, after-two, followed, same-size}
+use Rattle.putting.proofs.Turns.{Whole, one-byte, two-bytes, after-two, followed, same-size}
 use Rattle.emit.proofs.put_fitting.Statement.{statement}
 use Rattle.emit.proofs.put_fitting.Tie as tie
 use Rattle.emit.proofs.put_fitting.Reads as reads

@@ -10,8 +10,8 @@ use lib.Seq.{drop-cons}
 use borrow.Author.Tests.{leb-true, leb-false}
 use Rattle.layout.specs.Varint.{shortest}
 use Rattle.varint.proofs.Shortest.{shortest-one, shortest-more}
-use Rattle.emit.specs.Put.{put, reached}
-use Rattle.emit.proofs.Writes.{put-none, put-full, put-cons, put-put, reached-is, reached-cons, reached-reached, length-put}
+use Rattle.putting.specs.Put.{put, reached}
+use Rattle.putting.proofs.Writes.{put-none, put-full, put-cons, put-put, reached-is, reached-cons, reached-reached, length-put}
 
 -- o from pos on over b, where s is left to write from `at` on over d
 pub record Left (b : List ℕ) (pos : ℕ) (o d : List ℕ) (at : ℕ) (s : List ℕ) : Type 0 where

@@ -1,4 +1,4 @@
--- `emit::put_part`: a float's bytes at once, or the rest of the low bytes one by one.
+-- `low_bytes::put_part`: a float's bytes at once, or the rest of the low bytes one by one.
 use Prim.Native.Nat.{ℕ, _-_, _≤_}
 use mathlib.Core.Path.{_≡_, sym, ap, _∙_}
 use native.Mathlib.Omega.{arith}
@@ -6,15 +6,15 @@ use borrow.Author.Needs.{needs}
 use borrow.Author.Tests.{ltb-true, leb-true}
 use lib.ListN.{length, drop}
 use Rattle.layout.specs.Field.{lowBytes}
-use Rattle.emit.proofs.Low.{drop-low}
-use Rattle.emit.proofs.Turns.{whole-as}
-use Rattle.emit.proofs.put_part.Statement.{statement}
-use Rattle.emit.proofs.put_part.Tie as tie
-use Rattle.emit.proofs.put_part.Reads as reads
-use Rattle.emit.proofs.put_part.Lts as lts
-use Rattle.emit.proofs.put_eight.Reads as put-eight-reads
-use Rattle.emit.proofs.put_four.Reads as put-four-reads
-use Rattle.emit.proofs.put_low.Reads as put-low-reads
+use Rattle.byte_by_byte.proofs.Low.{drop-low}
+use Rattle.putting.proofs.Turns.{whole-as}
+use Rattle.low_bytes.proofs.put_part.Statement.{statement}
+use Rattle.low_bytes.proofs.put_part.Tie as tie
+use Rattle.low_bytes.proofs.put_part.Reads as reads
+use Rattle.low_bytes.proofs.put_part.Lts as lts
+use Rattle.low_bytes.proofs.put_eight.Reads as put-eight-reads
+use Rattle.low_bytes.proofs.put_four.Reads as put-four-reads
+use Rattle.byte_by_byte.proofs.put_low.Reads as put-low-reads
 
 -- the room for n bytes, as the test has it
 roomy : (c : tie.Then3) → c .before .before .before .before .args .n ≤ length (c .before .before .before .before .args .buf .now) - c .before .before .before .before .args .pos

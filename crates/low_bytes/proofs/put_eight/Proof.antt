@@ -1,16 +1,16 @@
--- `emit::put_eight`: four low bytes and the next four.
+-- `low_bytes::put_eight`: four low bytes and the next four.
 use native.Mathlib.Omega.{arith}
 use Prim.Native.Nat.{_/_}
 use borrow.Author.Needs.{needs}
 use Rattle.layout.specs.Field.{lowBytes}
-use Rattle.emit.proofs.Low.{length-low}
-use Rattle.emit.proofs.Stores.{eight-low}
-use Rattle.emit.proofs.Turns.{whole-as, in-a-row, same-size, not-beyond}
-use Rattle.emit.proofs.put_eight.Statement.{statement}
-use Rattle.emit.proofs.put_eight.Tie as tie
-use Rattle.emit.proofs.put_eight.Reads as reads
-use Rattle.emit.proofs.put_eight.Lts as lts
-use Rattle.emit.proofs.put_four.Reads as put-four-reads
+use Rattle.byte_by_byte.proofs.Low.{length-low}
+use Rattle.low_bytes.proofs.Stores.{eight-low}
+use Rattle.putting.proofs.Turns.{whole-as, in-a-row, same-size, not-beyond}
+use Rattle.low_bytes.proofs.put_eight.Statement.{statement}
+use Rattle.low_bytes.proofs.put_eight.Tie as tie
+use Rattle.low_bytes.proofs.put_eight.Reads as reads
+use Rattle.low_bytes.proofs.put_eight.Lts as lts
+use Rattle.low_bytes.proofs.put_four.Reads as put-four-reads
 
 put-four-requires-2 : tie.Need-put-four-requires-2
 put-four-requires-2 c κs =

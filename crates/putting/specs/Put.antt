@@ -15,3 +15,13 @@ put d at s = over d at (take (length d - at) s)
 -- where that write ends
 unfoldable pub reached : List ℕ → ℕ → List ℕ → ℕ
 reached d at s = at + min (length s) (length d - at)
+
+-- ---- an output that goes on from a place: the first `skip` elements of s are out already, and the rest goes from `at` on
+
+-- d after it
+abbrev pub putFrom : List ℕ → ℕ → ℕ → List ℕ → List ℕ
+putFrom d at skip s = put d at (drop skip s)
+
+-- where it ends
+abbrev pub reachedFrom : List ℕ → ℕ → ℕ → List ℕ → ℕ
+reachedFrom d at skip s = reached d at (drop skip s)

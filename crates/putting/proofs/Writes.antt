@@ -9,7 +9,7 @@ use native.Mathlib.Nat.{add-assoc}
 use native.Mathlib.Omega.{arith}
 use lib.ListN.{length, take, drop, set, take-append-drop, length-append, length-take, length-drop}
 use lib.Seq.{length-take-le, take-at, drop-at, drop-drop, set-split, take-all, take-append-le, take-append-add}
-use Rattle.emit.specs.Put.{over, put, reached}
+use Rattle.putting.specs.Put.{over, put, reached}
 
 -- ---- a whole list over a buffer
 

@@ -1,12 +1,12 @@
--- `emit::put_four`: four low bytes, one store for each.
+-- `low_bytes::put_four`: four low bytes, one store for each.
 use native.Mathlib.Omega.{arith}
 use lib.ListN.{length-set}
-use Rattle.emit.proofs.Stores.{four-low}
+use Rattle.low_bytes.proofs.Stores.{four-low}
 use borrow.Author.Needs.{needs}
-use Rattle.emit.proofs.put_four.Statement.{statement}
-use Rattle.emit.proofs.put_four.Tie as tie
-use Rattle.emit.proofs.put_four.Reads as reads
-use Rattle.emit.proofs.put_four.Lts as lts
+use Rattle.low_bytes.proofs.put_four.Statement.{statement}
+use Rattle.low_bytes.proofs.put_four.Tie as tie
+use Rattle.low_bytes.proofs.put_four.Reads as reads
+use Rattle.low_bytes.proofs.put_four.Lts as lts
 
 slice-write-buf-2 : tie.Need-slice-write-buf-2
 slice-write-buf-2 c = let r = c .pre in simp length-set (omega arith)

@@ -5,8 +5,8 @@ use Prim.Native.Nat.{ℕ, suc, _+_, _-_, _/_, _%_, _≤_, _<_}
 use native.Mathlib.Omega.{arith}
 use lib.ListN.{length, set}
 use Rattle.layout.specs.Field.{lowBytes}
-use Rattle.emit.proofs.Low.{low-more, length-low}
-use Rattle.emit.proofs.Turns.{Left, Whole, start, next, none-left}
+use Rattle.byte_by_byte.proofs.Low.{low-more, length-low}
+use Rattle.putting.proofs.Turns.{Left, Whole, start, next, none-left}
 
 -- one byte more, at a place that is spelled from the start
 low-turn : (b : List ℕ) (pos : ℕ) (o d : List ℕ) (at n x : ℕ) → Left b pos o d at (lowBytes (suc n) x) → at < length b → (at′ : ℕ) → at′ ≡ at + 1 → Left b pos o (set d at (x % 256)) at′ (lowBytes n (x / 256))

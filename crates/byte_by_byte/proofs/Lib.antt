@@ -1,0 +1,2 @@
+-- The laws of a number's low bytes.
+pub mod Low

@@ -1,0 +1,2 @@
+-- The laws of four low bytes and of eight in a row.
+pub mod Stores

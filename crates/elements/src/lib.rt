@@ -1,11 +1,11 @@
 // The elements of an array of integers, in bulk: all at once where there is room for them, else from the first byte on that is not out until the buffer is
 // full. Those that are out already are only counted, and those beyond the buffer's end not looked at.
-use byte_by_byte::put_whole;
 use emit::Cursor;
 use emit::put_fitting;
 use varint::VARINT_MAX;
 use varint::varint_len;
 use varint::zigzag_encode;
+use varint_bytes::put_whole;
 ghost use mathlib.Core.Path.{_≡_};
 ghost use Prim.Native.Nat.{_+_, _-_, _≤_, _<_};
 ghost use lib.Dec.{ltb};

@@ -5,7 +5,7 @@ use Prim.Native.Nat.{ℕ, _-_, _≤_}
 use native.Mathlib.Omega.{arith}
 use lib.ListN.{length, drop, length-append}
 use Rattle.emit.specs.declared.Cursor.{Cursor}
-use Rattle.putting.specs.Put.{put, reached, putFrom, reachedFrom}
+use Rattle.putting.specs.Put.{put, reached}
 use Rattle.emit.specs.Cursor.{placed, moved}
 use Rattle.putting.proofs.Writes.{reached-le, length-put}
 use Rattle.putting.proofs.Places.{same-where-out, stays-where-out, put-from-twice, reached-from-twice}
@@ -18,14 +18,15 @@ Emitted c b s c′ b′ = (c′ ≡ moved c b s) × (b′ ≡ placed c b s)
 pub respelled : (c : Cursor) (b s t : List ℕ) (c′ : Cursor) (b′ : List ℕ) → s ≡ t → Emitted c b s c′ b′ → Emitted c b t c′ b′
 respelled c b s t c′ b′ e h = subst (λ (l : List ℕ). Emitted c b l c′ b′) e h
 
+-- cursors at one place, with as many bytes to skip
+cursor-as : (p p′ k k′ : ℕ) → p ≡ p′ → k ≡ k′ → _≡_ {A = Cursor} (record { pos = p; skip = k }) (record { pos = p′; skip = k′ })
+cursor-as p p′ k k′ e f = ap (λ (x : ℕ). record { pos = x; skip = k }) e ∙ ap (λ (x : ℕ). record { pos = p′; skip = x }) f
+
 -- what is left of it, t, goes from the cursor on
 pub some-left : (c : Cursor) (b s t : List ℕ) (end n : ℕ) (b′ : List ℕ) → n ≡ c .skip - length s → t ≡ drop (c .skip) s → end ≡ reached b (c .pos) t
     → b′ ≡ put b (c .pos) t → Emitted c b s (record { pos = end; skip = n }) b′
 unfolding placed moved
-some-left c b s t end n b′ z e p q = (
-  ap (λ (k : ℕ). record { pos = k; skip = n }) (p ∙ ap (reached b (c .pos)) e) ∙ ap (λ (k : ℕ). record { pos = reached b (c .pos) (drop (c .skip) s); skip = k }) z,
-  q ∙ ap (put b (c .pos)) e,
-)
+some-left c b s t end n b′ z e p q = (cursor-as _ _ _ _ (p ∙ ap (reached b (c .pos)) e) z, q ∙ ap (put b (c .pos)) e)
 
 -- none of it is out
 pub all-left : (c : Cursor) (b s : List ℕ) (end : ℕ) (b′ : List ℕ) → c .skip ≡ 0 → (end ≡ reached b (c .pos) s) × (b′ ≡ put b (c .pos) s) → Emitted c b s (record { pos = end; skip = 0 }) b′
@@ -34,10 +35,7 @@ all-left c b s end b′ h (p, q) = some-left c b s s end 0 b′ (omega arith) (a
 -- all of it was out before
 pub none-left : (c : Cursor) (b s : List ℕ) (n : ℕ) → n ≡ c .skip - length s → length s ≤ c .skip → Emitted c b s (record { pos = c .pos; skip = n }) b
 unfolding placed moved
-none-left c b s n e h = (
-  ap (λ (k : ℕ). record { pos = c .pos; skip = k }) e ∙ ap (λ (k : ℕ). record { pos = k; skip = c .skip - length s }) (sym (stays-where-out b (c .pos) (c .skip) s h)),
-  sym (same-where-out b (c .pos) (c .skip) s h),
-)
+none-left c b s n e h = (cursor-as _ _ _ _ (sym (stays-where-out b (c .pos) (c .skip) s h)) e, sym (same-where-out b (c .pos) (c .skip) s h))
 
 -- ---- segments in a row
 
@@ -52,10 +50,7 @@ module _ (c : Cursor) (b s : List ℕ) (h : c .pos ≤ length b) where
 
   pub moved-moved : (t : List ℕ) → moved (moved c b s) (placed c b s) t ≡ moved c b (s ++ t)
   unfolding moved placed
-  moved-moved t =
-      let e : c .skip - length s - length t ≡ c .skip - length (s ++ t) = omega (arith, length-append s t) in
-      ap (λ (k : ℕ). record { pos = reachedFrom (putFrom b (c .pos) (c .skip) s) (reachedFrom b (c .pos) (c .skip) s) (c .skip - length s) t; skip = k }) e
-      ∙ ap (λ (k : ℕ). record { pos = k; skip = c .skip - length (s ++ t) }) (reached-from-twice b (c .pos) (c .skip) s h t)
+  moved-moved t = cursor-as _ _ _ _ (reached-from-twice b (c .pos) (c .skip) s h t) (omega (arith, length-append s t))
 
   pub placed-placed : (t : List ℕ) → placed (moved c b s) (placed c b s) t ≡ placed c b (s ++ t)
   unfolding moved placed

@@ -4,9 +4,9 @@
 ghost use mathlib.Core.Path.{_≡_};
 ghost use Prim.Native.Nat.{_+_, _-_, _≤_, _<_, min};
 ghost use lib.ListN.{length, drop};
-use byte_by_byte::put_whole;
 use low_bytes::put_part;
 use varint::varint_len;
+use varint_bytes::put_whole;
 ghost use Rattle.layout.specs.Limits.{base, longest};
 ghost use Rattle.layout.specs.Varint.{shortest};
 ghost use Rattle.layout.specs.Field.{lowBytes};

@@ -1,2 +1,3 @@
--- The laws of four low bytes and of eight in a row.
+-- `Low` has the laws of a number's low bytes, `Stores` those of four and of eight in a row.
+pub mod Low
 pub mod Stores

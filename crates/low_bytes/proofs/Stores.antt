@@ -5,7 +5,7 @@ use Prim.Native.Nat.{ℕ, suc, _+_, _-_, _/_, _%_, _≤_, _<_}
 use native.Mathlib.Omega.{arith}
 use lib.ListN.{length, set}
 use Rattle.layout.specs.Field.{lowBytes}
-use Rattle.byte_by_byte.proofs.Low.{low-more, length-low}
+use Rattle.low_bytes.proofs.Low.{low-more, length-low}
 use Rattle.putting.proofs.Turns.{Left, Whole, start, next, none-left}
 
 -- one byte more, at a place that is spelled from the start

@@ -1,10 +1,25 @@
-// A float's bytes into a lent buffer: at once, where there is room for all of them, and from any of them on.
+// The low bytes of a number, low byte first, into a lent buffer as far as there is room: what a float is written as.
 ghost use mathlib.Core.Path.{_≡_};
 ghost use Prim.Native.Nat.{_+_, _≤_, _<_};
 ghost use lib.ListN.{length, drop};
-use byte_by_byte::put_low;
 ghost use Rattle.layout.specs.Field.{lowBytes};
 ghost use Rattle.putting.specs.Put.{put, reached};
+
+// The n low bytes of x, low byte first, from pos on; where they end.
+fn put_low(buf: &mut [u8], pos: usize, x: u64, n: usize) -> usize
+    ensures { λ r. ⌜ (r ≡ reached (now (buf .entry)) pos (lowBytes n x)) × (now (buf .exit) ≡ put (now (buf .entry)) pos (lowBytes n x)) ⌝ }
+{
+    let mut rest = x;
+    let mut left = n;
+    let mut at = pos;
+    while at < buf.len() && 0 < left {
+        buf[at] = (rest % 256) as u8;
+        rest = rest / 256;
+        left -= 1;
+        at += 1;
+    }
+    at
+}
 
 // The four low bytes of x, low byte first, where there is room for them; where they end.
 pub fn put_four(buf: &mut [u8], pos: usize, x: u64) -> usize

@@ -1,15 +1,13 @@
 -- A loop that writes a list byte by byte: what is still to write, from where it stands, comes to the same as the whole from the start.
 use mathlib.Core.Path.{_≡_, refl, sym, ap, _∙_, subst}
 use mathlib.Core.List.{List, [], _∷_, _++_}
-use Prim.Native.Nat.{ℕ, suc, _+_, _-_, _/_, _%_, _≤_, _<_, min}
+use Prim.Native.Nat.{ℕ, suc, _+_, _-_, _≤_, _<_, min}
 use native.Mathlib.Omega.{arith}
 use mathlib.Core.Bool.{Bool, true, false}
 use lib.Dec.{leb}
 use lib.ListN.{length, drop, getD, set, length-set, length-drop}
 use lib.Seq.{drop-cons}
 use borrow.Author.Tests.{leb-true, leb-false}
-use Rattle.layout.specs.Varint.{shortest}
-use Rattle.varint.proofs.Shortest.{shortest-one, shortest-more}
 use Rattle.putting.specs.Put.{put, reached}
 use Rattle.putting.proofs.Writes.{put-none, put-full, put-cons, put-put, reached-is, reached-cons, reached-reached, length-put}
 
@@ -43,33 +41,6 @@ module _ (b : List ℕ) (pos : ℕ) (o d : List ℕ) (at : ℕ) (s : List ℕ) (
 -- the last one
 pub ended : (b : List ℕ) (pos : ℕ) (o d : List ℕ) (at : ℕ) (s : List ℕ) (l : Left b pos o d at s) (x : ℕ) → s ≡ x ∷ [] → at < length d → Whole b pos o (set d at x) (at + 1)
 ended b pos o d at s l x e h = none-left b pos o (set d at x) (at + 1) [] (next b pos o d at s l x [] e h) refl
-
--- ---- a varint byte by byte, where there is room
-
-module _ (b : List ℕ) (pos : ℕ) (o d : List ℕ) (at v : ℕ) (l : Left b pos o d at (shortest v)) (h : at < length b) where
-  here : at < length d
-  here = let z : length d ≡ length b = l .size in omega arith
-
-  pub more-digits : 128 ≤ v → (at′ : ℕ) → at′ ≡ at + 1 → Left b pos o (set d at (v % 128 + 128)) at′ (shortest (v / 128))
-  more-digits m at′ e = subst (λ (k : ℕ). Left b pos o (set d at (v % 128 + 128)) k (shortest (v / 128))) (sym e) (next b pos o d at (shortest v) l _ _ (shortest-more v m) here)
-
-  pub last-digit : v < 128 → (at′ : ℕ) → at′ ≡ at + 1 → Whole b pos o (set d at v) at′
-  last-digit m at′ e = subst (λ (k : ℕ). Whole b pos o (set d at v) k) (sym e) (ended b pos o d at (shortest v) l v (shortest-one v m) here)
-
--- its first byte and its second
-module _ (b : List ℕ) (pos v : ℕ) where
-  pub one-byte : pos < length b → v < 128 → Whole b pos (shortest v) (set b pos v) (pos + 1)
-  one-byte h k = last-digit b pos (shortest v) b pos v (start b pos (shortest v)) h k (pos + 1) refl
-
-  module _ (h : pos + 2 ≤ length b) (m : 128 ≤ v) where
-    one : Left b pos (shortest v) (set b pos (v % 128 + 128)) (pos + 1) (shortest (v / 128))
-    one = more-digits b pos (shortest v) b pos v (start b pos (shortest v)) (omega arith) m (pos + 1) refl
-
-    pub two-bytes : v / 128 < 128 → Whole b pos (shortest v) (set (set b pos (v % 128 + 128)) (pos + 1) (v / 128)) (pos + 2)
-    two-bytes k = last-digit b pos (shortest v) _ (pos + 1) (v / 128) one (omega arith) k (pos + 2) (omega arith)
-
-    pub after-two : 128 ≤ v / 128 → Left b pos (shortest v) (set (set b pos (v % 128 + 128)) (pos + 1) (v / 128 % 128 + 128)) (pos + 2) (shortest (v / 128 / 128))
-    after-two k = more-digits b pos (shortest v) _ (pos + 1) (v / 128) one (omega arith) k (pos + 2) (omega arith)
 
 -- what is left is written in one go
 pub followed : (b : List ℕ) (pos : ℕ) (o d : List ℕ) (at : ℕ) (s d′ : List ℕ) (end : ℕ) → Left b pos o d at s → Whole d at s d′ end → Whole b pos o d′ end

@@ -4,7 +4,7 @@ use mathlib.Core.Path.{refl}
 use borrow.Author.Needs.{needs}
 use lib.ListN.{length}
 use Rattle.layout.specs.Field.{lowBytes}
-use Rattle.byte_by_byte.proofs.Low.{low-fits}
+use Rattle.low_bytes.proofs.Low.{low-fits}
 use Rattle.elements.proofs.Room.{Roomy, roomy-start, roomy-here, roomy-next, roomy-end}
 use Rattle.floats.proofs.put_eights.Statement.{statement}
 use Rattle.floats.proofs.put_eights.Tie as tie

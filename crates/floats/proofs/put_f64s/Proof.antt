@@ -6,7 +6,7 @@ use borrow.Author.Needs.{needs}
 use lib.ListN.{length, take, drop}
 use lib.Ieee.{Float, binary64, toBits}
 use Rattle.layout.specs.Field.{each, lowBytes}
-use Rattle.byte_by_byte.proofs.Low.{length-low}
+use Rattle.low_bytes.proofs.Low.{length-low}
 use Rattle.putting.proofs.Turns.{Whole, whole-as}
 use Rattle.elements.proofs.Resumed.{Resumed, out-evenly, resumed-start, resumed-next, resumed-part, resumed-run, run-fits, run-ends, resumed-last, resumed-end}
 use Rattle.floats.proofs.put_f64s.Statement.{statement}

@@ -3,7 +3,7 @@ use native.Mathlib.Omega.{arith}
 use Prim.Native.Nat.{_/_}
 use borrow.Author.Needs.{needs}
 use Rattle.layout.specs.Field.{lowBytes}
-use Rattle.byte_by_byte.proofs.Low.{length-low}
+use Rattle.low_bytes.proofs.Low.{length-low}
 use Rattle.low_bytes.proofs.Stores.{eight-low}
 use Rattle.putting.proofs.Turns.{whole-as, in-a-row, same-size, not-beyond}
 use Rattle.low_bytes.proofs.put_eight.Statement.{statement}

@@ -6,7 +6,7 @@ use borrow.Author.Needs.{needs}
 use borrow.Author.Tests.{ltb-true, leb-true}
 use lib.ListN.{length, drop}
 use Rattle.layout.specs.Field.{lowBytes}
-use Rattle.byte_by_byte.proofs.Low.{drop-low}
+use Rattle.low_bytes.proofs.Low.{drop-low}
 use Rattle.putting.proofs.Turns.{whole-as}
 use Rattle.low_bytes.proofs.put_part.Statement.{statement}
 use Rattle.low_bytes.proofs.put_part.Tie as tie
@@ -14,7 +14,7 @@ use Rattle.low_bytes.proofs.put_part.Reads as reads
 use Rattle.low_bytes.proofs.put_part.Lts as lts
 use Rattle.low_bytes.proofs.put_eight.Reads as put-eight-reads
 use Rattle.low_bytes.proofs.put_four.Reads as put-four-reads
-use Rattle.byte_by_byte.proofs.put_low.Reads as put-low-reads
+use Rattle.low_bytes.proofs.put_low.Reads as put-low-reads
 
 -- the room for n bytes, as the test has it
 roomy : (c : tie.Then3) → c .before .before .before .before .args .n ≤ length (c .before .before .before .before .args .buf .now) - c .before .before .before .before .args .pos

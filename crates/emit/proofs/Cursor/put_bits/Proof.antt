@@ -3,7 +3,7 @@ use mathlib.Core.Path.{refl}
 use native.Mathlib.Omega.{arith}
 use borrow.Author.Needs.{needs}
 use Rattle.layout.specs.Field.{lowBytes}
-use Rattle.byte_by_byte.proofs.Low.{length-low}
+use Rattle.low_bytes.proofs.Low.{length-low}
 use Rattle.emit.proofs.Segments.{some-left, none-left}
 use Rattle.emit.proofs.Cursor.put_bits.Statement.{statement}
 use Rattle.emit.proofs.Cursor.put_bits.Tie as tie

@@ -1,14 +1,14 @@
--- `byte_by_byte::put_whole`: at each turn, the rest's varint is left to write.
+-- `varint_bytes::put_whole`: at each turn, the rest's varint is left to write.
 use Prim.Native.Nat.{_-_}
 use native.Mathlib.Omega.{arith}
 use lib.ListN.{length, length-set}
 use Rattle.layout.specs.Varint.{shortest}
 use Rattle.varint.proofs.Shortest.{shortest-one, shortest-more}
 use Rattle.putting.proofs.Turns.{Left, start, next, no-room, ended}
-use Rattle.byte_by_byte.proofs.put_whole.Statement.{statement}
-use Rattle.byte_by_byte.proofs.put_whole.Tie as tie
-use Rattle.byte_by_byte.proofs.put_whole.Reads as reads
-use Rattle.byte_by_byte.proofs.put_whole.Lts as lts
+use Rattle.varint_bytes.proofs.put_whole.Statement.{statement}
+use Rattle.varint_bytes.proofs.put_whole.Tie as tie
+use Rattle.varint_bytes.proofs.put_whole.Reads as reads
+use Rattle.varint_bytes.proofs.put_whole.Lts as lts
 
 abbrev Inv-loop : tie.InvT-loop
 Inv-loop buf₀ pos v rest₀ at₀ buf rest at = Left buf₀ pos (shortest v) buf at (shortest rest)

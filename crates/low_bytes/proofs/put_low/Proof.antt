@@ -1,14 +1,14 @@
--- `byte_by_byte::put_low`: at each turn, the rest's low bytes are left to write.
+-- `low_bytes::put_low`: at each turn, the rest's low bytes are left to write.
 use mathlib.Core.Path.{_∙_}
 use native.Mathlib.Omega.{arith}
 use borrow.Author.Tests.{ltb-true, ltb-false}
 use Rattle.layout.specs.Field.{lowBytes}
-use Rattle.byte_by_byte.proofs.Low.{low-more, length-low}
+use Rattle.low_bytes.proofs.Low.{low-more, length-low}
 use Rattle.putting.proofs.Turns.{Left, start, next, no-room, none-left}
-use Rattle.byte_by_byte.proofs.put_low.Statement.{statement}
-use Rattle.byte_by_byte.proofs.put_low.Tie as tie
-use Rattle.byte_by_byte.proofs.put_low.Reads as reads
-use Rattle.byte_by_byte.proofs.put_low.Lts as lts
+use Rattle.low_bytes.proofs.put_low.Statement.{statement}
+use Rattle.low_bytes.proofs.put_low.Tie as tie
+use Rattle.low_bytes.proofs.put_low.Reads as reads
+use Rattle.low_bytes.proofs.put_low.Lts as lts
 
 abbrev Inv-loop : tie.InvT-loop
 Inv-loop buf₀ pos x n rest₀ left₀ at₀ buf rest left at = Left buf₀ pos (lowBytes n x) buf at (lowBytes left rest)

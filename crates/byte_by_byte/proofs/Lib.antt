@@ -1,2 +1,0 @@
--- The laws of a number's low bytes.
-pub mod Low

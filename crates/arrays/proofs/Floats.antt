@@ -10,7 +10,7 @@ use Rattle.layout.specs.Field.{Width, fp32, fp64, float, floatArray, bytesOf, w
 use Rattle.layout.specs.Copy.{fieldBytes}
 use Rattle.varint.proofs.Shortest.{length-one}
 use Rattle.emit.specs.declared.Cursor.{Cursor}
-use Rattle.emit.proofs.Low.{length-low}
+use Rattle.low_bytes.proofs.Low.{length-low}
 use Rattle.emit.proofs.Elements.{length-each}
 use Rattle.emit.proofs.Segments.{Emitted, joined}
 use Rattle.answers.specs.declared.Outcome.{Outcome}

@@ -17,8 +17,8 @@ use Rattle.istream.specs.Stream.{stateOf, streamIn, soundStream}
 use Rattle.phase.proofs.Phases.{Live}
 use Rattle.istream.proofs.Calls.{stream-back}
 use Rattle.phase.proofs.Phases.{both}
-use Rattle.emit.specs.Put.{put, reached}
-use Rattle.emit.proofs.Writes.{length-put, reached-le}
+use Rattle.putting.specs.Put.{put, reached}
+use Rattle.putting.proofs.Writes.{length-put, reached-le}
 use Rattle.ostream.specs.declared.Counted.{Counted}
 use Rattle.ostream.specs.declared.Written.{Written}
 use Rattle.ostream.specs.Stream as writer

@@ -12,7 +12,7 @@ use Rattle.laws.specs.Events.{eventBytes}
 use Rattle.machine.specs.Machine.{atHeader, atWord, atUnsignedCount, atSignedCount, atFloatCount, atArrayWord, atUnsigned, atSigned, within, atFloat, atByte, step, ending, verdictAfter}
 use Rattle.machine.specs.Calls.{broke, scanned, scan, call}
 use Rattle.machine.specs.Run.{Heard, status}
-use Rattle.emit.specs.Put.{over, put, reached}
+use Rattle.putting.specs.Put.{over, put, reached}
 use Rattle.varint.specs.Varint.{soundAcc}
 use Rattle.phase.specs.declared.Phase.the-variants.{Header}
 use Rattle.phase.specs.Phases.{carriedAt}

@@ -29,7 +29,7 @@ use Rattle.laws.proofs.Laws.{accepts}
 use Rattle.machine.specs.Machine.{Phase, inUnsigned, inSigned, inWord, inUnsignedCount, inSignedCount, inFloatCount, inArrayWord, inFloat, inPayload}
 use Rattle.machine.specs.Machine.{idle, on, bad, nextOr, firstOr, atWire, atUnsigned, atSigned, atUnsignedCount, atSignedCount, atFloatCount, atArrayWord}
 use Rattle.machine.specs.Calls.{State, reading, owing, raisedState}
-use Rattle.emit.specs.Put.{put}
+use Rattle.putting.specs.Put.{put}
 use Rattle.copying.specs.Owed.{depthBy}
 use Rattle.copying.specs.Copy.{Copy, after, copy}
 use Rattle.copying.proofs.OneEvent.{free, AsIs, none-as-is, joined, one-event, event-as-is, piece-raises, empty-raises}

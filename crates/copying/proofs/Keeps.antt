@@ -20,8 +20,8 @@ use Rattle.machine.specs.Calls.{State, reading, owing, broke, Pace, byte, bulk,
 use Rattle.machine.specs.Calls as calls
 use Rattle.machine.specs.Run.{given, spotOf, Follows}
 use Rattle.machine.proofs.Calls.{FairSpot, fair-walk, weight, Closes, call-follows}
-use Rattle.emit.specs.Put.{over, put, reached}
-use Rattle.emit.proofs.Writes.{put-is, reached-is, take-over, length-put, reached-le}
+use Rattle.putting.specs.Put.{over, put, reached}
+use Rattle.putting.proofs.Writes.{put-is, reached-is, take-over, length-put, reached-le}
 use Rattle.copying.specs.Owed.{Owed, nothing, owes, rest, further, dueIn}
 use Rattle.copying.specs.Copy.{Copy, Said, full, verdict, invalid, unfinished, Copied, after, settled, filled, gone, handed, stuck, heard, fits, allOf, copies, turnsFor, copy}
 use Rattle.copying.specs.Run.{Keeps, InPayload, Bulk, Final, NoPiece, Kept}

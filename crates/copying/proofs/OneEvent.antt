@@ -18,8 +18,8 @@ use Rattle.machine.specs.Calls as calls
 use Rattle.machine.specs.Run.{spotOf}
 use Rattle.machine.proofs.Bridge.{Fair}
 use Rattle.machine.proofs.Calls.{FairSpot}
-use Rattle.emit.specs.Put.{put, reached}
-use Rattle.emit.proofs.Writes.{length-put, put-put, put-none, reached-is}
+use Rattle.putting.specs.Put.{put, reached}
+use Rattle.putting.proofs.Writes.{length-put, put-put, put-none, reached-is}
 use Rattle.copying.specs.Owed.{nothing, rest, depthBy, depthOnce, leftIn, dueIn}
 use Rattle.copying.specs.Copy.{Copy, Copied, after, settled, gone, handed, stuck, heard, allOf, copy}
 use Rattle.copying.proofs.Takes.{Reads}

@@ -18,8 +18,8 @@ use Rattle.machine.specs.Calls.{State, reading, owing, broke, call}
 use Rattle.machine.specs.Calls as calls
 use Rattle.machine.specs.Run.{spotOf}
 use Rattle.machine.proofs.Calls.{FairSpot, weight}
-use Rattle.emit.specs.Put.{put, reached}
-use Rattle.emit.proofs.Writes.{reached-is, length-put, reached-le}
+use Rattle.putting.specs.Put.{put, reached}
+use Rattle.putting.proofs.Writes.{reached-is, length-put, reached-le}
 use Rattle.copying.specs.Owed.{Owed, nothing, owes, rest, further, depthBy, depthOnce, dueIn, legal, level, agrees, soundOwed}
 use Rattle.copying.specs.Copy.{Copy, Said, full, verdict, invalid, unfinished, Copied, after, settled, filled, gone, handed, stuck, heard, fits, allOf, copies, turnsFor, copy}
 use Rattle.copying.specs.Run.{NotPiece, NoPiece}

@@ -19,8 +19,8 @@ use Rattle.machine.specs.Calls.{State, reading, owing, broke, Pace, byte, bulk,
 use Rattle.machine.specs.Calls as calls
 use Rattle.machine.specs.Run.{spotOf}
 use Rattle.machine.proofs.Calls.{FairSpot, fair-walk, weight, light, Closes, closes, scan-is}
-use Rattle.emit.specs.Put.{put, reached}
-use Rattle.emit.proofs.Writes.{length-put, put-none, reached-is}
+use Rattle.putting.specs.Put.{put, reached}
+use Rattle.putting.proofs.Writes.{length-put, put-none, reached-is}
 use Rattle.copying.specs.Owed.{Owed, nothing, rest, depthOnce}
 use Rattle.copying.specs.Copy.{Copy, full, Copied, after, settled, filled, gone, handed, stuck, heard, fits, allOf, copies, turnsFor, copy}
 

@@ -10,7 +10,7 @@ use Rattle.layout.specs.Event.{Event}
 use Rattle.layout.specs.Message.{Verdict}
 use Rattle.machine.specs.Calls.{State, reading, owing, broke, paceOf, byte, bulk, Called, call}
 use Rattle.machine.specs.Calls as calls
-use Rattle.emit.specs.Put.{put, reached}
+use Rattle.putting.specs.Put.{put, reached}
 use Rattle.copying.specs.Owed.{Owed, nothing, owes, rest, further, depthOnce, dueIn}
 
 -- the reader's state, the writer's depth and position, and what is owed

@@ -10,7 +10,7 @@ use Rattle.layout.specs.Message.{complete, incomplete}
 use Rattle.laws.specs.Events.{eventBytes}
 use Rattle.machine.specs.Machine.{atHeader, atWord, atUnsignedCount, atSignedCount, atFloatCount, atArrayWord, atUnsigned, atSigned, within, atFloat, atByte, step, ending, verdictAfter}
 use Rattle.machine.specs.Calls.{fresh, scanned, scan, call}
-use Rattle.emit.specs.Put.{over, put, reached}
+use Rattle.putting.specs.Put.{over, put, reached}
 use Rattle.copying.specs.Owed.{Owed, nothing, owes, rest, further, depthBy, depthOnce, dueIn}
 use Rattle.copying.specs.Copy.{Copy, Said, full, verdict, invalid, unfinished, Copied, handed, stuck, heard, copies, copy}
 

@@ -17,9 +17,9 @@ use Rattle.layout.specs.Field.{each}
 use Rattle.varint.proofs.Shortest.{drop-shortest}
 use Rattle.varint.proofs.Digits.{pow128}
 use Rattle.emit.specs.declared.Cursor.{Cursor}
-use Rattle.emit.specs.Put.{reached}
-use Rattle.emit.proofs.Writes.{reached-is, reached-le}
-use Rattle.emit.proofs.Turns.{Left, Whole, start, none-left, no-room, followed, followed-by, same-size}
+use Rattle.putting.specs.Put.{reached}
+use Rattle.putting.proofs.Writes.{reached-is, reached-le}
+use Rattle.putting.proofs.Turns.{Left, Whole, start, none-left, no-room, followed, followed-by, same-size}
 use Rattle.emit.proofs.Segments.{Emitted, some-left}
 use Rattle.emit.proofs.Elements.{each-at, each-end, each-append, length-each}
 use Rattle.elements.specs.OutAfter.{OutAfter, elementsMost}

@@ -7,8 +7,8 @@ use native.Mathlib.Nat.{mul-suc}
 use native.Mathlib.Omega.{arith}
 use lib.ListN.{length, drop, getD, length-append}
 use Rattle.layout.specs.Field.{each}
-use Rattle.emit.proofs.Writes.{reached-is}
-use Rattle.emit.proofs.Turns.{Left, Whole, start, none-left, followed-by}
+use Rattle.putting.proofs.Writes.{reached-is}
+use Rattle.putting.proofs.Turns.{Left, Whole, start, none-left, followed-by}
 use Rattle.emit.proofs.Elements.{each-at, each-end}
 
 -- the elements of l from the i-th on are left to write from `at` on over d

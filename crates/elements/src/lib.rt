@@ -2,10 +2,10 @@
 // full. Those that are out already are only counted, and those beyond the buffer's end not looked at.
 use emit::Cursor;
 use emit::put_fitting;
-use emit::put_whole;
 use varint::VARINT_MAX;
 use varint::varint_len;
 use varint::zigzag_encode;
+use varint_bytes::put_whole;
 ghost use mathlib.Core.Path.{_≡_};
 ghost use Prim.Native.Nat.{_+_, _-_, _≤_, _<_};
 ghost use lib.Dec.{ltb};
@@ -14,7 +14,7 @@ ghost use Rattle.layout.specs.Varint.{shortest};
 ghost use Rattle.layout.specs.Field.{each};
 ghost use Rattle.layout.specs.Limits.{pick};
 ghost use Rattle.layout.specs.Zigzag.{zigzag};
-ghost use Rattle.emit.specs.Put.{put, reached};
+ghost use Rattle.putting.specs.Put.{put, reached};
 ghost use Rattle.emit.specs.Cursor.{placed, moved};
 ghost use Rattle.elements.specs.OutAfter.{OutAfter, elementsMost};
 

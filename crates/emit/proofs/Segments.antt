@@ -1,17 +1,14 @@
 -- A cursor over the segments of one output: how one segment moves it, and two in a row as one.
-use mathlib.Core.Path.{_≡_, refl, sym, ap, _∙_, subst}
-use mathlib.Core.List.{List, [], _++_}
-use mathlib.Core.Bool.{Bool, true, false}
-use Prim.Native.Nat.{ℕ, _+_, _-_, _≤_, _<_, min}
+use mathlib.Core.Path.{_≡_, sym, ap, _∙_, subst}
+use mathlib.Core.List.{List, _++_}
+use Prim.Native.Nat.{ℕ, _-_, _≤_}
 use native.Mathlib.Omega.{arith}
-use lib.Dec.{leb}
-use lib.ListN.{length, drop, length-append, length-drop, drop-of-length-le}
-use lib.Seq.{drop-append-le, drop-append-add}
-use borrow.Author.Tests.{leb-true, leb-false}
+use lib.ListN.{length, drop, length-append}
 use Rattle.emit.specs.declared.Cursor.{Cursor}
-use Rattle.emit.specs.Put.{put, reached}
+use Rattle.putting.specs.Put.{put, reached}
 use Rattle.emit.specs.Cursor.{placed, moved}
-use Rattle.emit.proofs.Writes.{put-put, put-none, reached-is, reached-reached, reached-le, length-put}
+use Rattle.putting.proofs.Writes.{reached-le, length-put}
+use Rattle.putting.proofs.Places.{same-where-out, stays-where-out, put-from-twice, reached-from-twice}
 
 -- ---- one segment
 
@@ -21,14 +18,15 @@ Emitted c b s c′ b′ = (c′ ≡ moved c b s) × (b′ ≡ placed c b s)
 pub respelled : (c : Cursor) (b s t : List ℕ) (c′ : Cursor) (b′ : List ℕ) → s ≡ t → Emitted c b s c′ b′ → Emitted c b t c′ b′
 respelled c b s t c′ b′ e h = subst (λ (l : List ℕ). Emitted c b l c′ b′) e h
 
+-- cursors at one place, with as many bytes to skip
+cursor-as : (p p′ k k′ : ℕ) → p ≡ p′ → k ≡ k′ → _≡_ {A = Cursor} (record { pos = p; skip = k }) (record { pos = p′; skip = k′ })
+cursor-as p p′ k k′ e f = ap (λ (x : ℕ). record { pos = x; skip = k }) e ∙ ap (λ (x : ℕ). record { pos = p′; skip = x }) f
+
 -- what is left of it, t, goes from the cursor on
 pub some-left : (c : Cursor) (b s t : List ℕ) (end n : ℕ) (b′ : List ℕ) → n ≡ c .skip - length s → t ≡ drop (c .skip) s → end ≡ reached b (c .pos) t
     → b′ ≡ put b (c .pos) t → Emitted c b s (record { pos = end; skip = n }) b′
 unfolding placed moved
-some-left c b s t end n b′ z e p q = (
-  ap (λ (k : ℕ). record { pos = k; skip = n }) (p ∙ ap (reached b (c .pos)) e) ∙ ap (λ (k : ℕ). record { pos = reached b (c .pos) (drop (c .skip) s); skip = k }) z,
-  q ∙ ap (put b (c .pos)) e,
-)
+some-left c b s t end n b′ z e p q = (cursor-as _ _ _ _ (p ∙ ap (reached b (c .pos)) e) z, q ∙ ap (put b (c .pos)) e)
 
 -- none of it is out
 pub all-left : (c : Cursor) (b s : List ℕ) (end : ℕ) (b′ : List ℕ) → c .skip ≡ 0 → (end ≡ reached b (c .pos) s) × (b′ ≡ put b (c .pos) s) → Emitted c b s (record { pos = end; skip = 0 }) b′
@@ -37,28 +35,9 @@ all-left c b s end b′ h (p, q) = some-left c b s s end 0 b′ (omega arith) (a
 -- all of it was out before
 pub none-left : (c : Cursor) (b s : List ℕ) (n : ℕ) → n ≡ c .skip - length s → length s ≤ c .skip → Emitted c b s (record { pos = c .pos; skip = n }) b
 unfolding placed moved
-none-left c b s n e h =
-    let z : length (drop (c .skip) s) ≡ 0 = omega (arith, length-drop (c .skip) s) in
-    let r : c .pos ≡ c .pos + min (length (drop (c .skip) s)) (length b - c .pos) = omega arith in (
-      ap (λ (k : ℕ). record { pos = c .pos; skip = k }) e ∙ ap (λ (k : ℕ). record { pos = k; skip = c .skip - length s }) (r ∙ sym (reached-is b (c .pos) (drop (c .skip) s))),
-      sym (put-none b (c .pos) (drop (c .skip) s) z),
-    )
+none-left c b s n e h = (cursor-as _ _ _ _ (sym (stays-where-out b (c .pos) (c .skip) s h)) e, sym (same-where-out b (c .pos) (c .skip) s h))
 
 -- ---- segments in a row
-
-pub drop-append : (p : ℕ) (s t : List ℕ) → drop p s ++ drop (p - length s) t ≡ drop p (s ++ t)
-drop-append p s t = go (leb p (length s)) refl
-  where
-    go : (b : Bool) → leb p (length s) ≡ b → drop p s ++ drop (p - length s) t ≡ drop p (s ++ t)
-    go true q =
-        let h : p ≤ length s = leb-true _ _ q in
-        let z : p - length s ≡ 0 = omega arith in
-        ap (λ (k : ℕ). drop p s ++ drop k t) z ∙ sym (drop-append-le p s t h)
-    go false q =
-        let h : length s < p = leb-false _ _ q in
-        let m : p ≡ length s + (p - length s) = omega arith in
-        let e : drop p s ≡ [] = drop-of-length-le s {i = p} (omega arith) in
-        ap (λ (l : List ℕ). l ++ drop (p - length s) t) e ∙ sym (drop-append-add s t (p - length s)) ∙ ap (λ (k : ℕ). drop k (s ++ t)) (sym m)
 
 module _ (c : Cursor) (b s : List ℕ) (h : c .pos ≤ length b) where
   pub length-placed : length (placed c b s) ≡ length b
@@ -71,16 +50,11 @@ module _ (c : Cursor) (b s : List ℕ) (h : c .pos ≤ length b) where
 
   pub moved-moved : (t : List ℕ) → moved (moved c b s) (placed c b s) t ≡ moved c b (s ++ t)
   unfolding moved placed
-  moved-moved t =
-      let e : c .skip - length s - length t ≡ c .skip - length (s ++ t) = omega (arith, length-append s t) in
-      let u : List ℕ = drop (c .skip) s in
-      let w : List ℕ = drop (c .skip - length s) t in
-      ap (λ (k : ℕ). record { pos = reached (put b (c .pos) u) (reached b (c .pos) u) w; skip = k }) e
-      ∙ ap (λ (k : ℕ). record { pos = k; skip = c .skip - length (s ++ t) }) (reached-reached b (c .pos) u w h ∙ ap (reached b (c .pos)) (drop-append (c .skip) s t))
+  moved-moved t = cursor-as _ _ _ _ (reached-from-twice b (c .pos) (c .skip) s h t) (omega (arith, length-append s t))
 
   pub placed-placed : (t : List ℕ) → placed (moved c b s) (placed c b s) t ≡ placed c b (s ++ t)
   unfolding moved placed
-  placed-placed t = put-put b (c .pos) (drop (c .skip) s) (drop (c .skip - length s) t) h ∙ ap (put b (c .pos)) (drop-append (c .skip) s t)
+  placed-placed t = put-from-twice b (c .pos) (c .skip) s h t
 
 -- two segments are one, by what calls answer: c1 and b1 after s, c2 and b2 after t
 pub joined : (c : Cursor) (b s : List ℕ) (c1 : Cursor) (b1 t : List ℕ) (c2 : Cursor) (b2 : List ℕ) → c .pos ≤ length b → Emitted c b s c1 b1 → Emitted c1 b1 t c2 b2

@@ -2,14 +2,14 @@
 -- out already, since the call goes on from a place. Each segment of the output moves it.
 use mathlib.Core.List.{List}
 use Prim.Native.Nat.{ℕ, _-_}
-use lib.ListN.{length, drop}
+use lib.ListN.{length}
 use Rattle.emit.specs.declared.Cursor.{Cursor}
-use Rattle.emit.specs.Put.{put, reached}
+use Rattle.putting.specs.Put.{putFrom, reachedFrom}
 
 -- the buffer b after the segment s
 unfoldable pub placed : Cursor → List ℕ → List ℕ → List ℕ
-placed c b s = put b (c .pos) (drop (c .skip) s)
+placed c b s = putFrom b (c .pos) (c .skip) s
 
 -- the cursor after it
 unfoldable pub moved : Cursor → List ℕ → List ℕ → Cursor
-moved c b s = record { pos = reached b (c .pos) (drop (c .skip) s); skip = c .skip - length s }
+moved c b s = record { pos = reachedFrom b (c .pos) (c .skip) s; skip = c .skip - length s }

@@ -1,3 +1,2 @@
--- What writing to a lent buffer leaves there: `Put`, and a writer's cursor within one call's output: `Cursor`.
-pub mod Put
+-- A writer's cursor within one call's output.
 pub mod Cursor

@@ -4,35 +4,19 @@
 ghost use mathlib.Core.Path.{_≡_};
 ghost use Prim.Native.Nat.{_+_, _-_, _≤_, _<_, min};
 ghost use lib.ListN.{length, drop};
+use low_bytes::put_part;
 use varint::varint_len;
+use varint_bytes::put_whole;
 ghost use Rattle.layout.specs.Limits.{base, longest};
 ghost use Rattle.layout.specs.Varint.{shortest};
 ghost use Rattle.layout.specs.Field.{lowBytes};
-ghost use Rattle.emit.specs.Put.{put, reached};
+ghost use Rattle.putting.specs.Put.{put, reached};
 ghost use Rattle.emit.specs.Cursor.{placed, moved};
 
 // Where the output's next byte stands in the buffer, and how many bytes still to come are out already.
 pub struct Cursor {
     pub pos: usize,
     pub skip: usize,
-}
-
-// The varint of v from pos on; where it ends.
-pub fn put_whole(buf: &mut [u8], pos: usize, v: u64) -> usize
-    ensures { λ r. ⌜ (r ≡ reached (now (buf .entry)) pos (shortest v)) × (now (buf .exit) ≡ put (now (buf .entry)) pos (shortest v)) ⌝ }
-{
-    let mut rest = v;
-    let mut at = pos;
-    while at < buf.len() {
-        if rest < 128 {
-            buf[at] = rest as u8;
-            return at + 1;
-        }
-        buf[at] = (rest % 128 + 128) as u8;
-        rest = rest / 128;
-        at += 1;
-    }
-    at
 }
 
 // The varint of v where there is room for the longest, with no test for the buffer's end at each byte; where it ends.
@@ -102,62 +86,6 @@ pub fn put_rest(buf: &mut [u8], pos: usize, bytes: &[u8], from: usize) -> usize
         k += 1;
     }
     pos + k
-}
-
-// The n low bytes of x, low byte first, from pos on; where they end.
-fn put_low(buf: &mut [u8], pos: usize, x: u64, n: usize) -> usize
-    ensures { λ r. ⌜ (r ≡ reached (now (buf .entry)) pos (lowBytes n x)) × (now (buf .exit) ≡ put (now (buf .entry)) pos (lowBytes n x)) ⌝ }
-{
-    let mut rest = x;
-    let mut left = n;
-    let mut at = pos;
-    while at < buf.len() && 0 < left {
-        buf[at] = (rest % 256) as u8;
-        rest = rest / 256;
-        left -= 1;
-        at += 1;
-    }
-    at
-}
-
-// The four low bytes of x, low byte first, where there is room for them; where they end.
-pub fn put_four(buf: &mut [u8], pos: usize, x: u64) -> usize
-    requires { ⌜ pos + 4 ≤ length (now buf) ⌝ }
-    ensures { λ r. ⌜ (r ≡ reached (now (buf .entry)) pos (lowBytes 4 x)) × (now (buf .exit) ≡ put (now (buf .entry)) pos (lowBytes 4 x)) ⌝ }
-{
-    let b = x / 256;
-    let c = b / 256;
-    let d = c / 256;
-    buf[pos] = (x % 256) as u8;
-    buf[pos + 1] = (b % 256) as u8;
-    buf[pos + 2] = (c % 256) as u8;
-    buf[pos + 3] = (d % 256) as u8;
-    pos + 4
-}
-
-// The eight low bytes of x, low byte first, where there is room for them; where they end.
-pub fn put_eight(buf: &mut [u8], pos: usize, x: u64) -> usize
-    requires { ⌜ pos + 8 ≤ length (now buf) ⌝ }
-    ensures { λ r. ⌜ (r ≡ reached (now (buf .entry)) pos (lowBytes 8 x)) × (now (buf .exit) ≡ put (now (buf .entry)) pos (lowBytes 8 x)) ⌝ }
-{
-    let mid = put_four(buf, pos, x);
-    put_four(buf, mid, x / 4294967296)
-}
-
-// The n low bytes of x from the place `part` on. A float's go at once where none of them is out and there is room for all.
-pub fn put_part(buf: &mut [u8], pos: usize, x: u64, n: usize, part: usize) -> usize
-    requires { ⌜ (n ≤ 8) × (part < n) ⌝ }
-    ensures { λ r. ⌜ (r ≡ reached (now (buf .entry)) pos (drop part (lowBytes n x))) × (now (buf .exit) ≡ put (now (buf .entry)) pos (drop part (lowBytes n x))) ⌝ }
-{
-    if part == 0 && pos < buf.len() && n <= buf.len() - pos {
-        if n == 4 {
-            return put_four(buf, pos, x);
-        }
-        if n == 8 {
-            return put_eight(buf, pos, x);
-        }
-    }
-    put_low(buf, pos, x >> (part * 8), n - part)
 }
 
 impl Cursor {

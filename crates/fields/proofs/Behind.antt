@@ -6,10 +6,10 @@ use Prim.Native.Nat.{ℕ, _+_, _≤_}
 use native.Mathlib.Omega.{arith}
 use lib.ListN.{length, length-append}
 use Rattle.emit.specs.declared.Cursor.{Cursor}
-use Rattle.emit.specs.Put.{reached}
+use Rattle.putting.specs.Put.{reached}
 use Rattle.emit.specs.Cursor.{placed, moved}
-use Rattle.emit.proofs.Writes.{reached-is}
-use Rattle.emit.proofs.Turns.{Whole, in-a-row, same-size}
+use Rattle.putting.proofs.Writes.{reached-is}
+use Rattle.putting.proofs.Turns.{Whole, in-a-row, same-size}
 use Rattle.emit.proofs.Segments.{Emitted}
 use Rattle.answers.specs.declared.Outcome.the-variants.{Through}
 use Rattle.held.specs.Headers.{pairMost, startAt}

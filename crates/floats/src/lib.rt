@@ -3,17 +3,17 @@
 use elements::Out;
 use emit::Cursor;
 use emit::least;
-use emit::put_eight;
-use emit::put_four;
-use emit::put_part;
 use event::fp32_bits;
 use event::fp64_bits;
+use low_bytes::put_eight;
+use low_bytes::put_four;
+use low_bytes::put_part;
 ghost use mathlib.Core.Path.{_≡_};
 ghost use Prim.Native.Nat.{_+_, _*_, _≤_, _<_};
 ghost use lib.ListN.{length};
 ghost use lib.Ieee.{binary32, binary64, toBits};
 ghost use Rattle.layout.specs.Field.{lowBytes, each};
-ghost use Rattle.emit.specs.Put.{put, reached};
+ghost use Rattle.putting.specs.Put.{put, reached};
 ghost use Rattle.emit.specs.Cursor.{placed, moved};
 
 // The elements of a float array of 32 bits, by their bits, where there is room for all: no test at each byte.

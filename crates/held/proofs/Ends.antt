@@ -9,10 +9,10 @@ use lib.ListN.{length, drop, length-drop}
 use borrow.Author.Tests.{ltb-true, le-ltb}
 use Rattle.layout.specs.Limits.{pick}
 use Rattle.emit.specs.declared.Cursor.{Cursor}
-use Rattle.emit.specs.Put.{put, reached}
+use Rattle.putting.specs.Put.{put, reached}
 use Rattle.emit.specs.Cursor.{placed, moved}
-use Rattle.emit.proofs.Writes.{put-none, reached-is}
-use Rattle.emit.proofs.Turns.{Whole}
+use Rattle.putting.proofs.Writes.{put-none, reached-is}
+use Rattle.putting.proofs.Turns.{Whole}
 use Rattle.emit.proofs.Segments.{Emitted}
 use Rattle.answers.specs.declared.Outcome.{Outcome}
 use Rattle.answers.specs.declared.Outcome.the-variants.{Through, Full}

@@ -6,7 +6,7 @@ use lib.ListN.{length, take, drop}
 use Rattle.layout.specs.Limits.{base, longest, pick}
 use Rattle.layout.specs.Varint.{shortest}
 use Rattle.layout.specs.Field.{header, each, T-begin}
-use Rattle.emit.specs.Put.{put}
+use Rattle.putting.specs.Put.{put}
 use Rattle.emit.specs.declared.Cursor.{Cursor}
 use Rattle.held.specs.Places.{lazyDepth}
 

@@ -11,8 +11,8 @@ use mir.Facts.{toZ-pos}
 use mir.Syntax.{w64}
 use mir.Val.{toZ}
 use borrow.Author.Tests.{le-leb, lt-leb}
-use Rattle.emit.specs.Put.{over, put, reached}
-use Rattle.emit.proofs.Writes.{reached-is}
+use Rattle.putting.specs.Put.{over, put, reached}
+use Rattle.putting.proofs.Writes.{reached-is}
 use Rattle.exports.specs.Exports.{resultOf, room, enough, filled}
 
 all : (b : List ℕ) → length b < 9223372036854775808 → room b ≡ length b

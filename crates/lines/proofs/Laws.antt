@@ -13,8 +13,8 @@ use Rattle.io.specs.Digits.{digits}
 use Rattle.layout.specs.Field.{Raw, fp32, fp64, kindNumber, subtypeNumber, each}
 use Rattle.layout.specs.Event.{Event, Unsigned, Signed, Float, Piece, Fixlen, Array, Begin, End}
 use Rattle.layout.specs.Message.{All, Bytes}
-use Rattle.emit.specs.Put.{over}
-use Rattle.emit.proofs.Writes.{put-is, reached-is}
+use Rattle.putting.specs.Put.{over}
+use Rattle.putting.proofs.Writes.{put-is, reached-is}
 use Rattle.emit.proofs.Elements.{each-append}
 use Rattle.event_list.specs.Lines.{decimalIn, decimal, signed, hexadecimal, parts, byteLine, linesOf}
 use Rattle.lines.specs.Texts.{Puts}

@@ -10,9 +10,9 @@ use lib.Dec.{leb}
 use lib.ListN.{length, take, drop, getD, length-take, drop-of-length-le}
 use borrow.Author.Tests.{leb-true, leb-false}
 use Rattle.layout.specs.Field.{each}
-use Rattle.emit.proofs.Writes.{put-none, put-full, reached-is, length-put}
+use Rattle.putting.proofs.Writes.{put-none, put-full, reached-is, length-put}
 use Rattle.emit.proofs.Elements.{each-append}
-use Rattle.emit.proofs.Turns.{start, followed, followed-by}
+use Rattle.putting.proofs.Turns.{start, followed, followed-by}
 use Rattle.event_list.specs.Lines.{decimal, byteLine}
 use Rattle.lines.specs.Texts.{Puts}
 

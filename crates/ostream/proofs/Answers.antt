@@ -10,7 +10,7 @@ use borrow.Author.Tests.{lt-ltb, le-ltb, le-leb, lt-leb}
 use Rattle.types.specs.declared.Error.{Error}
 use Rattle.types.specs.Types.{numberOf, refusal}
 use Rattle.types.proofs.Numbers.{refusal-number}
-use Rattle.emit.specs.Put.{put}
+use Rattle.putting.specs.Put.{put}
 use Rattle.ostream.specs.declared.OStream.{OStream}
 use Rattle.ostream.specs.declared.Answer.{Answer}
 use Rattle.ostream.specs.declared.Answer.the-variants.{Done, Full, Refused}

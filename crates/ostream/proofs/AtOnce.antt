@@ -9,7 +9,7 @@ use lib.ListN.{length, take, drop}
 use borrow.Author.Tests.{leb-true, ltb-true, le-leb, le-ltb}
 use Rattle.layout.specs.Limits.{base}
 use Rattle.layout.specs.Varint.{shortest}
-use Rattle.emit.proofs.Turns.{Whole}
+use Rattle.putting.proofs.Turns.{Whole}
 use Rattle.held.specs.Places.{clean}
 use Rattle.held.specs.Headers.{pairMost}
 use Rattle.held.proofs.Ends.{at-once}

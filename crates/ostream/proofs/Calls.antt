@@ -11,8 +11,8 @@ use Rattle.layout.specs.Limits.{base, pick}
 use Rattle.layout.specs.Field.{header, each, T-begin}
 use Rattle.types.specs.declared.Error.{Error}
 use Rattle.types.specs.Types.{refusal}
-use Rattle.emit.specs.Put.{put}
-use Rattle.emit.proofs.Writes.{put-none}
+use Rattle.putting.specs.Put.{put}
+use Rattle.putting.proofs.Writes.{put-none}
 use Rattle.answers.specs.declared.Outcome.{Outcome}
 use Rattle.answers.specs.declared.Outcome.the-variants.{Through, Full, Refused}
 use Rattle.answers.specs.Outcome.{reaches}

@@ -6,7 +6,7 @@ use lib.ListN.{length}
 use Rattle.layout.specs.Field.{Width, fp32, fp64, bytesOf, float, header, word, lowBytes, T-fixlen}
 use Rattle.layout.specs.Copy.{fieldBytes}
 use Rattle.types.specs.Types.{fixlenType}
-use Rattle.emit.proofs.Low.{length-low}
+use Rattle.low_bytes.proofs.Low.{length-low}
 use Rattle.ostream.specs.declared.OStream.{OStream}
 use Rattle.ostream.specs.Stream.{heldBytes}
 use Rattle.ostream.specs.Emission.{judged, written}

@@ -6,7 +6,7 @@ use Prim.Native.Nat.{ℕ, _+_, _-_}
 use lib.Dec.{leb, ltb}
 use lib.ListN.{length, drop}
 use Rattle.layout.specs.Limits.{pick}
-use Rattle.emit.specs.Put.{put}
+use Rattle.putting.specs.Put.{put}
 use Rattle.types.specs.declared.Error.{Error}
 use Rattle.types.specs.Types.{numberOf}
 use Rattle.ostream.specs.declared.OStream.{OStream}

@@ -6,10 +6,10 @@ use native.Mathlib.Omega.{arith}
 use lib.ListN.{length, drop, drop-of-length-le, length-append}
 use Rattle.layout.specs.Limits.{base, longest}
 use Rattle.emit.specs.declared.Cursor.{Cursor}
-use Rattle.emit.specs.Put.{put, reached}
+use Rattle.putting.specs.Put.{put, reached}
 use Rattle.emit.specs.Cursor.{placed, moved}
 use Rattle.emit.proofs.Segments.{Emitted}
-use Rattle.emit.proofs.Writes.{put-none, put-put, reached-is, reached-reached, length-put}
+use Rattle.putting.proofs.Writes.{put-none, put-put, reached-is, reached-reached, length-put}
 use Rattle.output.specs.Output.{outputMost}
 
 -- a segment that is the whole output, from a place on

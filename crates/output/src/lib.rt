@@ -2,7 +2,7 @@
 ghost use mathlib.Core.Path.{_≡_};
 ghost use Prim.Native.Nat.{_+_, _≤_};
 ghost use lib.ListN.{length, drop};
-ghost use Rattle.emit.specs.Put.{put, reached};
+ghost use Rattle.putting.specs.Put.{put, reached};
 ghost use Rattle.output.specs.Output.{outputBytes, outputMost};
 use emit::Cursor;
 use emit::put_fitting;

@@ -30,8 +30,8 @@ use Rattle.phase.specs.Sound.{SoundState}
 use Rattle.phase.proofs.Phases.{raw-back}
 use Rattle.istream.proofs.Calls.{stream-back}
 use Rattle.istream.proofs.Laws.{is-sound}
-use Rattle.emit.specs.Put.{put, reached}
-use Rattle.emit.proofs.Writes.{put-none, reached-is}
+use Rattle.putting.specs.Put.{put, reached}
+use Rattle.putting.proofs.Writes.{put-none, reached-is}
 use Rattle.laws.specs.Events.{eventBytes}
 use Rattle.copying.specs.Owed.{owes, depthBy, dueIn}
 use Rattle.copying.specs.Copy.{gone, handed, stuck, heard, copy}

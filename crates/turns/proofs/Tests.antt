@@ -21,7 +21,7 @@ use Rattle.phase.specs.declared.Phase.the-variants as phases
 use Rattle.phase.specs.Phases.{stateAt}
 use Rattle.istream.specs.Stream.{stateOf, fedOf}
 use Rattle.phase.proofs.Phase as readers
-use Rattle.emit.specs.Put.{put, reached}
+use Rattle.putting.specs.Put.{put, reached}
 use Rattle.copying.specs.Owed.{dueIn}
 use Rattle.owed.specs.declared.Owed.{Owed}
 use Rattle.output.specs.declared.Output.{Output}

@@ -28,8 +28,8 @@ use Rattle.phase.proofs.Phases.{Live}
 use Rattle.istream.proofs.Calls.{state-of-stream, stream-back}
 use Rattle.istream.proofs.Laws.{is-sound, sound-is, fed-sound, feed-keeps}
 use Rattle.reading.proofs.Feeds.{Ranged, call-range}
-use Rattle.emit.specs.Put.{put, reached}
-use Rattle.emit.proofs.Writes.{length-put, reached-le, reached-is}
+use Rattle.putting.specs.Put.{put, reached}
+use Rattle.putting.proofs.Writes.{length-put, reached-le, reached-is}
 use Rattle.laws.specs.Events.{eventBytes}
 use Rattle.copying.specs.Owed.{nothing, owes, rest, further, depthBy, depthOnce, dueIn}
 use Rattle.copying.specs.Copy as copying

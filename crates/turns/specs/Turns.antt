@@ -21,7 +21,7 @@ use Rattle.call_end.specs.declared.Answer as heard
 use Rattle.call_end.specs.declared.Answer.the-variants as answers
 use Rattle.call_end.specs.declared.Status.the-variants.{Incomplete}
 use Rattle.istream.specs.Stream.{stateOf, streamIn, soundStream}
-use Rattle.emit.specs.Put.{put, reached}
+use Rattle.putting.specs.Put.{put, reached}
 use Rattle.copying.specs.Owed.{nothing}
 use Rattle.copying.specs.Copy.{Copy, after, copy}
 use Rattle.copying.specs.Copy as copying

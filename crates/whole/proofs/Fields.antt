@@ -19,15 +19,17 @@ use Rattle.layout.specs.Field.{Field, Wire, wireOf, unsigneds, signeds, unsigne
 use Rattle.layout.specs.Field.{T-unsigneds, T-begin, T-end}
 use Rattle.layout.specs.Message.{headerOf, countOf, unzigzagged, signedVarint, elements, body, field, depthAfter}
 use Rattle.layout.specs.Message.{Fields, prepend, fieldsFrom, message, complete, incomplete, brokenAt, verdictBy, verdictOf}
-use Rattle.whole.specs.declared.Found.{Found}
-use Rattle.whole.specs.declared.Found.the-variants as Founds
-use Rattle.whole.specs.declared.Land.{Land}
-use Rattle.whole.specs.declared.Land.the-variants as Lands
+use Rattle.passing.specs.declared.Found.{Found}
+use Rattle.passing.specs.declared.Found.the-variants as Founds
+use Rattle.passing.specs.declared.Land.{Land}
+use Rattle.passing.specs.declared.Land.the-variants as Lands
 use Rattle.whole.specs.declared.Next.{Next}
 use Rattle.whole.specs.declared.Next.the-variants as Nexts
-use Rattle.whole.specs.Whole.{Reaches, Passes, Goes, nextPast, ends, deep, afterBody, afterField, noValue, deepened}
-use Rattle.whole.proofs.Found as found
-use Rattle.whole.proofs.Bodies.{deep-scalar, deep-becoming, ends-elements}
+use Rattle.passing.specs.Passing.{Reaches, Passes, ends, noValue}
+use Rattle.bodies.specs.Bodies.{deep, afterBody}
+use Rattle.whole.specs.Whole.{Goes, nextPast, afterField, deepened}
+use Rattle.passing.proofs.Found as found
+use Rattle.bodies.proofs.Bodies.{deep-scalar, deep-becoming, ends-elements}
 
 -- ---- what follows a header
 

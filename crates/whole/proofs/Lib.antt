@@ -1,6 +1,2 @@
--- The laws behind the functions of whole.
-pub mod Varints
-pub mod Ends
-pub mod Bodies
-pub mod Landing
+-- The laws of a field from a place on, and of the fields of a message one after another.
 pub mod Fields

@@ -1,21 +1,17 @@
--- Which outcome of the layout's reader an answer stands for: it names places of the message t where the outcome has the bytes left.
--- And what the reader's parts come to where only their end is asked for, or the depth after them.
-use Prim.Native.Nat.{ℕ, zero, suc, _+_, _-_, _≤_, _<_}
+-- Which outcome of the layout's reader the answer on a field stands for, and the layout's verdict as this crate's.
+use Prim.Native.Nat.{ℕ, _≤_}
 use mathlib.Core.Path.{_≡_}
 use mathlib.Core.List.{List}
 use lib.ListN.{length, drop}
-use lib.Dec.{leb}
-use Rattle.layout.specs.Limits.{Limits, base, pick}
-use Rattle.layout.specs.Varint.{Outcome, whole, short, broken, varint}
-use Rattle.layout.specs.Field.{Wire, Field}
+use Rattle.layout.specs.Limits.{base}
+use Rattle.layout.specs.Varint.{Outcome, whole, short, broken}
 use Rattle.layout.specs.Message as layout
-use Rattle.layout.specs.Message.{body, field, depthAfter}
+use Rattle.layout.specs.Message.{field}
+use Rattle.passing.specs.declared.Land.{Land}
+use Rattle.passing.specs.declared.Land.the-variants as Lands
+use Rattle.bodies.specs.Bodies.{deep}
 use Rattle.whole.specs.declared.Verdict.{Verdict}
 use Rattle.whole.specs.declared.Verdict.the-variants as Verdicts
-use Rattle.whole.specs.declared.Found.{Found}
-use Rattle.whole.specs.declared.Found.the-variants as Founds
-use Rattle.whole.specs.declared.Land.{Land}
-use Rattle.whole.specs.declared.Land.the-variants as Lands
 use Rattle.whole.specs.declared.Next.{Next}
 use Rattle.whole.specs.declared.Next.the-variants as Nexts
 
@@ -25,49 +21,11 @@ verdictIn layout.complete = Verdicts.Complete
 verdictIn layout.incomplete = Verdicts.Incomplete
 verdictIn (layout.brokenAt n) = Verdicts.Broken n
 
--- ---- outcomes
-
--- the end alone, with the depth d there
-unfoldable pub ends : {A : Type 0} → ℕ → Outcome A → Outcome ℕ
-ends d (whole a rest) = whole d rest
-ends d short = short
-ends d (broken rest) = broken rest
-
--- a field's end, and the depth after it, where it stands at depth d
-unfoldable pub deep : ℕ → Outcome Field → Outcome ℕ
-deep d (whole x rest) = whole (depthAfter d x) rest
-deep d short = short
-deep d (broken rest) = broken rest
-
--- one after another
-unfoldable pub followed : Outcome ℕ → (List ℕ → Outcome ℕ) → Outcome ℕ
-followed (whole d rest) f = f rest
-followed short f = short
-followed (broken rest) f = broken rest
-
--- n varints
-unfoldable pub skips : Limits → ℕ → ℕ → List ℕ → Outcome ℕ
-skips L d zero bs = whole d bs
-skips L d (suc n) bs = followed (ends d (varint L bs)) (λ rest. skips L d n rest)
-
--- what follows a header, at depth d
-unfoldable pub afterBody : ℕ → Wire → List ℕ → ℕ → Outcome ℕ
-afterBody id w bs d = deep d (body base d id w bs .outcome)
-
+-- a field at depth d: its end, and the depth after it
 unfoldable pub afterField : ℕ → List ℕ → Outcome ℕ
 afterField d bs = deep d (field base d bs .outcome)
 
 -- ---- answers
-
-abbrev pub foundIn : List ℕ → Found → Outcome ℕ
-foundIn t (Founds.Value v i) = whole v (drop i t)
-foundIn t Founds.Short = short
-foundIn t (Founds.Broken i) = broken (drop i t)
-
-abbrev pub landIn : List ℕ → ℕ → Land → Outcome ℕ
-landIn t d (Lands.At i) = whole d (drop i t)
-landIn t d Lands.Short = short
-landIn t d (Lands.Broken i) = broken (drop i t)
 
 abbrev pub nextIn : List ℕ → Next → Outcome ℕ
 nextIn t (Nexts.At i d) = whole d (drop i t)
@@ -75,45 +33,17 @@ nextIn t Nexts.Short = short
 nextIn t (Nexts.Broken i) = broken (drop i t)
 
 -- The places that an answer names lie within t, and that after something not before it.
-abbrev pub foundPast : List ℕ → ℕ → Found → Type 0
-foundPast t at (Founds.Value v i) = (at < i) × (i ≤ length t)
-foundPast t at Founds.Short = Unit {0}
-foundPast t at (Founds.Broken i) = i ≤ length t
-
-abbrev pub landPast : List ℕ → ℕ → Land → Type 0
-landPast t at (Lands.At i) = (at ≤ i) × (i ≤ length t)
-landPast t at Lands.Short = Unit {0}
-landPast t at (Lands.Broken i) = i ≤ length t
-
 abbrev pub nextPast : List ℕ → ℕ → Next → Type 0
 nextPast t at (Nexts.At i d) = (at ≤ i) × (i ≤ length t)
 nextPast t at Nexts.Short = Unit {0}
 nextPast t at (Nexts.Broken i) = i ≤ length t
 
--- what stands at a place comes to this answer: a varint, something of which only the end is asked, whatever the depth, and a field
-pub record Reaches (t : List ℕ) (at : ℕ) (o : Outcome ℕ) (r : Found) : Type 0 where
-  pub same : o ≡ foundIn t r
-  pub past : foundPast t at r
-
-pub record Passes (t : List ℕ) (at : ℕ) (o : ℕ → Outcome ℕ) (r : Land) : Type 0 where
-  pub same : (d : ℕ) → o d ≡ landIn t d r
-  pub past : landPast t at r
-
+-- the field at a place comes to this answer
 pub record Goes (t : List ℕ) (at : ℕ) (o : Outcome ℕ) (r : Next) : Type 0 where
   pub same : o ≡ nextIn t r
   pub past : nextPast t at r
 
--- ---- answers made of others
-
--- n bytes further, where there are so many
-abbrev pub jumped : List ℕ → ℕ → ℕ → Land
-jumped t at n = pick (leb n (length t - at)) (Lands.At (at + n)) Lands.Short
-
-abbrev pub noValue : Found → Land
-noValue (Founds.Value v i) = Lands.Short
-noValue Founds.Short = Lands.Short
-noValue (Founds.Broken i) = Lands.Broken i
-
+-- an end that is reached at depth d
 abbrev pub deepened : ℕ → Land → Next
 deepened d (Lands.At i) = Nexts.At i d
 deepened d Lands.Short = Nexts.Short

@@ -6,9 +6,9 @@ use Prim.Native.Nat.{ℕ, _+_, _-_, _≤_, _<_}
 use native.Mathlib.Omega.{arith}
 use lib.ListN.{length, replicate}
 use borrow.Author.Tests.{leb-true, le-leb, not-true, not-false}
-use Rattle.emit.specs.Put.{reached}
-use Rattle.emit.proofs.Writes.{reached-is}
-use Rattle.emit.proofs.Turns.{Whole}
+use Rattle.putting.specs.Put.{reached}
+use Rattle.putting.proofs.Writes.{reached-is}
+use Rattle.putting.proofs.Turns.{Whole}
 use Rattle.held.specs.Places.{lazyDepth, every, clean}
 use Rattle.held.specs.Headers.{pairMost}
 use Rattle.held.proofs.Places.{both}

@@ -8,9 +8,9 @@ use lib.ListN.{length, length-append}
 use Rattle.layout.specs.Limits.{base, longest}
 use Rattle.layout.specs.Varint.{shortest}
 use Rattle.varint.proofs.Shortest.{length-longest}
-use Rattle.emit.specs.Put.{put, reached}
-use Rattle.emit.proofs.Writes.{reached-is}
-use Rattle.emit.proofs.Turns.{Whole, in-a-row, same-size}
+use Rattle.putting.specs.Put.{put, reached}
+use Rattle.putting.proofs.Writes.{reached-is}
+use Rattle.putting.proofs.Turns.{Whole, in-a-row, same-size}
 use Rattle.held.specs.Headers.{pairMost}
 use Rattle.write_at_once.specs.AtOnce.{roomFor}
 use Rattle.write_at_once.proofs.AtOnce.{ArrayIf, has-room, made-array}

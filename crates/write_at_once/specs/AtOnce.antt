@@ -5,7 +5,7 @@ use mathlib.Core.List.{List}
 use Prim.Native.Nat.{ℕ, _-_}
 use lib.Dec.{leb, ltb}
 use Rattle.layout.specs.Limits.{base, pick}
-use Rattle.emit.specs.Put.{put, reached}
+use Rattle.putting.specs.Put.{put, reached}
 use Rattle.held.specs.Headers.{pairMost}
 
 -- whether there is room from pos on for two varints, however long, and n more bytes

@@ -11,8 +11,8 @@ use lib.ListN.{length, take, drop, length-append}
 use lib.Seq.{length-take-le}
 use Rattle.layout.specs.Limits.{pick}
 use Rattle.layout.specs.Message.{All}
-use Rattle.emit.specs.Put.{put}
-use Rattle.emit.proofs.Writes.{length-put}
+use Rattle.putting.specs.Put.{put}
+use Rattle.putting.proofs.Writes.{length-put}
 use Rattle.ostream.specs.declared.Count.the-variants as Counts
 use Rattle.ostream.specs.Stream.{at}
 use Rattle.ostream.proofs.Calls.{is-sound}

@@ -10,8 +10,8 @@ use mathlib.Core.Logic.{_⊎_, inl, inr}
 use lib.ListN.{take, length, drop, length-append, length-drop}
 use Rattle.layout.specs.Limits.{pick}
 use Rattle.layout.specs.Message.{All}
-use Rattle.emit.specs.Put.{put}
-use Rattle.emit.proofs.Writes.{length-put}
+use Rattle.putting.specs.Put.{put}
+use Rattle.putting.proofs.Writes.{length-put}
 use Rattle.ostream.specs.declared.OStream.{OStream}
 use Rattle.ostream.specs.declared.Count.the-variants as Counts
 use Rattle.ostream.specs.declared.Counted.{Counted}

@@ -13,8 +13,8 @@ use lib.Seq.{take-all, take-take, take-append-le, length-take-le, drop-append-le
 use Rattle.layout.specs.Message.{All}
 use Rattle.types.specs.declared.Error.{Error}
 use Rattle.types.specs.Types.{numberOf}
-use Rattle.emit.specs.Put.{put}
-use Rattle.emit.proofs.Writes.{put-is, take-over, length-put}
+use Rattle.putting.specs.Put.{put}
+use Rattle.putting.proofs.Writes.{put-is, take-over, length-put}
 use Rattle.ostream.specs.declared.OStream.{OStream}
 use Rattle.ostream.specs.declared.Count.the-variants as Counts
 use Rattle.ostream.specs.declared.Counted.{Counted}

@@ -6,7 +6,7 @@ use Rattle.layout.specs.Varint.{shortest, shortestIn}
 use Rattle.layout.specs.Field.{each, unsigned}
 use Rattle.layout.specs.Copy.{fieldBytes}
 use Rattle.types.specs.declared.FixlenType.the-variants as Fix
-use Rattle.emit.specs.Put.{put, over}
+use Rattle.putting.specs.Put.{put, over}
 use Rattle.ostream.specs.Stream.{every, soundStream, heldBytes, committed, holding, dropped, opened}
 use Rattle.ostream.specs.Emission as calls
 use Rattle.ostream.specs.Emission.{emitted, writtenBy}

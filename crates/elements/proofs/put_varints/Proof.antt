@@ -15,7 +15,7 @@ use Rattle.elements.proofs.put_varints.Reads as reads
 use Rattle.elements.proofs.put_varints.Lts as lts
 use Rattle.elements.proofs.varints_from.Reads as varints-from-reads
 use Rattle.elements.proofs.varints_out.Reads as varints-out-reads
-use Rattle.emit.proofs.put_whole.Reads as put-whole-reads
+use Rattle.varint_bytes.proofs.put_whole.Reads as put-whole-reads
 
 returns : tie.Need-returns
 returns c = all-left (c .before .before .before .before .before .before .before .args .cursor) _ _ _ _ (c .before .before .before .before .if1 .taken) (c .before .before .varints-from .ensures)

@@ -19,7 +19,7 @@ use Rattle.elements.proofs.put_zigzags.Reads as reads
 use Rattle.elements.proofs.put_zigzags.Lts as lts
 use Rattle.elements.proofs.zigzags_from.Reads as zigzags-from-reads
 use Rattle.elements.proofs.zigzags_out.Reads as zigzags-out-reads
-use Rattle.emit.proofs.put_whole.Reads as put-whole-reads
+use Rattle.varint_bytes.proofs.put_whole.Reads as put-whole-reads
 use Rattle.varint.proofs.zigzag_encode.Reads as zigzag-encode-reads
 
 returns : tie.Need-returns

@@ -3,7 +3,8 @@ use native.Mathlib.Omega.{arith}
 use lib.ListN.{length-set}
 use borrow.Author.Needs.{needs}
 use Rattle.layout.specs.Varint.{shortest}
-use Rattle.emit.proofs.Turns.{Whole, one-byte, two-bytes, after-two, followed, same-size}
+use Rattle.putting.proofs.Turns.{Whole, followed, same-size}
+use Rattle.varint_bytes.proofs.Digits.{one-byte, two-bytes, after-two}
 use Rattle.emit.proofs.put_fitting.Statement.{statement}
 use Rattle.emit.proofs.put_fitting.Tie as tie
 use Rattle.emit.proofs.put_fitting.Reads as reads

@@ -4,7 +4,7 @@ use mathlib.Core.Path.{_≡_}
 use native.Mathlib.Omega.{arith}
 use lib.ListN.{length, drop, length-drop}
 use borrow.Author.Needs.{needs}
-use Rattle.emit.proofs.Turns.{Left, start, no-room, none-left, copied, copied-all, copy-start}
+use Rattle.putting.proofs.Turns.{Left, start, no-room, none-left, copied, copied-all, copy-start}
 use Rattle.emit.proofs.put_rest.Statement.{statement}
 use Rattle.emit.proofs.put_rest.Tie as tie
 use Rattle.emit.proofs.put_rest.Reads as reads

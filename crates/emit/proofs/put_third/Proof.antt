@@ -3,12 +3,13 @@ use native.Mathlib.Omega.{arith}
 use lib.ListN.{length-set}
 use borrow.Author.Needs.{needs}
 use Rattle.layout.specs.Varint.{shortest}
-use Rattle.emit.proofs.Turns.{Whole, one-byte, two-bytes, after-two, last-digit, followed, same-size}
+use Rattle.putting.proofs.Turns.{Whole, followed, same-size}
+use Rattle.varint_bytes.proofs.Digits.{one-byte, two-bytes, after-two, last-digit}
 use Rattle.emit.proofs.put_third.Statement.{statement}
 use Rattle.emit.proofs.put_third.Tie as tie
 use Rattle.emit.proofs.put_third.Reads as reads
 use Rattle.emit.proofs.put_third.Lts as lts
-use Rattle.emit.proofs.put_whole.Reads as put-whole-reads
+use Rattle.varint_bytes.proofs.put_whole.Reads as put-whole-reads
 
 returns : tie.Need-returns
 returns c = let h = c .before .before .pre in one-byte _ _ _ (omega arith) (c .if1 .taken)

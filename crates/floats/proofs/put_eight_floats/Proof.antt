@@ -5,13 +5,13 @@ use borrow.Author.Needs.{needs}
 use lib.ListN.{length}
 use lib.Ieee.{binary64, toBits}
 use Rattle.layout.specs.Field.{lowBytes}
-use Rattle.emit.proofs.Low.{low-fits}
+use Rattle.low_bytes.proofs.Low.{low-fits}
 use Rattle.elements.proofs.Room.{Roomy, roomy-start, roomy-here, roomy-next, roomy-end}
 use Rattle.floats.proofs.put_eight_floats.Statement.{statement}
 use Rattle.floats.proofs.put_eight_floats.Tie as tie
 use Rattle.floats.proofs.put_eight_floats.Reads as reads
 use Rattle.floats.proofs.put_eight_floats.Lts as lts
-use Rattle.emit.proofs.put_eight.Reads as put-eight-reads
+use Rattle.low_bytes.proofs.put_eight.Reads as put-eight-reads
 use Rattle.event.proofs.fp64_bits.Reads as fp64-bits-reads
 
 abbrev Inv-loop : tie.InvT-loop

@@ -4,13 +4,13 @@ use mathlib.Core.Path.{refl}
 use borrow.Author.Needs.{needs}
 use lib.ListN.{length}
 use Rattle.layout.specs.Field.{lowBytes}
-use Rattle.emit.proofs.Low.{low-fits}
+use Rattle.low_bytes.proofs.Low.{low-fits}
 use Rattle.elements.proofs.Room.{Roomy, roomy-start, roomy-here, roomy-next, roomy-end}
 use Rattle.floats.proofs.put_eights.Statement.{statement}
 use Rattle.floats.proofs.put_eights.Tie as tie
 use Rattle.floats.proofs.put_eights.Reads as reads
 use Rattle.floats.proofs.put_eights.Lts as lts
-use Rattle.emit.proofs.put_eight.Reads as put-eight-reads
+use Rattle.low_bytes.proofs.put_eight.Reads as put-eight-reads
 
 abbrev Inv-loop : tie.InvT-loop
 Inv-loop buf₀ pos items at₀ i₀ buf at i = Roomy (lowBytes 8) 8 items buf₀ pos buf at i

@@ -5,13 +5,13 @@ use borrow.Author.Needs.{needs}
 use lib.ListN.{length}
 use lib.Ieee.{binary32, toBits}
 use Rattle.layout.specs.Field.{lowBytes}
-use Rattle.emit.proofs.Low.{low-fits}
+use Rattle.low_bytes.proofs.Low.{low-fits}
 use Rattle.elements.proofs.Room.{Roomy, roomy-start, roomy-here, roomy-next, roomy-end}
 use Rattle.floats.proofs.put_four_floats.Statement.{statement}
 use Rattle.floats.proofs.put_four_floats.Tie as tie
 use Rattle.floats.proofs.put_four_floats.Reads as reads
 use Rattle.floats.proofs.put_four_floats.Lts as lts
-use Rattle.emit.proofs.put_four.Reads as put-four-reads
+use Rattle.low_bytes.proofs.put_four.Reads as put-four-reads
 use Rattle.event.proofs.fp32_bits.Reads as fp32-bits-reads
 
 abbrev Inv-loop : tie.InvT-loop

@@ -5,13 +5,13 @@ use native.Mathlib.Omega.{arith}
 use borrow.Author.Needs.{needs}
 use lib.ListN.{length}
 use Rattle.layout.specs.Field.{lowBytes}
-use Rattle.emit.proofs.Low.{low-fits}
+use Rattle.low_bytes.proofs.Low.{low-fits}
 use Rattle.elements.proofs.Room.{Roomy, roomy-start, roomy-here, roomy-next, roomy-end}
 use Rattle.floats.proofs.put_fours.Statement.{statement}
 use Rattle.floats.proofs.put_fours.Tie as tie
 use Rattle.floats.proofs.put_fours.Reads as reads
 use Rattle.floats.proofs.put_fours.Lts as lts
-use Rattle.emit.proofs.put_four.Reads as put-four-reads
+use Rattle.low_bytes.proofs.put_four.Reads as put-four-reads
 
 abbrev Inv-loop : tie.InvT-loop
 Inv-loop buf₀ pos items at₀ i₀ buf at i = Roomy (lowBytes 4) 4 items buf₀ pos buf at i

@@ -3,7 +3,7 @@ use mathlib.Core.Path.{refl}
 use native.Mathlib.Omega.{arith}
 use lib.ListN.{length, drop}
 use Rattle.output.specs.Output.{outputBytes}
-use Rattle.emit.proofs.Writes.{reached-is}
+use Rattle.putting.proofs.Writes.{reached-is}
 use Rattle.turns.proofs.Tests.{event-full, event-fits}
 use borrow.Author.Needs.{needs}
 use Rattle.turns.proofs.written.Statement.{statement}

@@ -1,7 +1,7 @@
 -- `whole::field_at` meets its contract: a header, and what follows one of its type.
 use mathlib.Core.Path.{ap, _∙_}
 use Rattle.whole.specs.Whole.{deepened}
-use Rattle.whole.proofs.Ends.{reaches-inside}
+use Rattle.passing.proofs.Ends.{reaches-inside}
 use Rattle.whole.proofs.Fields.{field-then, field-else}
 use borrow.Author.Needs.{needs}
 use Rattle.whole.proofs.field_at.Statement.{statement}

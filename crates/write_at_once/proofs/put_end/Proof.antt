@@ -5,7 +5,7 @@ use mathlib.Core.Bool.{_&&_}
 use lib.ListN.{length}
 use lib.Dec.{ltb}
 use borrow.Author.Tests.{le-ltb, lt-ltb, not-true, not-false}
-use Rattle.emit.proofs.Writes.{put-one, reached-one}
+use Rattle.putting.proofs.Writes.{put-one, reached-one}
 use Rattle.held.specs.Places.{clean}
 use Rattle.write_at_once.proofs.AtOnce.{no-first, no-second, yes-both, made, unmade}
 use borrow.Author.Needs.{needs}

@@ -1,7 +1,7 @@
 -- `copier::Copier::carry`: what is owed fits or fills the buffer.
 use native.Mathlib.Omega.{arith}
 use lib.ListN.{drop, length-drop}
-use Rattle.emit.proofs.Writes.{reached-is}
+use Rattle.putting.proofs.Writes.{reached-is}
 use Rattle.output.specs.Output.{outputBytes}
 use Rattle.copier.proofs.Calls.{ready-within, ends-within, carry-full, carry-runs}
 use borrow.Author.Needs.{needs}

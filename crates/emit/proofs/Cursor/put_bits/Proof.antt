@@ -3,13 +3,13 @@ use mathlib.Core.Path.{refl}
 use native.Mathlib.Omega.{arith}
 use borrow.Author.Needs.{needs}
 use Rattle.layout.specs.Field.{lowBytes}
-use Rattle.emit.proofs.Low.{length-low}
+use Rattle.low_bytes.proofs.Low.{length-low}
 use Rattle.emit.proofs.Segments.{some-left, none-left}
 use Rattle.emit.proofs.Cursor.put_bits.Statement.{statement}
 use Rattle.emit.proofs.Cursor.put_bits.Tie as tie
 use Rattle.emit.proofs.Cursor.put_bits.Reads as reads
 use Rattle.emit.proofs.Cursor.put_bits.Lts as lts
-use Rattle.emit.proofs.put_part.Reads as put-part-reads
+use Rattle.low_bytes.proofs.put_part.Reads as put-part-reads
 
 returns : tie.Need-returns
 returns c =

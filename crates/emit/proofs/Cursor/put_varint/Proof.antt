@@ -13,7 +13,7 @@ use Rattle.emit.proofs.Cursor.put_varint.Statement.{statement}
 use Rattle.emit.proofs.Cursor.put_varint.Tie as tie
 use Rattle.emit.proofs.Cursor.put_varint.Reads as reads
 use Rattle.emit.proofs.Cursor.put_varint.Lts as lts
-use Rattle.emit.proofs.put_whole.Reads as put-whole-reads
+use Rattle.varint_bytes.proofs.put_whole.Reads as put-whole-reads
 use Rattle.varint.proofs.varint_len.Reads as varint-len-reads
 
 returns : tie.Need-returns

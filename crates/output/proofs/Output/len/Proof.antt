@@ -8,7 +8,7 @@ use lib.ListN.{length, length-append}
 use Rattle.layout.specs.Limits.{base}
 use Rattle.layout.specs.Varint.{shortest}
 use Rattle.varint.proofs.Shortest.{length-longest}
-use Rattle.emit.proofs.Low.{length-low}
+use Rattle.low_bytes.proofs.Low.{length-low}
 use Rattle.output.specs.declared.Output.{Output}
 use Rattle.output.specs.Output.{outputBytes}
 use borrow.Author.Needs.{needs}

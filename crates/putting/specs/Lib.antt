@@ -1,0 +1,2 @@
+-- What writing to a lent buffer leaves there.
+pub mod Put

@@ -19,7 +19,7 @@ use Rattle.answers.specs.Outcome.{reaches}
 use Rattle.answers.proofs.Checks.{passed, check-sound}
 use Rattle.held.specs.Headers.{headersOf, bufferAfter}
 use Rattle.held.proofs.Ends.{Ended}
-use Rattle.write_slowly.specs.CallEnd.{CallEnd, wentBy, goesBy, fieldFrom}
+use Rattle.write_slowly.specs.Went.{Went, wentBy, goesBy, fieldFrom}
 use Rattle.ostream.specs.declared.OStream.{OStream}
 use Rattle.ostream.specs.declared.Answer.the-variants as Answers
 use Rattle.ostream.specs.declared.Written.{Written}
@@ -156,7 +156,7 @@ module _ (s : OStream) (b : List ℕ) (id : ℕ) (more : List Test) (bytes : Lis
     where
       go : (v : Judgement) → judged (unsound s (length b) ∷ idTooLarge id ∷ more) ≡ v → wentBy out b′ ≡ goesBy v (s .offset) b (headersOf (s .npending) (s .pending) ++ bytes) place → Clears s out
       go accepted j w = few-clears s (is-sound s (length b) (check-sound (soundStream s (length b)) (idTooLarge id ∷ more) j) .few) out
-      go (refusedWith e) j w = subst (Clears s) (sym (ap (λ (g : CallEnd). g .outcome) w)) tt
+      go (refusedWith e) j w = subst (Clears s) (sym (ap (λ (g : Went). g .outcome) w)) tt
 
   -- what it came to is what the call says and leaves
   pub goes : (k : Call) (r : Written) → judged (unsound s (length b) ∷ idTooLarge id ∷ more) ≡ judged (k .tests) → heldBytes s ++ bytes ≡ k .output → committed s (s .depth) ≡ k .done → r ≡ settled s (length b) (committed s (s .depth)) out
@@ -169,11 +169,11 @@ module _ (s : OStream) (b : List ℕ) (id : ℕ) (more : List Test) (bytes : Lis
     where
       go : (v : Judgement) → wentBy out b′ ≡ goesBy v (s .offset) b (headersOf (s .npending) (s .pending) ++ bytes) place → resultOf (settled s (length b) (committed s (s .depth)) out) b′ ≡ writtenBy v k s b place
       go accepted w =
-          settled-emitted s b (heldBytes s ++ bytes) place (committed s (s .depth)) out b′ (ap (λ (g : CallEnd). g .outcome) w, ap (λ (g : CallEnd). g .buf) w)
+          settled-emitted s b (heldBytes s ++ bytes) place (committed s (s .depth)) out b′ (ap (λ (g : Went). g .outcome) w, ap (λ (g : Went). g .buf) w)
           ∙ ap (λ (l : List ℕ). emitted s b l place (committed s (s .depth))) o ∙ ap (λ (next : OStream). emitted s b (k .output) place next) d
       go (refusedWith e) w =
-          ap (λ (x : Outcome). resultOf (settled s (length b) (committed s (s .depth)) x) b′) (ap (λ (g : CallEnd). g .outcome) w)
-          ∙ ap (resultOf (refused s e)) (ap (λ (g : CallEnd). g .buf) w)
+          ap (λ (x : Outcome). resultOf (settled s (length b) (committed s (s .depth)) x) b′) (ap (λ (g : Went). g .outcome) w)
+          ∙ ap (resultOf (refused s e)) (ap (λ (g : Went). g .buf) w)
 
 -- two calls that come to the same
 pub recalled : (k k′ : Call) (s : OStream) (b : List ℕ) (place : ℕ) → judged (k .tests) ≡ judged (k′ .tests) → k .output ≡ k′ .output → k .done ≡ k′ .done → written k s b place ≡ written k′ s b place

@@ -16,7 +16,7 @@ use Rattle.copying.proofs.OneEvent.{after-after}
 use Rattle.turns.specs.declared.Stop.{Stop}
 use Rattle.turns.specs.declared.Turn.{Turn}
 use Rattle.turns.specs.declared.Turn.the-variants as turns
-use Rattle.turns.specs.Turns.{standing, CallEnd, Turned, Ran, later}
+use Rattle.turns.specs.Turns.{standing, Went, Turned, Ran, later}
 use Rattle.turns.proofs.Turns.{ended-later}
 
 -- n bytes of the chunk are used, and the call goes on from the reader s at pos over b
@@ -35,7 +35,7 @@ going-start s pos c b t l h =
     record { used = omega arith; within = h; size = refl; sound = t; live = l; same = ap (λ (x : ℕ). record { used = x; answer = r .answer; copy = r .copy; buf = r .buf }) z }
 
 module _ (s₀ : IStream) (pos₀ : ℕ) (c b₀ b : List ℕ) (s : IStream) (pos n : ℕ) (g : Going s₀ pos₀ c b₀ b s pos n) where
-  pub going-next : (s′ : IStream) (m pos′ : ℕ) (b′ : List ℕ) → CallEnd s pos (drop n c) b s′ m pos′ b′ → Going s₀ pos₀ c b₀ b′ s′ pos′ (n + m)
+  pub going-next : (s′ : IStream) (m pos′ : ℕ) (b′ : List ℕ) → Went s pos (drop n c) b s′ m pos′ b′ → Going s₀ pos₀ c b₀ b′ s′ pos′ (n + m)
   going-next s′ m pos′ b′ w =
       let l = length-drop n c in
       let k = w .few in
@@ -53,7 +53,7 @@ module _ (s₀ : IStream) (pos₀ : ℕ) (c b₀ b : List ℕ) (s : IStream) (po
             ∙ ap (λ (x : List ℕ). after (n + m) (copy base (standing s′ pos′) x b′)) (drop-drop m n c);
       }
 
-  pub going-less : (s′ : IStream) (m pos′ : ℕ) (b′ : List ℕ) → CallEnd s pos (drop n c) b s′ m pos′ b′ → 2 * (length c - (n + m)) + weight (stateOf s′) < 2 * (length c - n) + weight (stateOf s)
+  pub going-less : (s′ : IStream) (m pos′ : ℕ) (b′ : List ℕ) → Went s pos (drop n c) b s′ m pos′ b′ → 2 * (length c - (n + m)) + weight (stateOf s′) < 2 * (length c - n) + weight (stateOf s)
   going-less s′ m pos′ b′ w = let l = length-drop n c in let k = w .nearer in omega arith
 
   pub going-stop : (t : Stop) (b′ : List ℕ) → Turned s pos (drop n c) b (turns.Stop t) b′ → Ran s₀ pos₀ c b₀ (later n t) b′

@@ -41,7 +41,7 @@ use Rattle.turns.specs.declared.Stop.{Stop}
 use Rattle.turns.specs.declared.Turn.the-variants as turns
 use Rattle.turns.specs.declared.Answer.the-variants.{Full, Status}
 use Rattle.turns.specs.Said.{Said}
-use Rattle.turns.specs.Turns.{standing, endedIn, CallEnd, Turned, pastPiece, cutOff, pause, InPayload, later}
+use Rattle.turns.specs.Turns.{standing, endedIn, Went, Turned, pastPiece, cutOff, pause, InPayload, later}
 use Rattle.turns.proofs.Events.{fair}
 use Rattle.turns.proofs.Turns.{goes-out, ended-later}
 
@@ -106,7 +106,7 @@ module _ (d id : ℕ) (r : RawType) (total o pos : ℕ) (b : List ℕ) (h : pos 
     unfolding part
     part-is k n p q = let l = length-take (suc m) (x ∷ xs) in omega arith
 
-    some-go : CallEnd at pos (x ∷ xs) b (streamIn next) part (reached b pos (take part (x ∷ xs))) (put b pos (take part (x ∷ xs)))
+    some-go : Went at pos (x ∷ xs) b (streamIn next) part (reached b pos (take part (x ∷ xs))) (put b pos (take part (x ∷ xs)))
     unfolding heard depthBy eventBytes
     some-go =
         let c = x ∷ xs in
@@ -120,7 +120,7 @@ module _ (d id : ℕ) (r : RawType) (total o pos : ℕ) (b : List ℕ) (h : pos 
         let z : 0 + part ≡ part = omega arith in
         let w : take part (take (suc m) c) ≡ take (0 + part) c = take-take part (suc m) c p ∙ ap (λ (n : ℕ). take n c) (sym z) in
         let v = goes-out at pos c b h (0 + part) ev next (take (0 + part) c) w (fits c p z) q (hd .few) (hd .closes) refl tt sound-next in
-        subst (λ (n : ℕ). CallEnd at pos c b (streamIn next) n (reached b pos (take n c)) (put b pos (take n c))) z v
+        subst (λ (n : ℕ). Went at pos c b (streamIn next) n (reached b pos (take n c)) (put b pos (take n c))) z v
       where
         short : (c : List ℕ) → length (take (suc m) c) ≤ suc m
         short c = omega (arith, length-take (suc m) c)
@@ -155,7 +155,7 @@ piece-small s id r total o (t, u) =
 
 -- some bytes go out
 piece-goes : (s : IStream) (id : ℕ) (r : RawType) (total o pos : ℕ) (c b : List ℕ) → pos ≤ length b → InPayload s id r total o → (k n : ℕ) → k ≡ min (length c) (length b - pos) → n ≡ min k (total - o) → 0 < n
-    → (p : code.Phase) → p ≡ pastPiece id r total o n → CallEnd s pos c b (record { phase = p; carried = s .carried }) n (reached b pos (take n c)) (put b pos (take n c))
+    → (p : code.Phase) → p ≡ pastPiece id r total o n → Went s pos c b (record { phase = p; carried = s .carried }) n (reached b pos (take n c)) (put b pos (take n c))
 piece-goes s id r total o pos [] b h p k m w f i q g = absurd (omega arith)
 piece-goes s id r total o pos (x ∷ xs) b h (t, u) k m w f i q g = go (length b - pos) refl
   where
@@ -163,7 +163,7 @@ piece-goes s id r total o pos (x ∷ xs) b h (t, u) k m w f i q g = go (length b
     same = is-payload s id r total o u
 
     Goes : IStream → code.Phase → ℕ → Type 0
-    Goes y v j = CallEnd y pos (x ∷ xs) b (record { phase = v; carried = s .carried }) j (reached b pos (take j (x ∷ xs))) (put b pos (take j (x ∷ xs)))
+    Goes y v j = Went y pos (x ∷ xs) b (record { phase = v; carried = s .carried }) j (reached b pos (take j (x ∷ xs))) (put b pos (take j (x ∷ xs)))
 
     go : (j : ℕ) → length b - pos ≡ j → Goes s q m
     go zero e = absurd (omega arith)
@@ -184,9 +184,9 @@ rests s id r total o pos (x ∷ xs) b h p f =
     (piece-full s id r total o pos x xs b h p (f (omega arith)))
 
 -- a turn, and a stop at the next: one stop
-call-end-stops : (s : IStream) (pos : ℕ) (c b : List ℕ) (s′ : IStream) (n pos′ : ℕ) (b′ : List ℕ) (t : Stop) (b″ : List ℕ) → CallEnd s pos c b s′ n pos′ b′ → Turned s′ pos′ (drop n c) b′ (turns.Stop t) b″
+went-stops : (s : IStream) (pos : ℕ) (c b : List ℕ) (s′ : IStream) (n pos′ : ℕ) (b′ : List ℕ) (t : Stop) (b″ : List ℕ) → Went s pos c b s′ n pos′ b′ → Turned s′ pos′ (drop n c) b′ (turns.Stop t) b″
     → Turned s pos c b (turns.Stop (later n t)) b″
-call-end-stops s pos c b s′ n pos′ b′ t b″ w (q, u, v) =
+went-stops s pos c b s′ n pos′ b′ t b″ w (q, u, v) =
     let l = length-drop n c in
     let k = w .few in
     (ended-later n _ _ t b″ (w .same) q, omega arith, v ∙ w .size)
@@ -247,13 +247,13 @@ same-cut n lc d e = go (ltb n lc) refl
 module _ (s : IStream) (id : ℕ) (r : RawType) (total o pos : ℕ) (c b : List ℕ) (h : pos ≤ length b) (p : InPayload s id r total o) (k n : ℕ)
     (e : k ≡ min (length c) (length b - pos)) (f : n ≡ min k (total - o)) (end : ℕ) (b′ : List ℕ) (g : (end ≡ reached b pos (drop 0 (take n c))) × (b′ ≡ put b pos (drop 0 (take n c))))
   where
-    went : (q : code.Phase) → q ≡ pastPiece id r total o n → 0 < n → CallEnd s pos c b (record { phase = q; carried = s .carried }) n end b′
+    went : (q : code.Phase) → q ≡ pastPiece id r total o n → 0 < n → Went s pos c b (record { phase = q; carried = s .carried }) n end b′
     went q i z =
-        subst (λ (m : ℕ). CallEnd s pos c b (record { phase = q; carried = s .carried }) n m b′) (sym (g .0))
-        (subst (λ (x : List ℕ). CallEnd s pos c b (record { phase = q; carried = s .carried }) n (reached b pos (take n c)) x) (sym (g .1)) (piece-goes s id r total o pos c b h p k n e f z q i))
+        subst (λ (m : ℕ). Went s pos c b (record { phase = q; carried = s .carried }) n m b′) (sym (g .0))
+        (subst (λ (x : List ℕ). Went s pos c b (record { phase = q; carried = s .carried }) n (reached b pos (take n c)) x) (sym (g .1)) (piece-goes s id r total o pos c b h p k n e f z q i))
 
     -- it is at its end,
-    pub piece-ends : total ≤ o + n → (q : code.Phase) → q ≡ phaseIn idle → CallEnd s pos c b (record { phase = q; carried = s .carried }) n end b′
+    pub piece-ends : total ≤ o + n → (q : code.Phase) → q ≡ phaseIn idle → Went s pos c b (record { phase = q; carried = s .carried }) n end b′
     piece-ends l q i = let m = piece-small s id r total o p .0 in went q (past-end id r total o n q i l) (omega arith)
 
     -- or it goes on
@@ -285,7 +285,7 @@ module _ (s : IStream) (id : ℕ) (r : RawType) (total o pos : ℕ) (c b : List 
           ap (λ (m : ℕ). m - end) (w .size)
           ∙ spent-room (length b) pos end n (length (take n c)) (length c) h (no-more (length b - pos) (length c) k n (total - o) e f (beyond o n total l) u) (lt-le n (length c) u) (length-take n c) (g .0 ∙ reached-is b pos (take n c)) in
           let t = rests onward id r total (o + n) end (drop n c) b′ (at-most (length b) (length b′) end (w .size) (w .within)) (w .sound, refl) (λ u. full (more-left (length (drop n c)) (length c) n (length-drop n c) u)) in
-          let q = call-end-stops s pos c b onward n end b′ (pause (s .carried .depth) 0 (cutOff 0 (length (drop n c))) onward end) b′ w t in
+          let q = went-stops s pos c b onward n end b′ (pause (s .carried .depth) 0 (cutOff 0 (length (drop n c))) onward end) b′ w t in
           let j : n + 0 ≡ n = omega arith in
           subst Stopped j
           (subst (λ (x : Bool). Turned s pos c b (turns.Stop (pause (s .carried .depth) (n + 0) (pick x Full (Status Incomplete)) onward end)) b′) (same-cut n (length c) (length (drop n c)) (length-drop n c)) q)

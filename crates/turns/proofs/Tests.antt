@@ -31,7 +31,7 @@ use Rattle.turns.specs.declared.Answer.{Answer}
 use Rattle.turns.specs.declared.Answer.the-variants.{Full, Status, Refused}
 use Rattle.turns.specs.declared.Turn.{Turn}
 use Rattle.turns.specs.declared.Turn.the-variants as turns
-use Rattle.turns.specs.Turns.{pause, fullStop, eventTurn, eventBuf, turnBy, bufBy, heardTurn, heardBuf, CallEnd, Turned}
+use Rattle.turns.specs.Turns.{pause, fullStop, eventTurn, eventBuf, turnBy, bufBy, heardTurn, heardBuf, Went, Turned}
 
 -- a phase in which no element is due
 pub none-due : (s : IStream) → OneOf (0 ∷ 3 ∷ 4 ∷ 5 ∷ 6 ∷ 7 ∷ 9 ∷ 10 ∷ 11 ∷ []) (tagOf readers.the-type (s .phase)) → 0 ≡ dueIn (stateOf s)
@@ -107,7 +107,7 @@ pub turned-stop : (s : IStream) (pos : ℕ) (c b : List ℕ) (t : Turn) (d n : �
     → Turned s pos c b (turns.Stop (pause d n a′ s′ end)) b′ → Turned s pos c b t b′
 turned-stop s pos c b t d n a a′ s′ end b′ e i h = subst (λ (x : Turn). Turned s pos c b x b′) (sym (e ∙ ap (λ (x : Answer). turns.Stop (pause d n x s′ end)) i)) h
 
-pub call-end-is : (s : IStream) (pos : ℕ) (c b : List ℕ) (s′ : IStream) (n end : ℕ) (b′ : List ℕ) (l : List ℕ) → CallEnd s pos c b s′ n (reached b pos l) (put b pos l)
-    → (end ≡ reached b pos (drop 0 l)) × (b′ ≡ put b pos (drop 0 l)) → CallEnd s pos c b s′ n end b′
-call-end-is s pos c b s′ n end b′ l w (p, q) =
-    subst (λ (m : ℕ). CallEnd s pos c b s′ n m b′) (sym p) (subst (λ (y : List ℕ). CallEnd s pos c b s′ n (reached b pos l) y) (sym q) w)
+pub went-is : (s : IStream) (pos : ℕ) (c b : List ℕ) (s′ : IStream) (n end : ℕ) (b′ : List ℕ) (l : List ℕ) → Went s pos c b s′ n (reached b pos l) (put b pos l)
+    → (end ≡ reached b pos (drop 0 l)) × (b′ ≡ put b pos (drop 0 l)) → Went s pos c b s′ n end b′
+went-is s pos c b s′ n end b′ l w (p, q) =
+    subst (λ (m : ℕ). Went s pos c b s′ n m b′) (sym p) (subst (λ (y : List ℕ). Went s pos c b s′ n (reached b pos l) y) (sym q) w)

@@ -46,7 +46,7 @@ use Rattle.turns.specs.declared.Stop.{Stop}
 use Rattle.turns.specs.declared.Turn.the-variants as turns
 use Rattle.turns.specs.declared.Answer.the-variants.{Status}
 use Rattle.turns.specs.Said.{Said, saidOf}
-use Rattle.turns.specs.Turns.{standing, Ended, endedIn, fullStop, eventTurn, eventBuf, heardTurn, heardBuf, Stops, CallEnd, Turned, later}
+use Rattle.turns.specs.Turns.{standing, Ended, endedIn, fullStop, eventTurn, eventBuf, heardTurn, heardBuf, Stops, Went, Turned, later}
 use Rattle.turns.proofs.Events.{AtEvent, Bytes, Steady, call-level, fair}
 use Rattle.shortest.proofs.Spans.{all-bytes}
 
@@ -124,7 +124,7 @@ module _ (s : IStream) (pos : ℕ) (c b : List ℕ) (h : pos ≤ length b) where
 
   pub goes-out : (n : ℕ) (e : Event) (st : State) (out : List ℕ) → eventBytes (dueIn (stateOf s)) e ≡ out → length out ≤ length b - pos → Gives n e st → n ≤ length c
       → Closes (event e) (stateOf s) st n (length c) → depthBy (s .carried .depth) e ≡ streamIn st .carried .depth → Live st → SoundState base st
-      → CallEnd s pos c b (streamIn st) n (reached b pos out) (put b pos out)
+      → Went s pos c b (streamIn st) n (reached b pos out) (put b pos out)
   goes-out n e st out z f q few cl dp lv ss =
       let k = gone (standing s pos) st (owes (dueIn (stateOf s)) e 0) in
       let y : rest (owes (dueIn (stateOf s)) e 0) ≡ out = rest-is (dueIn (stateOf s)) e ∙ z in
@@ -211,7 +211,7 @@ module _ (s : IStream) (pos : ℕ) (c b : List ℕ) (h : pos ≤ length b) where
 
 -- what stands in its shortest form goes as it came
 pub ahead-went : (s : IStream) (pos m : ℕ) (c b : List ℕ) (n : ℕ) (s′ : IStream) → pos ≤ length b → m ≡ min (length c) (length b - pos) → Ahead s (take m c) n s′ → 0 < n
-    → CallEnd s pos c b s′ n (reached b pos (take n c)) (put b pos (take n c))
+    → Went s pos c b s′ n (reached b pos (take n c)) (put b pos (take n c))
 ahead-went s pos m c b n s′ h e a z =
     let f : n ≤ length (take m c) = a .few in
     let t : length (take m c) ≡ min m (length c) = length-take m c in

@@ -129,7 +129,7 @@ cutOff n len = pick (ltb n len) Full (Status Incomplete)
 -- ---- a turn
 
 -- what was read is out, with n bytes of the chunk: the call goes on from there, nearer to its end
-pub record CallEnd (s : IStream) (pos : ℕ) (c b : List ℕ) (s′ : IStream) (n pos′ : ℕ) (b′ : List ℕ) : Type 0 where
+pub record Went (s : IStream) (pos : ℕ) (c b : List ℕ) (s′ : IStream) (n pos′ : ℕ) (b′ : List ℕ) : Type 0 where
   pub same : copy base (standing s pos) c b ≡ after n (copy base (standing s′ pos′) (drop n c) b′)
   pub few : n ≤ length c
   pub nearer : 2 * (length c - n) + weight (stateOf s′) < 2 * length c + weight (stateOf s)
@@ -139,7 +139,7 @@ pub record CallEnd (s : IStream) (pos : ℕ) (c b : List ℕ) (s′ : IStream) (
   pub within : pos′ ≤ length b
 
 abbrev pub Turned : IStream → ℕ → List ℕ → List ℕ → Turn → List ℕ → Type 0
-Turned s pos c b (turns.On s′ n pos′) b′ = CallEnd s pos c b s′ n pos′ b′
+Turned s pos c b (turns.On s′ n pos′) b′ = Went s pos c b s′ n pos′ b′
 Turned s pos c b (turns.Stop t) b′ = Stops (copy base (standing s pos) c b) t b′ × (t .used ≤ length c) × (length b′ ≡ length b)
 
 -- the loop

@@ -1,2 +1,2 @@
--- `CallEnd` has the laws of a field that is refused, and of one that goes out.
-pub mod CallEnd
+-- `Went` has the laws of a field that is refused, and of one that goes out.
+pub mod Went

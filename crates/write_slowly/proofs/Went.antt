@@ -17,7 +17,7 @@ use Rattle.held.specs.Places.{lazyDepth, soundFor}
 use Rattle.held.specs.Headers.{headersOf}
 use Rattle.held.proofs.Places.{both}
 use Rattle.held.proofs.Ends.{Ended}
-use Rattle.write_slowly.specs.CallEnd.{wentBy, goesBy, judgementOf, fieldFrom}
+use Rattle.write_slowly.specs.Went.{wentBy, goesBy, judgementOf, fieldFrom}
 
 -- a sound state, as far as a field goes by it
 pub sound-knows : (pos depth held : ℕ) (places : List ℕ) (size : ℕ) → soundFor pos depth held places size ≡ true → (held ≤ lazyDepth) × (pos ≤ size)

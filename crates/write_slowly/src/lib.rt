@@ -30,7 +30,7 @@ ghost use Rattle.layout.specs.Copy.{fieldBytes};
 ghost use Rattle.types.specs.Types.{subtype};
 ghost use Rattle.answers.specs.Check.{checkOf};
 ghost use Rattle.refusals.specs.Tests.{payloadTooLong, arrayTooLong};
-ghost use Rattle.write_slowly.specs.CallEnd.{wentBy, fixlenBytes, judgementOf, fieldFrom};
+ghost use Rattle.write_slowly.specs.Went.{wentBy, fixlenBytes, judgementOf, fieldFrom};
 
 // The refusals of a field with a payload, in order: the state, the id, the length.
 fn check_payload(

@@ -5,7 +5,7 @@ use mathlib.Core.List.{[], _∷_}
 use Rattle.refusals.specs.Judged.{judged}
 use Rattle.answers.specs.Check.{checkOf}
 use Rattle.refusals.specs.Tests.{arrayTooLong}
-use Rattle.write_slowly.specs.CallEnd.{tests}
+use Rattle.write_slowly.specs.Went.{tests}
 use borrow.Author.Needs.{needs}
 use Rattle.write_slowly.proofs.check_array.Statement.{statement}
 use Rattle.write_slowly.proofs.check_array.Tie as tie

@@ -9,8 +9,8 @@ use Rattle.layout.specs.Varint.{shortest}
 use Rattle.types.specs.Types.{subtype}
 use Rattle.held.specs.Headers.{headersOf}
 use Rattle.refusals.specs.Tests.{payloadTooLong}
-use Rattle.write_slowly.specs.CallEnd.{fixlenBytes}
-use Rattle.write_slowly.proofs.CallEnd.{sized-goes, refuses, goes}
+use Rattle.write_slowly.specs.Went.{fixlenBytes}
+use Rattle.write_slowly.proofs.Went.{sized-goes, refuses, goes}
 use borrow.Author.Needs.{needs}
 use Rattle.write_slowly.proofs.fixlen_field.Statement.{statement}
 use Rattle.write_slowly.proofs.fixlen_field.Tie as tie

@@ -6,7 +6,7 @@ use Rattle.layout.specs.Limits.{base}
 use Rattle.layout.specs.Field.{fp64, floatArray}
 use Rattle.layout.specs.Copy.{fieldBytes}
 use Rattle.refusals.specs.Tests.{arrayTooLong}
-use Rattle.write_slowly.proofs.CallEnd.{sized-goes, refuses, goes}
+use Rattle.write_slowly.proofs.Went.{sized-goes, refuses, goes}
 use borrow.Author.Needs.{needs}
 use Rattle.write_slowly.proofs.fp64_bits_array.Statement.{statement}
 use Rattle.write_slowly.proofs.fp64_bits_array.Tie as tie

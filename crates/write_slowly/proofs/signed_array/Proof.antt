@@ -6,7 +6,7 @@ use Rattle.layout.specs.Limits.{base}
 use Rattle.layout.specs.Field.{signedArray}
 use Rattle.layout.specs.Copy.{fieldBytes}
 use Rattle.refusals.specs.Tests.{arrayTooLong}
-use Rattle.write_slowly.proofs.CallEnd.{sized-goes, refuses, goes}
+use Rattle.write_slowly.proofs.Went.{sized-goes, refuses, goes}
 use borrow.Author.Needs.{needs}
 use Rattle.write_slowly.proofs.signed_array.Statement.{statement}
 use Rattle.write_slowly.proofs.signed_array.Tie as tie

@@ -8,8 +8,8 @@ use Rattle.layout.specs.Varint.{shortest}
 use Rattle.refusals.specs.Judged.{judged}
 use Rattle.answers.specs.Check.{checkOf}
 use Rattle.held.specs.Headers.{headersOf}
-use Rattle.write_slowly.specs.CallEnd.{tests, judgementOf}
-use Rattle.write_slowly.proofs.CallEnd.{may-go, refuses, goes}
+use Rattle.write_slowly.specs.Went.{tests, judgementOf}
+use Rattle.write_slowly.proofs.Went.{may-go, refuses, goes}
 use borrow.Author.Needs.{needs}
 use Rattle.write_slowly.proofs.varint_field.Statement.{statement}
 use Rattle.write_slowly.proofs.varint_field.Tie as tie

@@ -14,6 +14,12 @@ number complete = pos 0
 number incomplete = pos 1
 number (brokenAt n) = negsuc 1
 
+-- what a call that asks for more than the verdict answers of a message that isn't complete; 0 of one that is
+unfoldable pub refused : Verdict → ℤ
+refused complete = pos 0
+refused incomplete = negsuc 99
+refused (brokenAt n) = negsuc 1
+
 -- ---- the copy
 
 -- what the call answers, and the output as it leaves it

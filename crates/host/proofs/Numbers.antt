@@ -1,46 +1,29 @@
--- The numbers of a verdict as the reader answers it.
+-- What the copy's call answers of a message that isn't complete, by its number below 0; where that isn't below 0, the message is complete.
 use Prim.Native.Nat.{ℕ}
 use native.Mathlib.Omega.{arith}
-use mathlib.Core.Path.{_≡_, refl, sym, ap, _∙_}
+use mathlib.Core.Path.{_≡_, refl, sym, ap}
 use mathlib.Core.List.{List}
 use lib.IntN.{ℤ, pos, negsuc}
-use Rattle.layout.specs.Message as layout
-use Rattle.whole.specs.declared.Verdict.{Verdict}
-use Rattle.whole.specs.declared.Verdict.the-variants.{Complete, Incomplete, Broken}
-use Rattle.whole.specs.Whole.{verdictIn}
-use Rattle.exports.specs.Exports.{number, Copied, resultOf, filled, copied}
+use Rattle.layout.specs.Message.{Verdict, complete, incomplete, brokenAt}
+use Rattle.exports.specs.Exports.{refused, resultOf, filled, copied}
 
-abbrev code : Verdict → ℤ
-code Complete = pos 0
-code Incomplete = pos 1
-code (Broken n) = negsuc 1
+-- an integer's sign as a number, to tell the two apart
+abbrev below : ℤ → ℕ
+below (pos n) = 0
+below (negsuc n) = 1
 
-alike : (v : layout.Verdict) → code (verdictIn v) ≡ number v
-unfolding number
-alike layout.complete = refl
-alike layout.incomplete = refl
-alike (layout.brokenAt n) = refl
+pub is-complete : (v : Verdict) (n : ℕ) → refused v ≡ pos n → v ≡ complete
+unfolding refused
+is-complete complete n e = refl
+is-complete incomplete n e = let z = ap below e in absurd (omega arith)
+is-complete (brokenAt k) n e = let z = ap below e in absurd (omega arith)
 
-pub numbered : (v : layout.Verdict) (r w : Verdict) → r ≡ verdictIn v → r ≡ w → code w ≡ number v
-numbered v r w e g = ap code (sym g ∙ e) ∙ alike v
+pub not-copied : (v : Verdict) (n : ℕ) (m out : List ℕ) → refused v ≡ negsuc n → resultOf (refused v) out ≡ copied v m out
+unfolding refused copied
+not-copied complete n m out e = let z = ap below e in absurd (omega arith)
+not-copied incomplete n m out e = refl
+not-copied (brokenAt k) n m out e = refl
 
--- ---- the copy
-
-abbrev result : Verdict → List ℕ → List ℕ → Copied
-result Complete m out = filled m out
-result Incomplete m out = resultOf (negsuc 99) out
-result (Broken n) m out = resultOf (negsuc 1) out
-
-result-alike : (v : layout.Verdict) (m out : List ℕ) → result (verdictIn v) m out ≡ copied v m out
+pub as-complete : (v : Verdict) (m out : List ℕ) → v ≡ complete → filled m out ≡ copied v m out
 unfolding copied
-result-alike layout.complete m out = refl
-result-alike layout.incomplete m out = refl
-result-alike (layout.brokenAt n) m out = refl
-
-pub copies : (v : layout.Verdict) (r w : Verdict) (m out : List ℕ) → r ≡ verdictIn v → r ≡ w → result w m out ≡ copied v m out
-copies v r w m out e g = ap (λ (x : Verdict). result x m out) (sym g ∙ e) ∙ result-alike v m out
-
-pub is-complete : (v : layout.Verdict) (r : Verdict) → r ≡ verdictIn v → r ≡ Complete → v ≡ layout.complete
-is-complete layout.complete r e g = refl
-is-complete layout.incomplete r e g = let z : _≡_ {A = ℕ} 0 1 = cc in absurd (omega arith)
-is-complete (layout.brokenAt n) r e g = let z : _≡_ {A = ℕ} 0 1 = cc in absurd (omega arith)
+as-complete v m out e = ap (λ (x : Verdict). copied x m out) (sym e)

@@ -7,18 +7,12 @@ ghost use Rattle.layout.specs.Copy.{plainCopy};
 ghost use Rattle.exports.specs.Exports.{number, resultOf, filled, copied};
 use copier::Answer;
 use copier::Copier;
-use whole::Verdict;
 
 #[no_mangle]
 pub extern "C" fn sofab_verdict(ticket: &[u8]) -> i64
     ensures { λ r. ⌜ r ≡ number (verdictOf base (now (ticket .entry))) ⌝ }
 {
-    let v = whole::verdict_of(ticket);
-    match v {
-        Verdict::Complete => 0,
-        Verdict::Incomplete => 1,
-        Verdict::Broken(_) => -2,
-    }
+    codes::number(whole::verdict_of(ticket))
 }
 
 // The copy of a complete message: one call of a fresh copier, the output being its buffer. Where the output has no byte the opening is
@@ -66,10 +60,9 @@ pub extern "C" fn sofab_copy(ticket: &[u8], out: &mut [u8]) -> i64
     if is_own(ticket) {
         return block(ticket, out);
     }
-    let v = whole::verdict_of(ticket);
-    match v {
-        Verdict::Complete => copy(ticket, out),
-        Verdict::Incomplete => -100,
-        Verdict::Broken(_) => -2,
+    let n = codes::refusal(whole::verdict_of(ticket));
+    if n < 0 {
+        return n;
     }
+    copy(ticket, out)
 }

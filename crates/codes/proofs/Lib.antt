@@ -1,0 +1,2 @@
+-- `Numbers` has the numbers of a verdict, as the code gives them.
+pub mod Numbers

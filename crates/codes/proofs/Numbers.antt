@@ -1,0 +1,36 @@
+-- The numbers of a verdict as the code gives them are those that are promised.
+use mathlib.Core.Path.{_≡_, refl, sym, ap, _∙_}
+use lib.IntN.{ℤ, pos, negsuc}
+use Rattle.layout.specs.Message as layout
+use Rattle.whole.specs.declared.Verdict.{Verdict}
+use Rattle.whole.specs.declared.Verdict.the-variants.{Complete, Incomplete, Broken}
+use Rattle.whole.specs.Whole.{verdictIn}
+use Rattle.exports.specs.Exports.{number, refused}
+
+abbrev code : Verdict → ℤ
+code Complete = pos 0
+code Incomplete = pos 1
+code (Broken n) = negsuc 1
+
+alike : (v : layout.Verdict) → code (verdictIn v) ≡ number v
+unfolding number
+alike layout.complete = refl
+alike layout.incomplete = refl
+alike (layout.brokenAt n) = refl
+
+pub numbered : (v : layout.Verdict) (r w : Verdict) → r ≡ verdictIn v → r ≡ w → code w ≡ number v
+numbered v r w e g = ap code (sym g ∙ e) ∙ alike v
+
+abbrev refusal : Verdict → ℤ
+refusal Complete = pos 0
+refusal Incomplete = negsuc 99
+refusal (Broken n) = negsuc 1
+
+refusal-alike : (v : layout.Verdict) → refusal (verdictIn v) ≡ refused v
+unfolding refused
+refusal-alike layout.complete = refl
+refusal-alike layout.incomplete = refl
+refusal-alike (layout.brokenAt n) = refl
+
+pub refuses : (v : layout.Verdict) (r w : Verdict) → r ≡ verdictIn v → r ≡ w → refusal w ≡ refused v
+refuses v r w e g = ap refusal (sym g ∙ e) ∙ refusal-alike v

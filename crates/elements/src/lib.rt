@@ -1,13 +1,14 @@
 // The elements of an array of integers, in bulk: all at once where there is room for them, else from the first byte on that is not out until the buffer is
 // full. Those that are out already are only counted, and those beyond the buffer's end not looked at.
 use emit::Cursor;
+use emit::least;
 use emit::put_fitting;
 use varint::VARINT_MAX;
 use varint::varint_len;
 use varint::zigzag_encode;
 use varint_bytes::put_whole;
 ghost use mathlib.Core.Path.{_≡_};
-ghost use Prim.Native.Nat.{_+_, _-_, _≤_, _<_};
+ghost use Prim.Native.Nat.{_+_, _-_, _*_, _≤_, _<_};
 ghost use lib.Dec.{ltb};
 ghost use lib.ListN.{length, drop};
 ghost use Rattle.layout.specs.Varint.{shortest};
@@ -206,4 +207,16 @@ pub fn put_zigzags(cursor: Cursor, buf: &mut [u8], items: &[i64]) -> Cursor
     let next = put_whole(buf, pos, zigzag_encode(head) >> (part * 7));
     let end = zigzags_from(buf, next, items, first + 1);
     Cursor { pos: end, skip: 0 }
+}
+
+// Where elements of `width` bytes each, n of them, go on after the first `skip` bytes: those of arrays of floats.
+pub fn evenly_out(n: usize, skip: usize, width: usize) -> Out
+    requires { ⌜ 0 < width ⌝ }
+    ensures { λ r. ⌜ (r .whole ≤ n) × (r .whole * width + r .part ≡ skip) × (r .whole < n → r .part < width) ⌝ }
+{
+    let whole = least(skip / width, n);
+    Out {
+        whole,
+        part: skip - whole * width,
+    }
 }

@@ -7,6 +7,8 @@ use lib.Ieee.{binary32, binary64, ofBits, toBits, nanBits}
 use Rattle.layout.specs.Limits.{pick}
 use Rattle.layout.specs.Field.{Raw, fp32, fp64, string, blob}
 use Rattle.layout.specs.Event as layout
+use Rattle.types.specs.declared.RawType.{RawType}
+use Rattle.types.specs.declared.RawType.the-variants as Raws
 use Rattle.types.specs.Types.{subtype, fixlenType, kind, arrayKind}
 use Rattle.event.specs.declared.Bounds.{Bounds}
 use Rattle.event.specs.declared.Event.{Event}
@@ -53,3 +55,7 @@ declared from (layout.Fixlen id s n) = Fixlen id (fixlenType s) n
 declared from (layout.Array id k n) = Array id (arrayKind k) n
 declared from (layout.Begin id) = Begin id
 declared from layout.End = End
+
+-- a piece of n bytes, which begins at the chunk's first
+abbrev pub pieceIn : ℕ → RawType → ℕ → ℕ → ℕ → Event
+pieceIn id r total o n = elim r [ Raws.Str ↦ Str id (record { total = total; offset = o; from = 0; to = n }) | Raws.Blob ↦ Blob id (record { total = total; offset = o; from = 0; to = n }) ]

@@ -1,10 +1,16 @@
 // The reader's events: one value that carries its number, float or piece bounds. The Rust hands each to a callback of its `Visitor`.
 // A float that is a NaN has no bits in the logic, so NaN patterns have cases of their own, which carry the bits.
 ghost use mathlib.Core.Path.{_≡_};
+ghost use Prim.Native.Nat.{_^_, _<_};
 ghost use lib.Ieee.{binary32, binary64, toBits};
-ghost use Rattle.event.specs.Event.{fp32Of, fp64Of};
+ghost use Rattle.layout.specs.Field.{bytesOf};
+ghost use Rattle.layout.specs.Event.{Float};
+ghost use Rattle.types.specs.Types.{width};
+ghost use Rattle.event.specs.Event.{fp32Of, fp64Of, declared, pieceIn};
 use types::ArrayKind;
 use types::FixlenType;
+use types::FloatType;
+use types::RawType;
 
 // A piece of a payload: the payload's length, the piece's place in it, and the piece's bounds in the chunk lent.
 pub struct Bounds {
@@ -65,5 +71,32 @@ pub fn fp64_bits(x: f64) -> u64
         0x7ff8_0000_0000_0000
     } else {
         f64::to_bits(x)
+    }
+}
+
+// A float is whole, x being its bits. Only `step` calls this, with the bits of as many bytes as the float has.
+pub fn float_event(id: u32, w: FloatType, x: u64) -> Event
+    requires { ⌜ x < 256 ^ bytesOf (width w) ⌝ }
+    ensures { λ r. ⌜ r ≡ declared 0 (Float id (width w) x) ⌝ }
+{
+    match w {
+        FloatType::Fp32 => fp32(id, x as u32),
+        FloatType::Fp64 => fp64(id, x),
+    }
+}
+
+// A piece of a payload, which begins at the chunk's first byte.
+pub fn piece(id: u32, r: RawType, total: u32, offset: u32, len: usize) -> Event
+    ensures { λ e. ⌜ e ≡ pieceIn id r total offset len ⌝ }
+{
+    let bounds = Bounds {
+        total,
+        offset,
+        from: 0,
+        to: len,
+    };
+    match r {
+        RawType::Str => Event::Str(id, bounds),
+        RawType::Blob => Event::Blob(id, bounds),
     }
 }

@@ -21,6 +21,7 @@ use Rattle.types.specs.declared.RawType.{RawType}
 use Rattle.types.specs.declared.RawType.the-variants as Raws
 use Rattle.event.specs.declared.Event.{Event}
 use Rattle.event.specs.declared.Event.the-variants.{Str, Blob}
+use Rattle.event.specs.Event.{pieceIn}
 use Rattle.phase.specs.declared.Carried.{Carried}
 use Rattle.phase.specs.declared.Phase.{Phase}
 use Rattle.phase.specs.declared.Phase.the-variants.{Payload}
@@ -31,7 +32,7 @@ use Rattle.phase.proofs.Keeps.{step-keeps}
 use Rattle.phase.proofs.Scans.{scan-byte}
 use Rattle.stepped.specs.declared.Stepped.{Stepped}
 use Rattle.stepped.specs.declared.Stepped.the-variants.{On, Raised}
-use Rattle.stepped.specs.Steps.{stepped, stepOn, covered, pieceIn}
+use Rattle.stepped.specs.Steps.{stepped, stepOn, covered}
 use Rattle.stepped.proofs.Stepped.{the-type}
 use Rattle.call_end.specs.declared.Status.the-variants.{Incomplete}
 use Rattle.call_end.specs.declared.Answer.the-variants.{Event as Happened, Status}

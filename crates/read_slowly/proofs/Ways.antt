@@ -11,12 +11,12 @@ use Rattle.types.specs.declared.RawType.{RawType}
 use Rattle.types.specs.declared.RawType.the-variants as Raws
 use Rattle.types.specs.Types.{rawSort}
 use Rattle.event.specs.declared.Event.{Event}
+use Rattle.event.specs.Event.{pieceIn}
 use Rattle.phase.specs.declared.Carried.{Carried}
 use Rattle.phase.specs.declared.Phase.{Phase}
 use Rattle.phase.specs.declared.Phase.the-variants.{Broken}
 use Rattle.phase.specs.Phases.{stateAt, soundPhase, phaseIn, carriedAt}
 use Rattle.phase.proofs.Phases.{Live, both, broken-sound}
-use Rattle.stepped.specs.Steps.{pieceIn}
 use Rattle.call_end.specs.declared.Answer.the-variants.{Event as Happened}
 use Rattle.call_end.specs.CallEnd.{endIn, endAt, refused}
 use Rattle.read_slowly.specs.Slowly.{wentFrom, endOf}

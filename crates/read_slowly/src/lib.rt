@@ -16,13 +16,13 @@ use call_end::Status;
 use call_end::ended;
 use call_end::stop;
 use call_end::unsound;
+use event::piece;
 use phase::Carried;
 use phase::Phase;
 use phase::idle;
 use phase::sound;
 use step::step;
 use stepped::Stepped;
-use stepped::piece;
 use types::Error;
 use types::RawType;
 

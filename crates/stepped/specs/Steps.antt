@@ -1,4 +1,4 @@
--- What a byte comes to, as the machine has it and as this crate's type; and a payload's piece.
+-- What a byte comes to, as the machine has it and as this crate's type.
 use Prim.Native.Nat.{ℕ}
 use mathlib.Core.List.{[], _∷_}
 use lib.ListN.{length}
@@ -7,10 +7,6 @@ use Rattle.layout.specs.Event as layout
 use Rattle.machine.specs.Machine as machine
 use Rattle.machine.specs.Machine.{on, bad}
 use Rattle.machine.specs.Calls.{State, reading, owing, broke, raisedState}
-use Rattle.types.specs.declared.RawType.{RawType}
-use Rattle.types.specs.declared.RawType.the-variants as Raws
-use Rattle.event.specs.declared.Event.{Event}
-use Rattle.event.specs.declared.Event.the-variants.{Str, Blob}
 use Rattle.event.specs.Event.{declared}
 use Rattle.phase.specs.Phases.{phaseIn, phaseOf, carriedAt, carriedOf}
 use Rattle.stepped.specs.declared.Stepped.{Stepped}
@@ -38,7 +34,3 @@ covered (layout.Fixlen id s n) = 0
 covered (layout.Array id k n) = 0
 covered (layout.Begin id) = 0
 covered layout.End = 0
-
--- a piece of n bytes, which begins at the chunk's first
-abbrev pub pieceIn : ℕ → RawType → ℕ → ℕ → ℕ → Event
-pieceIn id r total o n = elim r [ Raws.Str ↦ Str id (record { total = total; offset = o; from = 0; to = n }) | Raws.Blob ↦ Blob id (record { total = total; offset = o; from = 0; to = n }) ]

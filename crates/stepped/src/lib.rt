@@ -1,17 +1,11 @@
-// Where a header, a word or a float is whole: the event that is raised there, and the phase and the depth after it.
+// Where a header or a word is whole: the event that is raised there, and the phase and the depth after it.
 ghost use mathlib.Core.Path.{_≡_};
-ghost use Prim.Native.Nat.{_^_, _<_};
 ghost use Rattle.layout.specs.Limits.{base};
-ghost use Rattle.layout.specs.Field.{bytesOf, wireOf, subtypeOf, T-begin, T-end, known, float, raw};
-ghost use Rattle.layout.specs.Event.{Float};
+ghost use Rattle.layout.specs.Field.{wireOf, subtypeOf, T-begin, T-end, known, float, raw};
 ghost use Rattle.machine.specs.Machine.{atWire, atSubtype, atElement};
 ghost use Rattle.types.specs.Types.{width, rawSort};
-ghost use Rattle.event.specs.Event.{declared};
-ghost use Rattle.stepped.specs.Steps.{stepped, pieceIn};
-use event::Bounds;
+ghost use Rattle.stepped.specs.Steps.{stepped};
 use event::Event;
-use event::fp32;
-use event::fp64;
 use phase::Carried;
 use phase::Phase;
 use phase::floats;
@@ -144,32 +138,5 @@ pub fn element(carried: Carried, id: u32, count: u32, len: u64, subtype: u8) -> 
         0 => float_array(carried, id, count, FloatType::Fp32, len),
         1 => float_array(carried, id, count, FloatType::Fp64, len),
         _ => Stepped::Bad,
-    }
-}
-
-// A float is whole, x being its bits. Only `step` calls this, with the bits of as many bytes as the float has.
-pub fn float_event(id: u32, w: FloatType, x: u64) -> Event
-    requires { ⌜ x < 256 ^ bytesOf (width w) ⌝ }
-    ensures { λ r. ⌜ r ≡ declared 0 (Float id (width w) x) ⌝ }
-{
-    match w {
-        FloatType::Fp32 => fp32(id, x as u32),
-        FloatType::Fp64 => fp64(id, x),
-    }
-}
-
-// A piece of a payload, which begins at the chunk's first byte.
-pub fn piece(id: u32, r: RawType, total: u32, offset: u32, len: usize) -> Event
-    ensures { λ e. ⌜ e ≡ pieceIn id r total offset len ⌝ }
-{
-    let bounds = Bounds {
-        total,
-        offset,
-        from: 0,
-        to: len,
-    };
-    match r {
-        RawType::Str => Event::Str(id, bounds),
-        RawType::Blob => Event::Blob(id, bounds),
     }
 }

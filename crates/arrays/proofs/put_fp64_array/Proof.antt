@@ -17,7 +17,7 @@ use Rattle.arrays.proofs.put_fp64_array.Reads as reads
 use Rattle.arrays.proofs.put_fp64_array.Lts as lts
 use Rattle.arrays.proofs.finish_floats.Reads as finish-floats-reads
 use Rattle.arrays.proofs.put_announced.Reads as put-announced-reads
-use Rattle.floats.proofs.put_f64s.Reads as put-f64s-reads
+use Rattle.float_values.proofs.put_f64s.Reads as put-f64s-reads
 use Rattle.held.proofs.tagged.Reads as tagged-reads
 
 put-f64s-requires : tie.Need-put-f64s-requires

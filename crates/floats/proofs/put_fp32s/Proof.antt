@@ -12,7 +12,7 @@ use Rattle.floats.proofs.put_fp32s.Statement.{statement}
 use Rattle.floats.proofs.put_fp32s.Tie as tie
 use Rattle.floats.proofs.put_fp32s.Reads as reads
 use Rattle.floats.proofs.put_fp32s.Lts as lts
-use Rattle.floats.proofs.evenly_out.Reads as evenly-out-reads
+use Rattle.elements.proofs.evenly_out.Reads as evenly-out-reads
 use Rattle.floats.proofs.put_fours.Reads as put-fours-reads
 use Rattle.emit.proofs.least.Reads as least-reads
 use Rattle.low_bytes.proofs.put_part.Reads as put-part-reads

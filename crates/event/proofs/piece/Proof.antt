@@ -1,10 +1,10 @@
--- `stepped::piece` meets its contract.
+-- `event::piece` meets its contract.
 use mathlib.Core.Path.{sym, ap}
 use Rattle.types.specs.declared.RawType.{RawType}
-use Rattle.stepped.specs.Steps.{pieceIn}
+use Rattle.event.specs.Event.{pieceIn}
 use borrow.Author.Needs.{needs}
-use Rattle.stepped.proofs.piece.Statement.{statement}
-use Rattle.stepped.proofs.piece.Tie as tie
+use Rattle.event.proofs.piece.Statement.{statement}
+use Rattle.event.proofs.piece.Tie as tie
 
 returns : tie.Need-returns
 returns c =

@@ -1,11 +1,11 @@
--- `floats::evenly_out`: as many whole elements as the bytes have room for, and no more than there are.
+-- `elements::evenly_out`: as many whole elements as the bytes have room for, and no more than there are.
 use native.Mathlib.Omega.{arith}
 use borrow.Author.Needs.{needs}
 use Rattle.elements.proofs.Resumed.{evenly}
-use Rattle.floats.proofs.evenly_out.Statement.{statement}
-use Rattle.floats.proofs.evenly_out.Tie as tie
-use Rattle.floats.proofs.evenly_out.Reads as reads
-use Rattle.floats.proofs.evenly_out.Lts as lts
+use Rattle.elements.proofs.evenly_out.Statement.{statement}
+use Rattle.elements.proofs.evenly_out.Tie as tie
+use Rattle.elements.proofs.evenly_out.Reads as reads
+use Rattle.elements.proofs.evenly_out.Lts as lts
 use Rattle.emit.proofs.least.Reads as least-reads
 
 mul-t5 : tie.Need-mul-t5

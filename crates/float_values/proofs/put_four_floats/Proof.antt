@@ -1,4 +1,4 @@
--- `floats::put_four_floats`: at each turn, the elements from the i-th on are left to write, and there is room for them.
+-- `float_values::put_four_floats`: at each turn, the elements from the i-th on are left to write, and there is room for them.
 use Prim.Native.Nat.{_-_}
 use mathlib.Core.Path.{ap}
 use borrow.Author.Needs.{needs}
@@ -7,10 +7,10 @@ use lib.Ieee.{binary32, toBits}
 use Rattle.layout.specs.Field.{lowBytes}
 use Rattle.low_bytes.proofs.Low.{low-fits}
 use Rattle.elements.proofs.Room.{Roomy, roomy-start, roomy-here, roomy-next, roomy-end}
-use Rattle.floats.proofs.put_four_floats.Statement.{statement}
-use Rattle.floats.proofs.put_four_floats.Tie as tie
-use Rattle.floats.proofs.put_four_floats.Reads as reads
-use Rattle.floats.proofs.put_four_floats.Lts as lts
+use Rattle.float_values.proofs.put_four_floats.Statement.{statement}
+use Rattle.float_values.proofs.put_four_floats.Tie as tie
+use Rattle.float_values.proofs.put_four_floats.Reads as reads
+use Rattle.float_values.proofs.put_four_floats.Lts as lts
 use Rattle.low_bytes.proofs.put_four.Reads as put-four-reads
 use Rattle.event.proofs.fp32_bits.Reads as fp32-bits-reads
 

@@ -1,14 +1,14 @@
--- `stepped::float_event` meets its contract.
+-- `event::float_event` meets its contract.
 use mathlib.Core.Path.{sym, ap, _∙_, subst}
 use Prim.Native.Nat.{_^_, _<_}
 use Rattle.layout.specs.Field.{bytesOf}
 use Rattle.layout.specs.Event.{Float}
 use Rattle.types.specs.declared.FloatType.{FloatType}
 use Rattle.types.specs.Types.{width}
 use Rattle.event.specs.Event.{declared}
 use borrow.Author.Needs.{needs}
-use Rattle.stepped.proofs.float_event.Statement.{statement}
-use Rattle.stepped.proofs.float_event.Tie as tie
+use Rattle.event.proofs.float_event.Statement.{statement}
+use Rattle.event.proofs.float_event.Tie as tie
 
 cast-fp32 : tie.Need-cast-fp32
 cast-fp32 c =

@@ -7,7 +7,7 @@ ghost use Rattle.copying.specs.Copy.{copy};
 ghost use Rattle.turns.specs.Turns.{Stops};
 ghost use Rattle.copier.specs.Copier.{copyOf};
 ghost use Rattle.copier.specs.Calls.{resultOf, copied, opensOf, opensIn, startedBy, started, sentBy, drained, changed};
-ghost use Rattle.copier.specs.Feeding.{refused, finished, Ready};
+ghost use Rattle.copier.specs.Feeding.{finished, Ready};
 use copier_refusals::check_copier;
 use istream::IStream;
 use ostream::Count;
@@ -156,7 +156,11 @@ impl Copier {
         let check = check_copier(reader, writer, owed, self.place, buf.len());
         let error = check.error;
         if !check.ok {
-            return self.refuse(error);
+            return Copied {
+                used: 0,
+                answer: Answer::Refused(error),
+                copier: self,
+            };
         }
         finish(writer, self.carry(chunk, buf))
     }
@@ -187,16 +191,5 @@ impl Copier {
             };
         }
         run(reader, end, chunk, buf)
-    }
-
-    // The state as it came, and a refusal.
-    fn refuse(self, error: Error) -> Copied
-        ensures { λ r. ⌜ r ≡ refused error self ⌝ }
-    {
-        Copied {
-            used: 0,
-            answer: Answer::Refused(error),
-            copier: self,
-        }
     }
 }

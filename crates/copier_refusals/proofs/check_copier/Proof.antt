@@ -1,8 +1,8 @@
 -- `copier_refusals::check_copier`: the tests one after another, as `refusing` has them.
-use mathlib.Core.Path.{_≡_, sym, ap, _∙_}
+use mathlib.Core.Path.{sym, ap, _∙_}
 use borrow.Author.Tests.{not-true, not-false}
 use Rattle.types.specs.Types.{refusal}
-use Rattle.refusals.specs.Judged.{Judgement, accepted, refusedWith}
+use Rattle.refusals.specs.Judged.{accepted, refusedWith}
 use Rattle.answers.specs.Check.{checkOf}
 use Rattle.copying.proofs.Refusals.{unsound-reader, unsound-writer, broken-reader, none-refused}
 use borrow.Author.Needs.{needs}

@@ -1,5 +1,5 @@
 -- `copier::Copier::feed`: the refusals in order, then the loop.
-use mathlib.Core.Path.{_≡_, ap, _∙_}
+use mathlib.Core.Path.{_≡_}
 use native.Mathlib.Omega.{arith}
 use mir.Val.{Fits}
 use mir.Syntax.{w8}
@@ -7,8 +7,6 @@ use lib.ListN.{length}
 use Rattle.refusals.specs.Judged.{Judgement, accepted}
 use Rattle.answers.proofs.Checks.{check-passes, check-fails}
 use Rattle.copier_refusals.specs.Checked.{judgedBy}
-use Rattle.copier.specs.declared.Copied.{Copied}
-use Rattle.copier.specs.Calls.{resultOf}
 use Rattle.copier.proofs.Calls.{feed-refused, feed-ready, feed-runs}
 use borrow.Author.Needs.{needs}
 use Rattle.copier.proofs.Copier.feed.Statement.{statement}
@@ -16,7 +14,6 @@ use Rattle.copier.proofs.Copier.feed.Tie as tie
 use Rattle.copier.proofs.Copier.feed.Reads as reads
 use Rattle.copier.proofs.Copier.feed.Lts as lts
 use Rattle.copier.proofs.Copier.carry.Reads as carry-reads
-use Rattle.copier.proofs.Copier.refuse.Reads as refuse-reads
 use Rattle.copier.proofs.finish.Reads as finish-reads
 use Rattle.copier_refusals.proofs.check_copier.Reads as check-copier-reads
 
@@ -34,10 +31,9 @@ small c = search needs
 
 returns : tie.Need-returns
 returns c =
-    let a = c .before .before .before .before .before .before .before .before .args in
-    let f = small-then (c .before) in
-    ap (λ (x : Copied). resultOf x (a .buf .now)) (c .refuse .ensures)
-    ∙ feed-refused (a .self) (a .chunk .now) (a .buf .now) (omega (arith, f .fits)) _ (check-fails (tests (c .before .before .before)) _ (c .before .before .before .check-copier .ensures) (c .before .if1 .taken))
+    let a = c .before .before .before .before .before .before .before .args in
+    let f = small-then c in
+    feed-refused (a .self) (a .chunk .now) (a .buf .now) (omega (arith, f .fits)) _ (check-fails (tests (c .before .before)) _ (c .before .before .check-copier .ensures) (c .if1 .taken))
 
 carry-requires : tie.Need-carry-requires
 carry-requires c κs = feed-ready (c .before .before .before .before .before .before .before .before .args .self) _ (passes (c .before))
@@ -52,5 +48,5 @@ pub feed-spec : {M : Type 1} → statement M
 feed-spec =
     tie.close
     (tie.spec
-    (λ c κs. search needs) (λ c κs. search needs) returns carry-requires (λ c κs. search needs) (λ c. search needs)
+    (λ c κs. search needs) returns carry-requires (λ c κs. search needs) (λ c. search needs)
     returns-2)

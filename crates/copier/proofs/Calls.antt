@@ -8,7 +8,9 @@ use lib.ListN.{length, drop, length-drop}
 use borrow.Author.Tests.{leb-true, le-leb, eqb-true}
 use Rattle.layout.specs.Limits.{base}
 use Rattle.machine.specs.Calls.{State, reading, owing, broke, fresh}
-use Rattle.types.specs.declared.Error.the-variants.{UnsoundReader, UnsoundWriter, InvalidMsg}
+use Rattle.types.specs.Types.{numberOf, refusal}
+use Rattle.types.specs.declared.Error.{Error}
+use Rattle.refusals.specs.Judged.{Judgement, accepted, refusedWith}
 use Rattle.istream.specs.declared.IStream.{IStream}
 use Rattle.phase.specs.declared.Phase as code
 use Rattle.phase.specs.declared.Phase.the-variants as phases
@@ -26,9 +28,9 @@ use Rattle.ostream.specs.Buffer.{opening, draining, changing}
 use Rattle.copying.specs.Owed as copying
 use Rattle.copying.specs.Owed.{nothing, owes, rest, further, depthBy, depthOnce, agrees}
 use Rattle.copying.specs.Copy.{full, settled, filled, copy}
-use Rattle.copying.specs.Refusals.{isBroke}
+use Rattle.copying.specs.Refusals.{isBroke, refusing}
 use Rattle.copying.proofs.Turns.{copy-full, copy-settles}
-use Rattle.copying.proofs.Refusals.{with-parts, unsound-reader, unsound-writer, broken-reader, none-refused}
+use Rattle.copying.proofs.Refusals.{with-parts}
 use Rattle.turns.specs.declared.Answer.the-variants.{Full}
 use Rattle.turns.specs.declared.Stop.{Stop}
 use Rattle.turns.specs.Turns.{endedIn, Stops, Ran}
@@ -42,9 +44,11 @@ use Rattle.copier.specs.declared.Copier.{Copier}
 use Rattle.copier.specs.declared.Opening.{Opening}
 use Rattle.copier.specs.declared.Copied as results
 use Rattle.copier.specs.Copier.{copyOf, soundReader, soundWriter}
-use Rattle.copier.specs.Calls.{Said, resultOf, resultIn, untouched, copied, Opens, opensOf, opensIn, startedBy, started, sendsOf, Sent, drained, changed}
+use Rattle.copier.specs.Calls.{Said, Result, resultOf, resultIn, untouched, copied, Opens, opensOf, opensIn, startedBy, started, sendsOf, Sent, drained, changed}
 use Rattle.copier.specs.Feeding.{refused, finished, resultWith, Ready}
-use Rattle.copier.proofs.Tests.{sound-whole}
+use Rattle.copier_refusals.specs.Checked.{judgedBy}
+use Rattle.copier_refusals.proofs.Tests.{sound-whole}
+use Rattle.copier_refusals.proofs.Judged.{all-pass}
 
 -- ---- a sound copier
 
@@ -53,7 +57,7 @@ live-not-broke (reading d p) l = refl
 live-not-broke (owing d id r) l = refl
 live-not-broke broke l = absurd l
 
-pub live-if : (st : State) → isBroke st ≡ false → Live st
+live-if : (st : State) → isBroke st ≡ false → Live st
 live-if (reading d p) e = tt
 live-if (owing d id r) e = tt
 live-if broke e = let z : _≡_ {A = ℕ} 0 1 = cc in absurd (omega arith)
@@ -64,7 +68,7 @@ ready-within k size e = leb-true _ _ (both _ _ (with-parts base (writer.soundStr
 
 ready-agrees : (k : Copier) (size : ℕ) → Live (stateOf (k .reader)) → soundWriter k size ≡ true → agrees base (k .reader .carried .depth) (k .writer .depth) (owedOf (k .owed) (k .place)) ≡ true
 unfolding soundWriter
-ready-agrees k size l e = sym (sound-whole k (live-not-broke (stateOf (k .reader)) l)) ∙ with-parts base (writer.soundStream (k .writer) size) (k .writer .npending) (copyOf k) e .2
+ready-agrees k size l e = sym (sound-whole (k .reader) (k .writer .depth) (k .owed) (k .place) (live-not-broke (stateOf (k .reader)) l)) ∙ with-parts base (writer.soundStream (k .writer) size) (k .writer .npending) (copyOf k) e .2
 
 -- "depths equal once any owed event is written"
 level-once : (r w : ℕ) (o : Owed) (place : ℕ) → levelOf r w o ≡ true → depthOnce w (owedOf o place) ≡ r
@@ -169,28 +173,39 @@ reader-sound s h = go (s .phase) refl
     go phases.Broken e = ap by e ∙ sym (simp (e, le-leb (s .carried .depth) (base .depth) h))
 
 module _ (k : Copier) (c b : List ℕ) (h : k .reader .carried .depth ≤ base .depth) where
-  sound-too : (t : Bool) → soundStream base (k .reader) ≡ t → soundReader (k .reader) ≡ t
-  sound-too t e = reader-sound (k .reader) h ∙ e
+  -- the result by what the tests come to
+  abbrev resultBy : Judgement → Result
+  resultBy accepted = resultIn k (copy base (copyOf k) c b)
+  resultBy (refusedWith e) = untouched (numberOf e) k b
 
-  pub feed-unsound : soundStream base (k .reader) ≡ false → resultOf (refused UnsoundReader k) b ≡ copied k c b
-  unfolding copied
-  feed-unsound t = sym (unsound-reader _ _ _ (λ n. untouched n k b) _ (sound-too false t))
+  refuses-by : (reader writer broken : Bool) → refusing reader writer broken (λ n. untouched n k b) (resultBy accepted) ≡ resultBy (refusing reader writer broken (λ n. refusedWith (refusal n)) accepted)
+  unfolding refusing
+  refuses-by true true true = refl
+  refuses-by true true false = refl
+  refuses-by true false broken = refl
+  refuses-by false writer broken = refl
 
-  pub feed-unfit : soundStream base (k .reader) ≡ true → soundWriter k (length b) ≡ false → resultOf (refused UnsoundWriter k) b ≡ copied k c b
-  unfolding copied
-  feed-unfit t u = sym (unsound-writer _ _ _ (λ n. untouched n k b) _ (sound-too true t) u)
+  abbrev tests : Judgement
+  tests = judgedBy (k .reader) (k .writer) (k .owed) (k .place) (length b)
 
-  pub feed-broken : soundStream base (k .reader) ≡ true → soundWriter k (length b) ≡ true → isBroke (stateOf (k .reader)) ≡ true → resultOf (refused InvalidMsg k) b ≡ copied k c b
-  unfolding copied
-  feed-broken t u e = sym (broken-reader _ _ _ (λ n. untouched n k b) _ (sound-too true t) u e)
+  judges : copied k c b ≡ resultBy tests
+  unfolding copied soundWriter
+  judges =
+      ap (λ (t : Bool). refusing t (soundWriter k (length b)) (isBroke (stateOf (k .reader))) (λ n. untouched n k b) (resultBy accepted)) (reader-sound (k .reader) h)
+      ∙ refuses-by (soundStream base (k .reader)) (soundWriter k (length b)) (isBroke (stateOf (k .reader)))
 
-  goes-on : soundStream base (k .reader) ≡ true → soundWriter k (length b) ≡ true → isBroke (stateOf (k .reader)) ≡ false → copied k c b ≡ resultIn k (copy base (copyOf k) c b)
-  unfolding copied
-  goes-on t u e = none-refused _ _ _ (λ n. untouched n k b) _ (sound-too true t) u e
+  pub feed-refused : (e : Error) → tests ≡ refusedWith e → resultOf (refused e k) b ≡ copied k c b
+  feed-refused e t = sym (judges ∙ ap resultBy t)
 
-  pub feed-runs : soundStream base (k .reader) ≡ true → soundWriter k (length b) ≡ true → isBroke (stateOf (k .reader)) ≡ false → (t : Stop) (b′ : List ℕ) → Stops (copy base (copyOf k) c b) t b′ → (r : results.Copied) → r ≡ finished (k .writer) t
-      → resultOf r b′ ≡ copied k c b
-  feed-runs t u e s b′ q r i = ap (λ (x : results.Copied). resultOf x b′) i ∙ sym (goes-on t u e ∙ ap (resultWith (k .writer)) q)
+  pub feed-runs : tests ≡ accepted → (t : Stop) (b′ : List ℕ) → Stops (copy base (copyOf k) c b) t b′ → (r : results.Copied) → r ≡ finished (k .writer) t → resultOf r b′ ≡ copied k c b
+  feed-runs p t b′ q r i = ap (λ (x : results.Copied). resultOf x b′) i ∙ sym (judges ∙ ap resultBy p ∙ ap (resultWith (k .writer)) q)
+
+-- a copier whose tests pass goes on
+pub feed-ready : (k : Copier) (size : ℕ) → judgedBy (k .reader) (k .writer) (k .owed) (k .place) size ≡ accepted → Ready k size
+unfolding soundWriter
+feed-ready k size p =
+    let q = all-pass (soundStream base (k .reader)) (soundWriter k size) (isBroke (stateOf (k .reader))) p in
+    (q .0, (live-if (stateOf (k .reader)) (q .2), q .1))
 
 -- ---- the other calls
 

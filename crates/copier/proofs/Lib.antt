@@ -1,4 +1,2 @@
--- What the copier's code goes by: its tests (Rested, Tests), and a whole call (Calls).
-pub mod Rested
-pub mod Tests
+-- What the copier's code goes by: a whole call.
 pub mod Calls

@@ -1,30 +1,22 @@
 // The copier: each event of a message is written out again into a lent buffer, so that what is drained from it is the message's plain
 // copy. Reader and writer by value, the event still owed and the place reached in it.
 ghost use mathlib.Core.Path.{_≡_};
-ghost use Prim.Native.Nat.{_+_, _<_};
 ghost use lib.ListN.{length};
-ghost use Rattle.copying.specs.Owed.{owesNothing};
-ghost use Rattle.copying.specs.Refusals.{isBroke};
-ghost use Rattle.istream.specs.Stream.{stateOf};
-ghost use Rattle.held.specs.Places.{soundFor};
-ghost use Rattle.owed.specs.Owed.{owedOf};
 ghost use Rattle.layout.specs.Limits.{base};
 ghost use Rattle.copying.specs.Copy.{copy};
 ghost use Rattle.turns.specs.Turns.{Stops};
-ghost use Rattle.copier.specs.Copier.{soundWriter, copyOf};
+ghost use Rattle.copier.specs.Copier.{copyOf};
 ghost use Rattle.copier.specs.Calls.{resultOf, copied, opensOf, opensIn, startedBy, started, sentBy, drained, changed};
-ghost use Rattle.copier.specs.Feeding.{refused, finished, Ready};
+ghost use Rattle.copier.specs.Feeding.{finished, Ready};
+use copier_refusals::check_copier;
 use istream::IStream;
 use ostream::Count;
 use ostream::OStream;
 use owed::Owed;
-use phase::Phase;
 pub use turns::Answer;
 use turns::Stop;
 use turns::run;
 use types::Error;
-use types::LAZY_SEQ_DEPTH;
-use types::MAX_DEPTH;
 
 pub struct Copier {
     pub reader: IStream,
@@ -55,47 +47,6 @@ pub struct Opened {
 pub struct Drained {
     pub answer: Count,
     pub copier: Copier,
-}
-
-fn is_broken(reader: IStream) -> bool
-    ensures { λ r. ⌜ r ≡ isBroke (stateOf reader) ⌝ }
-{
-    let phase = reader.phase;
-    if let Phase::Broken = phase {
-        return true;
-    }
-    false
-}
-
-fn is_nothing(owed: Owed) -> bool
-    ensures { λ r. ⌜ r ≡ owesNothing (owedOf owed 0) ⌝ }
-{
-    if let Owed::Nothing = owed {
-        return true;
-    }
-    false
-}
-
-fn sum(a: u32, b: u32, c: u32, d: u32) -> u64
-    ensures { λ r. ⌜ (r ≡ a + b + c + d) × (r < 17179869184) ⌝ }
-{
-    a as u64 + b as u64 + c as u64 + d as u64
-}
-
-// Whether a writer that holds no id is sound for a buffer of this size. The places are looked at together: one by one they would be a good
-// part of a short call.
-fn is_rested(offset: usize, depth: u16, places: [u32; LAZY_SEQ_DEPTH], size: usize) -> bool
-    ensures { λ r. ⌜ r ≡ soundFor offset depth 0 places size ⌝ }
-{
-    if size < offset {
-        return false;
-    }
-    if MAX_DEPTH < depth as u32 {
-        return false;
-    }
-    let first = sum(places[0], places[1], places[2], places[3]);
-    let last = sum(places[4], places[5], places[6], places[7]);
-    first + last == 0
 }
 
 // What a call leaves: where it stopped, and the writer's places.
@@ -200,16 +151,17 @@ impl Copier {
         ensures { λ r. ⌜ resultOf r (now (buf .exit)) ≡ copied self (now (chunk .entry)) (now (buf .entry)) ⌝ }
     {
         let reader = self.reader;
-        if !reader.sound() {
-            return self.refuse(Error::UnsoundReader);
-        }
-        if !self.sound_writer(buf.len()) {
-            return self.refuse(Error::UnsoundWriter);
-        }
-        if is_broken(reader) {
-            return self.refuse(Error::InvalidMsg);
-        }
         let writer = self.writer;
+        let owed = self.owed;
+        let check = check_copier(reader, writer, owed, self.place, buf.len());
+        let error = check.error;
+        if !check.ok {
+            return Copied {
+                used: 0,
+                answer: Answer::Refused(error),
+                copier: self,
+            };
+        }
         finish(writer, self.carry(chunk, buf))
     }
 
@@ -239,36 +191,5 @@ impl Copier {
             };
         }
         run(reader, end, chunk, buf)
-    }
-
-    // The state as it came, and a refusal.
-    fn refuse(self, error: Error) -> Copied
-        ensures { λ r. ⌜ r ≡ refused error self ⌝ }
-    {
-        Copied {
-            used: 0,
-            answer: Answer::Refused(error),
-            copier: self,
-        }
-    }
-
-    // Whether the writer is sound for a buffer of this size, and the copier's own conditions hold.
-    fn sound_writer(self, size: usize) -> bool
-        ensures { λ r. ⌜ r ≡ soundWriter self size ⌝ }
-    {
-        let reader = self.reader;
-        let writer = self.writer;
-        let owed = self.owed;
-        if writer.npending != 0 {
-            return false;
-        }
-        let places = writer.pending;
-        if !is_rested(writer.offset, writer.depth, places, size) {
-            return false;
-        }
-        if is_broken(reader) {
-            return is_nothing(owed);
-        }
-        owed.sound(self.place, reader.carried.depth, writer.depth)
     }
 }

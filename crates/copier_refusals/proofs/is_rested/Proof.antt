@@ -1,14 +1,14 @@
--- `copier::is_rested`: the tests one after another.
+-- `copier_refusals::is_rested`: the tests one after another.
 use Prim.Native.Nat.{ℕ, _+_}
 use mathlib.Core.Path.{_≡_, ap, _∙_}
 use lib.ListN.{length, getD}
-use Rattle.copier.proofs.Rested.{beyond-buffer, too-deep, all-rested}
+use Rattle.copier_refusals.proofs.Rested.{beyond-buffer, too-deep, all-rested}
 use borrow.Author.Needs.{needs}
-use Rattle.copier.proofs.is_rested.Statement.{statement}
-use Rattle.copier.proofs.is_rested.Tie as tie
-use Rattle.copier.proofs.is_rested.Reads as reads
-use Rattle.copier.proofs.is_rested.Lts as lts
-use Rattle.copier.proofs.sum.Reads as sum-reads
+use Rattle.copier_refusals.proofs.is_rested.Statement.{statement}
+use Rattle.copier_refusals.proofs.is_rested.Tie as tie
+use Rattle.copier_refusals.proofs.is_rested.Reads as reads
+use Rattle.copier_refusals.proofs.is_rested.Lts as lts
+use Rattle.copier_refusals.proofs.sum.Reads as sum-reads
 
 returns : tie.Need-returns
 returns c = beyond-buffer (c .before .args .offset) (c .before .args .depth) (c .before .args .t3) (c .before .args .size) (c .if1 .taken)

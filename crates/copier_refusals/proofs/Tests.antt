@@ -19,12 +19,12 @@ use Rattle.owed.specs.declared.Owed.{Owed}
 use Rattle.owed.specs.declared.Owed.the-variants as owes
 use Rattle.owed.specs.Owed.{owedOf}
 use Rattle.owed.proofs.Owed as owing-types
-use Rattle.copier.specs.declared.Copier.{Copier}
+use Rattle.ostream.specs.declared.OStream.{OStream}
 use Rattle.copying.specs.Refusals.{isBroke}
 use Rattle.copying.proofs.Refusals.{with-held, with-unsound, with-owed}
 use Rattle.held.specs.Places.{soundFor}
 use Rattle.ostream.specs.Stream.{soundStream}
-use Rattle.copier.specs.Copier.{copyOf, soundWriter}
+use Rattle.copier_refusals.specs.Checked.{copyBy, fitsWriter}
 
 -- ---- the reader's phase
 
@@ -81,53 +81,51 @@ broke-is (owing d id r) e = let z : _≡_ {A = ℕ} 0 1 = cc in absurd (omega ar
 broke-is broke e = refl
 
 -- the copier's own conditions, where the reader is broken and where it is not
-sound-broke : (k : Copier) → isBroke (stateOf (k .reader)) ≡ true → soundOwed base (stateOf (k .reader)) (k .writer .depth) (owedOf (k .owed) (k .place)) ≡ owesNothing (owedOf (k .owed) 0)
-unfolding soundOwed
-sound-broke k e = ap (λ (st : State). soundOwed base st (k .writer .depth) (owedOf (k .owed) (k .place))) (broke-is (stateOf (k .reader)) e) ∙ nothing-any (k .owed) (k .place)
+module _ (s : IStream) (depth : ℕ) (o : Owed) (place : ℕ) where
+  sound-broke : isBroke (stateOf s) ≡ true → soundOwed base (stateOf s) depth (owedOf o place) ≡ owesNothing (owedOf o 0)
+  unfolding soundOwed
+  sound-broke e = ap (λ (st : State). soundOwed base st depth (owedOf o place)) (broke-is (stateOf s) e) ∙ nothing-any o place
 
-pub sound-whole : (k : Copier) → isBroke (stateOf (k .reader)) ≡ false → soundOwed base (stateOf (k .reader)) (k .writer .depth) (owedOf (k .owed) (k .place)) ≡ agrees base (k .reader .carried .depth) (k .writer .depth) (owedOf (k .owed) (k .place))
-unfolding soundOwed
-sound-whole k e = go (k .reader .phase) e
-  where
-    go : (p : code.Phase) → isBroke (stateAt (k .reader .carried .depth) p) ≡ false → soundOwed base (stateAt (k .reader .carried .depth) p) (k .writer .depth) (owedOf (k .owed) (k .place)) ≡ agrees base (k .reader .carried .depth) (k .writer .depth) (owedOf (k .owed) (k .place))
-    go (phases.Header a) e = refl
-    go (phases.Unsigned id left a) e = refl
-    go (phases.Signed id left a) e = refl
-    go (phases.Word id a) e = refl
-    go (phases.UnsignedCount id a) e = refl
-    go (phases.SignedCount id a) e = refl
-    go (phases.FloatCount id a) e = refl
-    go (phases.ArrayWord id count a) e = refl
-    go (phases.Float id w left k v) e = refl
-    go (phases.Payload id r total o) e = refl
-    go (phases.Empty id r) e = refl
-    go phases.Broken e = let z : _≡_ {A = ℕ} 0 1 = cc in absurd (omega arith)
+  pub sound-whole : isBroke (stateOf s) ≡ false → soundOwed base (stateOf s) depth (owedOf o place) ≡ agrees base (s .carried .depth) depth (owedOf o place)
+  unfolding soundOwed
+  sound-whole e = go (s .phase) e
+    where
+      go : (p : code.Phase) → isBroke (stateAt (s .carried .depth) p) ≡ false → soundOwed base (stateAt (s .carried .depth) p) depth (owedOf o place) ≡ agrees base (s .carried .depth) depth (owedOf o place)
+      go (phases.Header a) e = refl
+      go (phases.Unsigned id left a) e = refl
+      go (phases.Signed id left a) e = refl
+      go (phases.Word id a) e = refl
+      go (phases.UnsignedCount id a) e = refl
+      go (phases.SignedCount id a) e = refl
+      go (phases.FloatCount id a) e = refl
+      go (phases.ArrayWord id count a) e = refl
+      go (phases.Float id w left k v) e = refl
+      go (phases.Payload id r total o) e = refl
+      go (phases.Empty id r) e = refl
+      go phases.Broken e = let z : _≡_ {A = ℕ} 0 1 = cc in absurd (omega arith)
 
 -- ---- the writer, and the copier's own conditions
 
-module _ (k : Copier) (size : ℕ) where
+module _ (s : IStream) (w : OStream) (o : Owed) (place size : ℕ) where
   abbrev Places : Bool
-  Places = soundFor (k .writer .offset) (k .writer .depth) 0 (k .writer .pending) size
+  Places = soundFor (w .offset) (w .depth) 0 (w .pending) size
 
-  pub id-held : (k .writer .npending ≡ 0 → ⊥) → false ≡ soundWriter k size
-  unfolding soundWriter
-  id-held h = sym (with-held base (soundStream (k .writer) size) (k .writer .npending) (copyOf k) h)
+  pub id-held : (w .npending ≡ 0 → ⊥) → false ≡ fitsWriter s w o place size
+  id-held h = sym (with-held base (soundStream w size) (w .npending) (copyBy s w o place) h)
 
   -- a writer's own test, where it holds none
-  places-is : k .writer .npending ≡ 0 → soundStream (k .writer) size ≡ Places
+  places-is : w .npending ≡ 0 → soundStream w size ≡ Places
   unfolding soundStream
-  places-is e = ap (λ (n : ℕ). soundFor (k .writer .offset) (k .writer .depth) n (k .writer .pending) size) e
+  places-is e = ap (λ (n : ℕ). soundFor (w .offset) (w .depth) n (w .pending) size) e
 
-  pub unrested : k .writer .npending ≡ 0 → Places ≡ false → false ≡ soundWriter k size
-  unfolding soundWriter
-  unrested n e = sym (with-unsound base (soundStream (k .writer) size) (k .writer .npending) (copyOf k) (places-is n ∙ e))
+  pub unrested : w .npending ≡ 0 → Places ≡ false → false ≡ fitsWriter s w o place size
+  unrested n e = sym (with-unsound base (soundStream w size) (w .npending) (copyBy s w o place) (places-is n ∙ e))
 
-  by-owed : k .writer .npending ≡ 0 → Places ≡ true → soundWriter k size ≡ soundOwed base (stateOf (k .reader)) (k .writer .depth) (owedOf (k .owed) (k .place))
-  unfolding soundWriter
-  by-owed n e = with-owed base (soundStream (k .writer) size) (k .writer .npending) (copyOf k) (places-is n ∙ e) n
+  by-owed : w .npending ≡ 0 → Places ≡ true → fitsWriter s w o place size ≡ soundOwed base (stateOf s) (w .depth) (owedOf o place)
+  by-owed n e = with-owed base (soundStream w size) (w .npending) (copyBy s w o place) (places-is n ∙ e) n
 
-  pub rested-broke : k .writer .npending ≡ 0 → Places ≡ true → isBroke (stateOf (k .reader)) ≡ true → owesNothing (owedOf (k .owed) 0) ≡ soundWriter k size
-  rested-broke n e b = sym (by-owed n e ∙ sound-broke k b)
+  pub rested-broke : w .npending ≡ 0 → Places ≡ true → isBroke (stateOf s) ≡ true → owesNothing (owedOf o 0) ≡ fitsWriter s w o place size
+  rested-broke n e b = sym (by-owed n e ∙ sound-broke s (w .depth) o place b)
 
-  pub rested-whole : k .writer .npending ≡ 0 → Places ≡ true → isBroke (stateOf (k .reader)) ≡ false → agrees base (k .reader .carried .depth) (k .writer .depth) (owedOf (k .owed) (k .place)) ≡ soundWriter k size
-  rested-whole n e b = sym (by-owed n e ∙ sound-whole k b)
+  pub rested-whole : w .npending ≡ 0 → Places ≡ true → isBroke (stateOf s) ≡ false → agrees base (s .carried .depth) (w .depth) (owedOf o place) ≡ fitsWriter s w o place size
+  rested-whole n e b = sym (by-owed n e ∙ sound-whole s (w .depth) o place b)

@@ -15,6 +15,7 @@ use Rattle.copying.specs.Copy.{Copy}
 use Rattle.copying.specs.Refusals.{soundWith, isBroke, refusing}
 use Rattle.refusals.specs.Judged.{Judgement, accepted, refusedWith}
 
+-- the state of `copying` that these parts make up
 abbrev pub copyBy : IStream → OStream → Owed → ℕ → Copy
 copyBy s w o place = record { reader = stateOf s; depth = w .depth; pos = w .offset; owed = owedOf o place }
 
@@ -22,6 +23,6 @@ copyBy s w o place = record { reader = stateOf s; depth = w .depth; pos = w .off
 abbrev pub fitsWriter : IStream → OStream → Owed → ℕ → ℕ → Bool
 fitsWriter s w o place size = soundWith base (writer.soundStream w size) (w .npending) (copyBy s w o place)
 
--- 1, then 6, then 2; a reader in code is sound by its own test
+-- 1, then 6, then 2. The reader goes by its own test: that looks at a broken one's depth too, which in code is a byte and so in its limit.
 abbrev pub judgedBy : IStream → OStream → Owed → ℕ → ℕ → Judgement
 judgedBy s w o place size = refusing (reader.soundStream base s) (fitsWriter s w o place size) (isBroke (stateOf s)) (λ n. refusedWith (refusal n)) accepted

@@ -9,9 +9,9 @@ use Rattle.event.specs.Event.{declared}
 use Rattle.phase.specs.declared.Carried.{Carried}
 use Rattle.phase.specs.declared.Phase.{Phase}
 use Rattle.phase.specs.Phases.{stateAt, phaseOf, carriedOf}
-use Rattle.stepped.specs.Steps.{covered}
-use Rattle.stepped.specs.declared.Stepped.{Stepped}
-use Rattle.stepped.specs.declared.Stepped.the-variants.{On, Raised, Bad}
+use Rattle.phase.specs.Steps.{covered}
+use Rattle.phase.specs.declared.Stepped.{Stepped}
+use Rattle.phase.specs.declared.Stepped.the-variants.{On, Raised, Bad}
 use Rattle.call_end.specs.declared.Status as Statuses
 use Rattle.call_end.specs.declared.Status.the-variants.{Complete, Incomplete}
 use Rattle.call_end.specs.declared.Answer.{Answer}

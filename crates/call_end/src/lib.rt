@@ -6,7 +6,7 @@ ghost use Rattle.call_end.specs.CallEnd.{statusIn, endAt, stopped, refus
 use event::Event;
 use phase::Carried;
 use phase::Phase;
-use stepped::Stepped;
+use phase::Stepped;
 use types::Error;
 
 // A verdict, once a chunk is spent: the bytes so far end at a field boundary with no sequence open, or within something.

@@ -1,2 +1,3 @@
 pub mod Phases
 pub mod Sound
+pub mod Steps

@@ -1,5 +1,5 @@
-// What is under way in a message, the Rust's `State` with the numbers that each case has in force: the phases, which of them can be, and
-// what an array's elements leave.
+// What is under way in a message, the Rust's `State` with the numbers that each case has in force: the phases, which of them can be, what
+// an array's elements leave, and what a byte comes to.
 ghost use mathlib.Core.Path.{_≡_};
 ghost use mathlib.Core.Bool.{_&&_};
 ghost use Prim.Native.Nat.{_-_};
@@ -8,6 +8,7 @@ ghost use Rattle.machine.specs.Machine.{inUnsigned, inSigned, inFloat, firstOr,
 ghost use Rattle.types.specs.Types.{width};
 ghost use Rattle.varint.specs.Varint.{soundAcc};
 ghost use Rattle.phase.specs.Phases.{phaseIn, idIn, countIn, soundPhase};
+use event::Event;
 use types::ARRAY_MAX;
 use types::FIXLEN_MAX;
 use types::FloatType;
@@ -36,6 +37,13 @@ pub enum Phase {
 // What every step carries along, whatever is under way: how many sequences are open.
 pub struct Carried {
     pub depth: u8,
+}
+
+// What one byte comes to: the phase after it and what is carried along, an event before them, or a broken message.
+pub enum Stepped {
+    On(Phase, Carried),
+    Raised(Event, Phase, Carried),
+    Bad,
 }
 
 // Between fields.

@@ -28,16 +28,16 @@ use Rattle.phase.specs.declared.Phase.{Phase}
 use Rattle.phase.specs.declared.Phase.the-variants.{Header, Unsigned, Signed}
 use Rattle.read_at_once.specs.declared.Once.{Once}
 use Rattle.read_at_once.specs.declared.Once.the-variants as Onces
-use Rattle.stepped.specs.declared.Stepped as given
-use Rattle.stepped.specs.declared.Stepped.the-variants.{On, Raised, Bad}
+use Rattle.phase.specs.declared.Stepped as given
+use Rattle.phase.specs.declared.Stepped.the-variants.{On, Raised, Bad}
 use Rattle.phase.specs.Phases.{stateAt, phaseIn, carriedAt, idIn, countIn, soundPhase}
-use Rattle.stepped.specs.Steps.{stepped, covered}
+use Rattle.phase.specs.Steps.{stepped, covered}
 use Rattle.phase.specs.Sound.{Kept}
 use Rattle.read_at_once.specs.AtOnce.{Varying, readOn, Reads, Right, RightFrom, raisedOf}
 use Rattle.phase.proofs.Phases.{next-first, both}
 use Rattle.phase.proofs.Keeps.{wire-keeps, subtype-keeps}
 use Rattle.phase.proofs.Scans.{scan-byte}
-use Rattle.stepped.proofs.Stepped.{the-type}
+use Rattle.phase.proofs.Stepped.{the-type}
 
 -- ---- a varint
 

@@ -16,9 +16,9 @@ use Rattle.event.specs.Event.{declared}
 use Rattle.phase.specs.declared.Carried.{Carried}
 use Rattle.phase.specs.declared.Phase as phases
 use Rattle.phase.specs.Phases.{phaseOf, carriedOf, soundPhase}
-use Rattle.stepped.specs.declared.Stepped as given
-use Rattle.stepped.specs.declared.Stepped.the-variants.{On, Raised, Bad}
-use Rattle.stepped.specs.Steps.{covered}
+use Rattle.phase.specs.declared.Stepped as given
+use Rattle.phase.specs.declared.Stepped.the-variants.{On, Raised, Bad}
+use Rattle.phase.specs.Steps.{covered}
 use Rattle.read_at_once.specs.declared.Found.{Found}
 use Rattle.read_at_once.specs.declared.Found.the-variants as Founds
 use Rattle.read_at_once.specs.declared.Once.{Once}

@@ -8,21 +8,21 @@ ghost use Rattle.machine.specs.Calls.{reading, call};
 ghost use Rattle.phase.specs.Phases.{stateAt};
 ghost use Rattle.read_at_once.specs.AtOnce.{FoundAt, Right, RightFrom, raisedOf, readOn};
 use event::Event;
+use headers::sequence_begin;
+use headers::sequence_end;
 use phase::Carried;
 use phase::Phase;
+use phase::Stepped;
 use phase::idle;
 use phase::less;
 use phase::signeds;
 use phase::sound_varint;
 use phase::unsigneds;
-use stepped::Stepped;
-use stepped::fixlen;
-use stepped::sequence_begin;
-use stepped::sequence_end;
 use types::ID_MAX;
 use varint::Acc;
 use varint::Push;
 use varint::zigzag_decode;
+use words::fixlen;
 
 // A varint's value and the place after it; or it doesn't stand whole in the chunk, or is broken.
 enum Found {

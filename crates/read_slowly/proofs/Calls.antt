@@ -30,10 +30,10 @@ use Rattle.phase.specs.Sound.{AtBytes, Kept}
 use Rattle.phase.proofs.Phases.{raw-back, state-back, phase-back, depth-back, at-bytes-live}
 use Rattle.phase.proofs.Keeps.{step-keeps}
 use Rattle.phase.proofs.Scans.{scan-byte}
-use Rattle.stepped.specs.declared.Stepped.{Stepped}
-use Rattle.stepped.specs.declared.Stepped.the-variants.{On, Raised}
-use Rattle.stepped.specs.Steps.{stepped, stepOn, covered}
-use Rattle.stepped.proofs.Stepped.{the-type}
+use Rattle.phase.specs.declared.Stepped.{Stepped}
+use Rattle.phase.specs.declared.Stepped.the-variants.{On, Raised}
+use Rattle.phase.specs.Steps.{stepped, stepOn, covered}
+use Rattle.phase.proofs.Stepped.{the-type}
 use Rattle.call_end.specs.declared.Status.the-variants.{Incomplete}
 use Rattle.call_end.specs.declared.Answer.the-variants.{Event as Happened, Status}
 use Rattle.call_end.specs.CallEnd.{statusIn, endIn, endAt, stopped}

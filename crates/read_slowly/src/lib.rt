@@ -19,10 +19,10 @@ use call_end::unsound;
 use event::piece;
 use phase::Carried;
 use phase::Phase;
+use phase::Stepped;
 use phase::idle;
 use phase::sound;
 use step::step;
-use stepped::Stepped;
 use types::Error;
 use types::RawType;
 

@@ -30,7 +30,7 @@ use Rattle.call_end.specs.declared.Answer.the-variants as Answers
 use Rattle.istream.specs.declared.Fed as Given
 use Rattle.types.specs.Types.{refusal}
 use Rattle.istream.specs.Stream.{stateOf, streamIn, soundStream, standingIn, statusOf, statusIn, answerIn, fedIn, fedOf}
-use Rattle.stepped.specs.Steps.{covered}
+use Rattle.phase.specs.Steps.{covered}
 use Rattle.phase.specs.Sound.{SoundAt, SoundState, AtBytes, Kept}
 use Rattle.phase.proofs.Phases.{byte-below}
 use Rattle.phase.proofs.Keeps.{step-keeps}

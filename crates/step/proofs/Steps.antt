@@ -30,8 +30,8 @@ use Rattle.event.specs.Event.{declared}
 use Rattle.phase.specs.declared.Phase.the-variants.{Float}
 use Rattle.phase.specs.Phases.{phaseIn, carriedAt}
 use Rattle.phase.proofs.Phases.{float-back, pow256}
-use Rattle.stepped.specs.declared.Stepped.the-variants.{On, Raised, Bad}
-use Rattle.stepped.specs.Steps.{stepped}
+use Rattle.phase.specs.declared.Stepped.the-variants.{On, Raised, Bad}
+use Rattle.phase.specs.Steps.{stepped}
 
 -- ---- a varint's byte, from what the code knows of the push
 

@@ -8,19 +8,17 @@ ghost use Rattle.types.specs.Types.{width};
 ghost use Rattle.varint.specs.Varint.{Sound};
 ghost use Rattle.phase.specs.Phases.{stateAt};
 ghost use Rattle.phase.specs.Sound.{AtBytes};
-ghost use Rattle.stepped.specs.Steps.{stepped, stepOn};
+ghost use Rattle.phase.specs.Steps.{stepped, stepOn};
 use event::Event;
 use event::float_event;
+use headers::field;
 use phase::Carried;
 use phase::Phase;
+use phase::Stepped;
 use phase::floats;
 use phase::less;
 use phase::signeds;
 use phase::unsigneds;
-use stepped::Stepped;
-use stepped::element;
-use stepped::field;
-use stepped::fixlen;
 use types::ARRAY_MAX;
 use types::ArrayKind;
 use types::FloatType;
@@ -28,6 +26,8 @@ use types::ID_MAX;
 use varint::Acc;
 use varint::Push;
 use varint::zigzag_decode;
+use words::element;
+use words::fixlen;
 
 // A header's byte.
 fn header(carried: Carried, a: Acc, b: u8) -> Stepped

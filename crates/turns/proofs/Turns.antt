@@ -21,7 +21,7 @@ use Rattle.event.specs.Event.{declared}
 use Rattle.event.proofs.Laws.{declared-back}
 use Rattle.istream.specs.declared.IStream.{IStream}
 use Rattle.istream.specs.declared.Fed.{Fed}
-use Rattle.stepped.specs.Steps.{covered}
+use Rattle.phase.specs.Steps.{covered}
 use Rattle.istream.specs.Stream.{stateOf, streamIn, soundStream, statusIn, fedIn, fedOf}
 use Rattle.phase.specs.Sound.{SoundState}
 use Rattle.phase.proofs.Phases.{Live}

@@ -4,7 +4,7 @@ use Rattle.read_at_once.specs.declared.Found.{Found}
 use Rattle.read_at_once.specs.AtOnce.{FoundAt, raisedOf}
 use Rattle.read_at_once.proofs.AtOnce.{signed-element}
 use Rattle.phase.specs.Phases.{phaseIn}
-use Rattle.stepped.specs.declared.Stepped.the-variants.{Raised}
+use Rattle.phase.specs.declared.Stepped.the-variants.{Raised}
 use Rattle.event.specs.declared.Event.the-variants as Events
 use Rattle.machine.specs.Machine.{firstOr, inSigned}
 use mathlib.Core.Path.{_≡_, ap, _∙_, subst}

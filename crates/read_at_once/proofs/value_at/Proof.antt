@@ -3,7 +3,7 @@ use Rattle.layout.specs.Limits.{base}
 use Rattle.read_at_once.specs.declared.Found.{Found}
 use Rattle.read_at_once.specs.AtOnce.{FoundAt, raisedOf}
 use Rattle.read_at_once.proofs.AtOnce.{unsigned-after, signed-after, word-after}
-use Rattle.stepped.specs.declared.Stepped.the-variants.{Raised}
+use Rattle.phase.specs.declared.Stepped.the-variants.{Raised}
 use Rattle.event.specs.declared.Event.the-variants as Events
 use native.Mathlib.Omega.{arith}
 use mathlib.Core.Path.{_≡_, ap, _∙_, subst}

@@ -9,11 +9,11 @@ use Rattle.types.specs.Types.{width}
 use Rattle.event.specs.declared.Event.{Event}
 use Rattle.event.specs.Event.{declared}
 use Rattle.phase.specs.declared.Phase.the-variants.{Float}
-use Rattle.stepped.specs.declared.Stepped.the-variants.{On, Raised}
+use Rattle.phase.specs.declared.Stepped.the-variants.{On, Raised}
 use Rattle.phase.specs.Phases.{phaseIn}
 use Rattle.phase.proofs.Phases.{bytes-8, byte-below, next-first}
 use Rattle.step.proofs.Steps.{joined-byte, float-more, float-whole}
-use Rattle.stepped.proofs.Fields.{raised}
+use Rattle.phase.proofs.Steps.{raised}
 use borrow.Author.Needs.{needs}
 use Rattle.step.proofs.float.Statement.{statement}
 use Rattle.step.proofs.float.Tie as tie

@@ -2,7 +2,7 @@
 use mathlib.Core.Path.{_∙_}
 use Rattle.layout.specs.Limits.{base}
 use Rattle.step.proofs.Steps.{over-in, more-in, value-in}
-use Rattle.stepped.proofs.Fields.{id-beyond, header-in}
+use Rattle.headers.proofs.Headers.{id-beyond, header-in}
 use Rattle.machine.specs.Machine.{step}
 use borrow.Author.Needs.{needs}
 use Rattle.step.proofs.header.Statement.{statement}

@@ -6,10 +6,10 @@ use mir.Syntax.{w64}
 use mir.Val.{ofZ, toZ}
 use Rattle.layout.specs.Limits.{base}
 use Rattle.event.specs.declared.Event.the-variants.{Signed}
-use Rattle.stepped.specs.declared.Stepped.the-variants.{Raised}
+use Rattle.phase.specs.declared.Stepped.the-variants.{Raised}
 use Rattle.phase.specs.Phases.{phaseIn}
 use Rattle.step.proofs.Steps.{over-in, more-in, value-in}
-use Rattle.stepped.proofs.Fields.{raised}
+use Rattle.phase.proofs.Steps.{raised}
 use Rattle.phase.proofs.Phases.{next-first}
 use Rattle.machine.specs.Machine.{step, firstOr, inSigned, atSigned, nextOr}
 use borrow.Author.Needs.{needs}

@@ -3,7 +3,7 @@ use mathlib.Core.Path.{sym, ap, _∙_, subst}
 use Rattle.layout.specs.Limits.{base}
 use Rattle.phase.specs.declared.Phase.{Phase}
 use Rattle.phase.specs.Phases.{stateAt}
-use Rattle.stepped.specs.Steps.{stepped, stepOn}
+use Rattle.phase.specs.Steps.{stepped, stepOn}
 use Rattle.phase.specs.Sound.{AtBytes}
 use Rattle.phase.proofs.Scans.{no-bulk}
 use borrow.Author.Needs.{needs}

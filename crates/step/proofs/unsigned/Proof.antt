@@ -5,7 +5,7 @@ use Rattle.layout.specs.Limits.{base}
 use Rattle.event.specs.declared.Event.the-variants.{Unsigned}
 use Rattle.phase.specs.Phases.{phaseIn}
 use Rattle.step.proofs.Steps.{over-in, more-in, value-in}
-use Rattle.stepped.proofs.Fields.{raised}
+use Rattle.phase.proofs.Steps.{raised}
 use Rattle.phase.proofs.Phases.{next-first}
 use Rattle.machine.specs.Machine.{step, firstOr, inUnsigned, atUnsigned}
 use borrow.Author.Needs.{needs}

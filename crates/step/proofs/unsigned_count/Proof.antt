@@ -4,7 +4,7 @@ use Rattle.layout.specs.Limits.{base}
 use Rattle.event.specs.declared.Event.the-variants.{Array}
 use Rattle.types.specs.declared.ArrayKind.the-variants as ArrayKinds
 use Rattle.step.proofs.Steps.{over-in, more-in, value-in, count-bad, count-in}
-use Rattle.stepped.proofs.Fields.{raised}
+use Rattle.phase.proofs.Steps.{raised}
 use Rattle.machine.specs.Machine.{step}
 use borrow.Author.Needs.{needs}
 use Rattle.step.proofs.unsigned_count.Statement.{statement}

@@ -1,9 +1,9 @@
--- `stepped::float_array` meets its contract.
+-- `words::float_array` meets its contract.
 use mathlib.Core.Path.{_∙_, sym}
-use Rattle.stepped.proofs.Fields.{array-in, array-bad}
+use Rattle.words.proofs.Words.{array-in, array-bad}
 use borrow.Author.Needs.{needs}
-use Rattle.stepped.proofs.float_array.Statement.{statement}
-use Rattle.stepped.proofs.float_array.Tie as tie
+use Rattle.words.proofs.float_array.Statement.{statement}
+use Rattle.words.proofs.float_array.Tie as tie
 
 returns : tie.Need-returns
 returns c =

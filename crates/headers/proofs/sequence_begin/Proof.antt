@@ -1,11 +1,12 @@
--- `stepped::sequence_begin` meets its contract.
+-- `headers::sequence_begin` meets its contract.
 use mathlib.Core.Path.{_∙_}
 use Rattle.layout.specs.Limits.{base}
 use Rattle.event.specs.declared.Event.the-variants.{Begin}
-use Rattle.stepped.proofs.Fields.{raised, begins, too-deep}
+use Rattle.phase.proofs.Steps.{raised}
+use Rattle.headers.proofs.Headers.{begins, too-deep}
 use borrow.Author.Needs.{needs}
-use Rattle.stepped.proofs.sequence_begin.Statement.{statement}
-use Rattle.stepped.proofs.sequence_begin.Tie as tie
+use Rattle.headers.proofs.sequence_begin.Statement.{statement}
+use Rattle.headers.proofs.sequence_begin.Tie as tie
 
 returns : tie.Need-returns
 returns c =

@@ -1,13 +1,13 @@
--- `stepped::element` meets its contract: the float subtypes, and no others.
+-- `words::element` meets its contract: the float subtypes, and no others.
 use mathlib.Core.Path.{sym, ap, _∙_}
 use Prim.Native.Nat.{ℕ}
 use Rattle.layout.specs.Field.{subtypeOf}
 use Rattle.machine.specs.Machine.{atElement}
-use Rattle.stepped.specs.Steps.{stepped}
-use Rattle.stepped.proofs.Fields.{no-element}
+use Rattle.phase.specs.Steps.{stepped}
+use Rattle.words.proofs.Words.{no-element}
 use borrow.Author.Needs.{needs}
-use Rattle.stepped.proofs.element.Statement.{statement}
-use Rattle.stepped.proofs.element.Tie as tie
+use Rattle.words.proofs.element.Statement.{statement}
+use Rattle.words.proofs.element.Tie as tie
 
 returns : tie.Need-returns
 returns c =

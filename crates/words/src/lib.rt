@@ -1,68 +1,18 @@
-// Where a header or a word is whole: the event that is raised there, and the phase and the depth after it.
+// Where a word is whole, that of a fixed-length field or of a float array: the event that is raised there, and the phase after it.
 ghost use mathlib.Core.Path.{_≡_};
 ghost use Rattle.layout.specs.Limits.{base};
-ghost use Rattle.layout.specs.Field.{wireOf, subtypeOf, T-begin, T-end, known, float, raw};
-ghost use Rattle.machine.specs.Machine.{atWire, atSubtype, atElement};
+ghost use Rattle.layout.specs.Field.{subtypeOf, known, float, raw};
+ghost use Rattle.machine.specs.Machine.{atSubtype, atElement};
 ghost use Rattle.types.specs.Types.{width, rawSort};
-ghost use Rattle.stepped.specs.Steps.{stepped};
+ghost use Rattle.phase.specs.Steps.{stepped};
 use event::Event;
 use phase::Carried;
 use phase::Phase;
+use phase::Stepped;
 use phase::floats;
-use phase::idle;
 use types::FIXLEN_MAX;
 use types::FloatType;
-use types::MAX_DEPTH;
 use types::RawType;
-use varint::Acc;
-
-// What one byte comes to: the phase after it and what is carried along, an event before them, or a broken message.
-pub enum Stepped {
-    On(Phase, Carried),
-    Raised(Event, Phase, Carried),
-    Bad,
-}
-
-// A sequence is opened.
-pub fn sequence_begin(carried: Carried, id: u32) -> Stepped
-    ensures { λ r. ⌜ r ≡ stepped (atWire base (carried .depth) id T-begin) ⌝ }
-{
-    let depth = carried.depth;
-    if (depth as u32) < MAX_DEPTH {
-        Stepped::Raised(Event::Begin(id), idle(), Carried { depth: depth + 1 })
-    } else {
-        Stepped::Bad
-    }
-}
-
-// A sequence is closed; the id that a close carries is ignored.
-pub fn sequence_end(carried: Carried) -> Stepped
-    ensures { λ r. ⌜ r ≡ stepped (atWire base (carried .depth) 0 T-end) ⌝ }
-{
-    let depth = carried.depth;
-    if depth == 0 {
-        Stepped::Bad
-    } else {
-        Stepped::Raised(Event::End, idle(), Carried { depth: depth - 1 })
-    }
-}
-
-// A header is whole.
-pub fn field(carried: Carried, id: u32, wire: u8) -> Stepped
-    ensures { λ r. ⌜ r ≡ stepped (atWire base (carried .depth) id (wireOf wire)) ⌝ }
-{
-    let a = Acc { value: 0, taken: 0 };
-    match wire {
-        0 => Stepped::On(Phase::Unsigned(id, 0, a), carried),
-        1 => Stepped::On(Phase::Signed(id, 0, a), carried),
-        2 => Stepped::On(Phase::Word(id, a), carried),
-        3 => Stepped::On(Phase::UnsignedCount(id, a), carried),
-        4 => Stepped::On(Phase::SignedCount(id, a), carried),
-        5 => Stepped::On(Phase::FloatCount(id, a), carried),
-        6 => sequence_begin(carried, id),
-        _ => sequence_end(carried),
-    }
-}
 
 // A scalar float is announced.
 pub fn scalar(carried: Carried, id: u32, w: FloatType, len: u64) -> Stepped

@@ -1,10 +1,10 @@
--- `stepped::scalar` meets its contract.
+-- `words::scalar` meets its contract.
 use mathlib.Core.Path.{_∙_, sym}
 use Rattle.layout.specs.Limits.{base}
-use Rattle.stepped.proofs.Fields.{scalar-in, scalar-bad}
+use Rattle.words.proofs.Words.{scalar-in, scalar-bad}
 use borrow.Author.Needs.{needs}
-use Rattle.stepped.proofs.scalar.Statement.{statement}
-use Rattle.stepped.proofs.scalar.Tie as tie
+use Rattle.words.proofs.scalar.Statement.{statement}
+use Rattle.words.proofs.scalar.Tie as tie
 
 returns : tie.Need-returns
 returns c =

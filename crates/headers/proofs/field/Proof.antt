@@ -1,14 +1,14 @@
--- `stepped::field` meets its contract: each type by its number.
+-- `headers::field` meets its contract: each type by its number.
 use mathlib.Core.Path.{sym, ap, _∙_}
 use Prim.Native.Nat.{ℕ}
 use Rattle.layout.specs.Limits.{base}
 use Rattle.layout.specs.Field.{Wire, wireOf}
 use Rattle.machine.specs.Machine.{atWire}
-use Rattle.stepped.specs.Steps.{stepped}
-use Rattle.stepped.proofs.Fields.{last-wire}
+use Rattle.phase.specs.Steps.{stepped}
+use Rattle.headers.proofs.Headers.{last-wire}
 use borrow.Author.Needs.{needs}
-use Rattle.stepped.proofs.field.Statement.{statement}
-use Rattle.stepped.proofs.field.Tie as tie
+use Rattle.headers.proofs.field.Statement.{statement}
+use Rattle.headers.proofs.field.Tie as tie
 
 returns : tie.Need-returns
 returns c =

@@ -8,9 +8,9 @@ use Rattle.machine.specs.Machine as machine
 use Rattle.machine.specs.Machine.{on, bad}
 use Rattle.machine.specs.Calls.{State, reading, owing, broke, raisedState}
 use Rattle.event.specs.Event.{declared}
 use Rattle.phase.specs.Phases.{phaseIn, phaseOf, carriedAt, carriedOf}
-use Rattle.stepped.specs.declared.Stepped.{Stepped}
-use Rattle.stepped.specs.declared.Stepped.the-variants.{On, Raised, Bad}
+use Rattle.phase.specs.declared.Stepped.{Stepped}
+use Rattle.phase.specs.declared.Stepped.the-variants.{On, Raised, Bad}
 
 -- what the machine makes of a byte, as this crate's: the first event, and the state with the second one still due
 abbrev pub stepped : machine.Stepped → Stepped

@@ -1,11 +1,12 @@
--- `stepped::sequence_end` meets its contract.
+-- `headers::sequence_end` meets its contract.
 use mathlib.Core.Path.{_∙_}
 use Rattle.layout.specs.Limits.{base}
 use Rattle.event.specs.declared.Event.the-variants.{End}
-use Rattle.stepped.proofs.Fields.{raised, ends, not-open}
+use Rattle.phase.proofs.Steps.{raised}
+use Rattle.headers.proofs.Headers.{ends, not-open}
 use borrow.Author.Needs.{needs}
-use Rattle.stepped.proofs.sequence_end.Statement.{statement}
-use Rattle.stepped.proofs.sequence_end.Tie as tie
+use Rattle.headers.proofs.sequence_end.Statement.{statement}
+use Rattle.headers.proofs.sequence_end.Tie as tie
 
 returns : tie.Need-returns
 returns c = not-open base (c .before .args .carried .depth) 0 (c .if1 .taken)

@@ -1,14 +1,14 @@
--- `stepped::fixlen` meets its contract: each subtype by its number.
+-- `words::fixlen` meets its contract: each subtype by its number.
 use mathlib.Core.Path.{sym, ap, _∙_}
 use Prim.Native.Nat.{ℕ}
 use Rattle.layout.specs.Limits.{base}
 use Rattle.layout.specs.Field.{Subtyped, subtypeOf}
 use Rattle.machine.specs.Machine.{atSubtype}
 use Rattle.types.proofs.Subtypes.{none}
-use Rattle.stepped.specs.Steps.{stepped}
+use Rattle.phase.specs.Steps.{stepped}
 use borrow.Author.Needs.{needs}
-use Rattle.stepped.proofs.fixlen.Statement.{statement}
-use Rattle.stepped.proofs.fixlen.Tie as tie
+use Rattle.words.proofs.fixlen.Statement.{statement}
+use Rattle.words.proofs.fixlen.Tie as tie
 
 returns : tie.Need-returns
 returns c =

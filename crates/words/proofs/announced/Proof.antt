@@ -1,9 +1,9 @@
--- `stepped::announced` meets its contract.
+-- `words::announced` meets its contract.
 use Rattle.layout.specs.Limits.{base}
-use Rattle.stepped.proofs.Fields.{payload-bad, payload-empty, payload-in}
+use Rattle.words.proofs.Words.{payload-bad, payload-empty, payload-in}
 use borrow.Author.Needs.{needs}
-use Rattle.stepped.proofs.announced.Statement.{statement}
-use Rattle.stepped.proofs.announced.Tie as tie
+use Rattle.words.proofs.announced.Statement.{statement}
+use Rattle.words.proofs.announced.Tie as tie
 
 returns : tie.Need-returns
 returns c =

@@ -1,8 +1,7 @@
-// The library in three short functions, which README quotes: a message read chunk by chunk, one written through a small buffer, one
-// copied. Each hands its state back, from which the next chunk or field goes on.
+// The library in two short functions, which README quotes: a message read chunk by chunk, and one written through a small buffer. Each
+// hands its state back, from which the next chunk or field goes on. (The program `manifest` copies one.)
 mod show;
 
-use copier::Copier;
 use istream::IStream;
 use ostream::Count;
 use ostream::OStream;
@@ -57,34 +56,6 @@ fn drain(writer: OStream, buf: &[u8]) -> OStream {
     drained.stream
 }
 
-// A chunk copied: every field goes out in its shortest form. At "full" the buffer is drained, and the chunk's rest is next.
-fn copy(start: Copier, chunk: &[u8], buf: &mut [u8]) -> Copier {
-    let mut copier = start;
-    let mut from: usize = 0;
-    let mut turns = u64::MAX;
-    while 0 < turns {
-        let copied = copier.feed(show::rest(chunk, from), buf);
-        let answer = copied.answer;
-        copier = copied.copier;
-        from = std::num::wrapping_add_usize(from, copied.used);
-        let copier::Answer::Full = answer else {
-            return copier;
-        };
-        copier = send(copier, buf);
-        turns -= 1;
-    }
-    copier
-}
-
-fn send(copier: Copier, buf: &[u8]) -> Copier {
-    let drained = copier.flush(buf);
-    let answer = drained.answer;
-    if let Count::Bytes(n) = answer {
-        show::bytes(buf, n);
-    }
-    drained.copier
-}
-
 // Number 300 with id 1, spelled with two bytes more than it takes, and a string, in two chunks.
 fn main() {
     show::title(b"read");
@@ -95,8 +66,4 @@ fn main() {
     let opened = OStream::with_flush(&buf, 0);
     let writer = write(opened.stream, &mut buf, 1, 300);
     drain(write(writer, &mut buf, 2, 7), &buf);
-    show::title(b"copy");
-    let begun = Copier::new(&buf, 0);
-    let copier = copy(begun.copier, b"\x88\x00\xac\x82", &mut buf);
-    send(copy(copier, b"\x00\x12\x22Helo", &mut buf), &buf);
 }

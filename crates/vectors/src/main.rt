@@ -6,6 +6,13 @@ use calls::call;
 use check::same;
 use libc::STDIN_FILENO;
 use libc::STDOUT_FILENO;
+use rows::UNKNOWN;
+use rows::cleared;
+use rows::code;
+use rows::same_bytes;
+use rows::same_words;
+use rows::set;
+use rows::unnamed;
 use script::after;
 use script::end_of;
 use script::first;
@@ -15,15 +22,12 @@ use script::word;
 use std::num::wrapping_add_u64;
 use trace::gatherer::trace_part;
 
-// Calls are numbered by their place in `code`. These rows make none: a buffer is lent, a fresh desk begins; and one takes a part.
+// Rows that make no call: a buffer is lent, a fresh desk begins; and one takes a part.
 const BUFFER: u32 = 0;
 
 const PART: u32 = 23;
 
 const FRESH: u32 = 28;
-
-// No call.
-const UNKNOWN: u32 = 29;
 
 // A block of the script: no row goes over its end.
 const BLOCK: usize = 65536;
@@ -37,92 +41,7 @@ struct Run {
     differ: u64,
 }
 
-// ---- the words of a row
-
-fn code(name: &[u8]) -> u32 {
-    let mut k: u32 = 0;
-    while k < UNKNOWN {
-        let known = word(
-            b"buffer unsigned signed boolean fixlen fp32 fp64 str blob unsigneds signeds fp32s fp64s begin end keep flush set fp32_bits fp64_bits open read gather part copier copy copied copy_set fresh",
-            k,
-        );
-        if same(known, name) {
-            return k;
-        }
-        k += 1;
-    }
-    UNKNOWN
-}
-
-fn digit(b: u8) -> u64 {
-    if b'0' <= b && b <= b'9' {
-        (b - b'0') as u64
-    } else {
-        0
-    }
-}
-
-fn number(text: &[u8]) -> u64 {
-    let mut n: u64 = 0;
-    let mut i: usize = 0;
-    while i < text.len() {
-        n = wrapping_add_u64(wrapping_add_u64(n << 3, n << 1), digit(text[i]));
-        i += 1;
-    }
-    n
-}
-
-// A letter and a number: the desk's word of that letter, by the order of compare/PROTOCOL.md. Other words of a row set nothing.
-fn put(mut desk: [u64; 32], token: &[u8]) -> [u64; 32] {
-    if token.len() == 0 {
-        return desk;
-    }
-    let i = end_of(b"QRKICTVPDHABEFGJLMONSUWanikvoftp", 0, token[0]);
-    if i < 32 {
-        desk[i] = number(&token[1..]);
-    }
-    desk
-}
-
-fn set(text: &[u8], start: [u64; 32]) -> [u64; 32] {
-    let mut desk = start;
-    let mut from: usize = 0;
-    while from < text.len() {
-        let end = end_of(text, from, b' ');
-        let next = put(desk, &text[from..end]);
-        desk = next;
-        from = end + 1;
-    }
-    desk
-}
-
-// ---- what a call left
-
-fn same_words(a: [u64; 32], b: [u64; 32]) -> bool {
-    let mut i: usize = 0;
-    while i < 32 {
-        if a[i] != b[i] {
-            return false;
-        }
-        i += 1;
-    }
-    true
-}
-
-// Words that a row doesn't name are as they were at the call; with `~`, they are free.
-fn unnamed(told: &[u8], before: [u64; 32], after: [u64; 32]) -> [u64; 32] {
-    if end_of(told, 0, b'~') < told.len() {
-        return after;
-    }
-    before
-}
-
-// The buffer begins with these bytes, and is behind them as it was.
-fn same_bytes(hex: &[u8], before: [u8; 256], after: [u8; 256]) -> bool {
-    let mut want = before;
-    unhex(hex, &mut want);
-    same(&want, &after)
-}
+// ---- a call
 
 fn counted(mut run: Run, right: bool, row: &[u8]) -> Run {
     run.calls = wrapping_add_u64(run.calls, 1);
@@ -133,18 +52,6 @@ fn counted(mut run: Run, right: bool, row: &[u8]) -> Run {
     say(row);
     say(b"\n");
     run
-}
-
-// ---- a row
-
-// A row's numbers and its answer are its own: these words begin at zero.
-fn cleared(mut desk: [u64; 32]) -> [u64; 32] {
-    let mut i: usize = 23;
-    while i < 32 {
-        desk[i] = 0;
-        i += 1;
-    }
-    desk
 }
 
 // The call, with the bytes behind `<`.
@@ -224,7 +131,7 @@ fn row(run: Run, text: &[u8]) -> Run {
     }
 }
 
-fn rows(start: Run, script: &[u8]) -> Run {
+fn all_rows(start: Run, script: &[u8]) -> Run {
     let mut run = start;
     let mut i: usize = 0;
     while i < script.len() {
@@ -253,7 +160,7 @@ fn blocks() -> Run {
     let mut turns = u64::MAX;
     while 0 < turns {
         let n = io::read_full(STDIN_FILENO, &mut block);
-        run = rows(run, &block[0..n]);
+        run = all_rows(run, &block[0..n]);
         if n < BLOCK {
             return run;
         }

@@ -1,8 +1,8 @@
--- `vectors::same_words` is safe and ends: `i` counts to 32.
+-- `rows::same_words` is safe and ends: `i` counts to 32.
 use borrow.Author.Needs.{needs}
 use Prim.Native.Nat.{_-_, _≤_}
-use Rattle.vectors.proofs.same_words.Statement.{statement}
-use Rattle.vectors.proofs.same_words.Tie as tie
+use Rattle.rows.proofs.same_words.Statement.{statement}
+use Rattle.rows.proofs.same_words.Tie as tie
 
 abbrev Inv-loop : tie.InvT-loop
 Inv-loop a b i₀ i = i ≤ 32

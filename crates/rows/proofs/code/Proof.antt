@@ -1,8 +1,8 @@
--- `vectors::code` is safe and ends: `k` counts to 29.
+-- `rows::code` is safe and ends: `k` counts to 29.
 use borrow.Author.Needs.{needs}
 use Prim.Native.Nat.{_-_, _≤_}
-use Rattle.vectors.proofs.code.Statement.{statement}
-use Rattle.vectors.proofs.code.Tie as tie
+use Rattle.rows.proofs.code.Statement.{statement}
+use Rattle.rows.proofs.code.Tie as tie
 
 abbrev Inv-loop : tie.InvT-loop
 Inv-loop name k₀ t4 k = k ≤ 29

@@ -1,8 +1,8 @@
--- `vectors::cleared` is safe and ends: `i` counts to 32.
+-- `rows::cleared` is safe and ends: `i` counts to 32.
 use borrow.Author.Needs.{needs}
 use Prim.Native.Nat.{_-_, _≤_}
-use Rattle.vectors.proofs.cleared.Statement.{statement}
-use Rattle.vectors.proofs.cleared.Tie as tie
+use Rattle.rows.proofs.cleared.Statement.{statement}
+use Rattle.rows.proofs.cleared.Tie as tie
 
 abbrev Inv-loop : tie.InvT-loop
 Inv-loop desk₀ i₀ desk i = i ≤ 32

@@ -1,9 +1,9 @@
--- `vectors::number` is safe and ends: `i` counts to the length of `text`.
+-- `rows::number` is safe and ends: `i` counts to the length of `text`.
 use borrow.Author.Needs.{needs}
 use lib.ListN.{length}
 use Prim.Native.Nat.{_-_, _≤_}
-use Rattle.vectors.proofs.number.Statement.{statement}
-use Rattle.vectors.proofs.number.Tie as tie
+use Rattle.rows.proofs.number.Statement.{statement}
+use Rattle.rows.proofs.number.Tie as tie
 
 abbrev Inv-loop : tie.InvT-loop
 Inv-loop text n₀ i₀ n i = i ≤ length text

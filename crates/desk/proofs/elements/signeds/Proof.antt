@@ -1,17 +1,17 @@
--- `vectors::calls::short_elements` is safe and ends: `i` counts to 64.
+-- `desk::elements::signeds` is safe and ends: `i` counts to 32.
 use borrow.Author.Needs.{needs}
 use Prim.Native.Nat.{_-_, _≤_}
-use Rattle.vectors.proofs.calls.short_elements.Statement.{statement}
-use Rattle.vectors.proofs.calls.short_elements.Tie as tie
+use Rattle.desk.proofs.elements.signeds.Statement.{statement}
+use Rattle.desk.proofs.elements.signeds.Tie as tie
 
 abbrev Inv-loop : tie.InvT-loop
-Inv-loop «data» elements₀ i₀ elements i = i ≤ 64
+Inv-loop «data» elements₀ i₀ elements i = i ≤ 32
 
 abbrev μ-loop : tie.MeasureT-loop
-μ-loop «data» elements₀ i₀ elements i = 64 - i
+μ-loop «data» elements₀ i₀ elements i = 32 - i
 
-pub short-elements-spec : {M : Type 1} → statement M
-short-elements-spec =
+pub signeds-spec : {M : Type 1} → statement M
+signeds-spec =
     tie.close
     (tie.spec
     Inv-loop μ-loop (λ c. search needs) (λ c. search needs) (λ c κs. search needs) (λ c κs. search needs)

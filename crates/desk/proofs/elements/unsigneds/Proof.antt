@@ -1,8 +1,8 @@
--- `vectors::calls::unsigned_elements` is safe and ends: `i` counts to 32.
+-- `desk::elements::unsigneds` is safe and ends: `i` counts to 32.
 use borrow.Author.Needs.{needs}
 use Prim.Native.Nat.{_-_, _≤_}
-use Rattle.vectors.proofs.calls.unsigned_elements.Statement.{statement}
-use Rattle.vectors.proofs.calls.unsigned_elements.Tie as tie
+use Rattle.desk.proofs.elements.unsigneds.Statement.{statement}
+use Rattle.desk.proofs.elements.unsigneds.Tie as tie
 
 abbrev Inv-loop : tie.InvT-loop
 Inv-loop «data» elements₀ i₀ elements i = i ≤ 32
@@ -10,8 +10,8 @@ Inv-loop «data» elements₀ i₀ elements i = i ≤ 32
 abbrev μ-loop : tie.MeasureT-loop
 μ-loop «data» elements₀ i₀ elements i = 32 - i
 
-pub unsigned-elements-spec : {M : Type 1} → statement M
-unsigned-elements-spec =
+pub unsigneds-spec : {M : Type 1} → statement M
+unsigneds-spec =
     tie.close
     (tie.spec
     Inv-loop μ-loop (λ c. search needs) (λ c. search needs) (λ c κs. search needs) (λ c. search needs)

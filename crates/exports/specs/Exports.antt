@@ -14,7 +14,7 @@ number complete = pos 0
 number incomplete = pos 1
 number (brokenAt n) = negsuc 1
 
--- what a call that asks for more than the verdict answers of a message that isn't complete; 0 of one that is
+-- what a call that asks for more than the verdict answers of a message that isn't complete, "-2; then -100 incomplete"; 0 of one that is
 unfoldable pub refused : Verdict → ℤ
 refused complete = pos 0
 refused incomplete = negsuc 99
@@ -46,5 +46,5 @@ filled m out =
 -- "-2; then -100 incomplete; then -101": the last is `filled`'s. "-2 and -100 write nothing."
 unfoldable pub copied : Verdict → List ℕ → List ℕ → Copied
 copied complete m out = filled m out
-copied incomplete m out = resultOf (negsuc 99) out
-copied (brokenAt n) m out = resultOf (negsuc 1) out
+copied incomplete m out = resultOf (refused incomplete) out
+copied (brokenAt n) m out = resultOf (refused (brokenAt n)) out

@@ -4,7 +4,7 @@ use mathlib.Core.Path.{_≡_, refl}
 use mathlib.Core.List.{List, [], _∷_, _++_}
 use lib.IntN.{ℤ, pos, negsuc}
 use Rattle.layout.specs.Message.{Verdict, complete, incomplete, brokenAt}
-use Rattle.exports.specs.Exports.{number, Copied, resultOf, filled, copied}
+use Rattle.exports.specs.Exports.{number, refused, Copied, resultOf, filled, copied}
 
 -- a row: the verdict, the plain copy and the output before; then the verdict's number, and what the copy answers and leaves
 pub record Row : Type 0 where
@@ -52,5 +52,5 @@ table =
     ∷ []
 
 pub worked : saidAll table ≡ table
-unfolding number filled copied said saidAll
+unfolding number refused filled copied said saidAll
 worked = refl

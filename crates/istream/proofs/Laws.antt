@@ -27,7 +27,7 @@ use Rattle.read_at_once.specs.declared.Once.the-variants.{Done}
 use Rattle.read_at_once.specs.AtOnce.{StopsAt, RightFrom}
 use Rattle.call_end.specs.declared.CallEnd.{CallEnd}
 use Rattle.call_end.specs.CallEnd.{endIn, refused}
-use Rattle.read_slowly.specs.Slowly.{wentFrom, endOf}
+use Rattle.read_slowly.specs.Slowly.{endFrom, endOf}
 use Rattle.istream.specs.Stream.{stateOf, streamIn, soundStream, answerIn, fedIn, ifSound, still, fedFrom, fedOf}
 use Rattle.istream.specs.Private.{fedAt, fedBy}
 use Rattle.phase.specs.Sound.{SoundState, AtBytes, Kept}
@@ -89,12 +89,12 @@ fed-slowly L s c h = go (stateOf s) refl
         simp (t, sym (sound-in L s (s .phase) h refl) ∙ t) (fed-by (call L st c) ∙ ap (λ (x : State). fedIn (call L x c)) (sym e))
     picked false st e t = simp (t, sym (sound-in L s (s .phase) h refl) ∙ t)
 
-    go : (st : State) → stateOf s ≡ st → fedBy (wentFrom L (stateOf s) (s .phase) (s .carried) c) ≡ fedFrom L (stateOf s) s c
+    go : (st : State) → stateOf s ≡ st → fedBy (endFrom L (stateOf s) (s .phase) (s .carried) c) ≡ fedFrom L (stateOf s) s c
     go (reading d p) e =
-        ap (λ (x : State). fedBy (wentFrom L x (s .phase) (s .carried) c)) e ∙ picked (soundPhase L (s .phase)) (reading d p) e refl ∙ sym (ap (λ (x : State). fedFrom L x s c) e)
+        ap (λ (x : State). fedBy (endFrom L x (s .phase) (s .carried) c)) e ∙ picked (soundPhase L (s .phase)) (reading d p) e refl ∙ sym (ap (λ (x : State). fedFrom L x s c) e)
     go (owing d id r) e =
-        ap (λ (x : State). fedBy (wentFrom L x (s .phase) (s .carried) c)) e ∙ picked (soundPhase L (s .phase)) (owing d id r) e refl ∙ sym (ap (λ (x : State). fedFrom L x s c) e)
-    go broke e = ap (λ (x : State). fedBy (wentFrom L x (s .phase) (s .carried) c)) e ∙ sym (ap (λ (x : State). fedFrom L x s c) e)
+        ap (λ (x : State). fedBy (endFrom L x (s .phase) (s .carried) c)) e ∙ picked (soundPhase L (s .phase)) (owing d id r) e refl ∙ sym (ap (λ (x : State). fedFrom L x s c) e)
+    go broke e = ap (λ (x : State). fedBy (endFrom L x (s .phase) (s .carried) c)) e ∙ sym (ap (λ (x : State). fedFrom L x s c) e)
 
 -- a payload under way
 pub payload-owed : (L : Limits) (id : ℕ) (r : RawType) (total o : ℕ) → soundPhase L (Payload id r total o) ≡ true → o < total

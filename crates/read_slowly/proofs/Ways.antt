@@ -19,25 +19,25 @@ use Rattle.phase.specs.Phases.{stateAt, soundPhase, phaseIn, carriedAt}
 use Rattle.phase.proofs.Phases.{Live, both, broken-sound}
 use Rattle.call_end.specs.declared.Answer.the-variants.{Event as Happened}
 use Rattle.call_end.specs.CallEnd.{endIn, endAt, refused}
-use Rattle.read_slowly.specs.Slowly.{wentFrom, endOf}
+use Rattle.read_slowly.specs.Slowly.{endFrom, endOf}
 
 pub call-end-sound : (L : Limits) (p : Phase) (k : Carried) (st : State) (c : List ℕ) → stateAt (k .depth) p ≡ st → Live st → soundPhase L p ≡ true → endIn (call L st c) ≡ endOf L p k c
 unfolding endOf
-call-end-sound L p k (reading d q) c e l t = sym (ap (λ (x : State). wentFrom L x p k c) e ∙ simp t)
-call-end-sound L p k (owing d id r) c e l t = sym (ap (λ (x : State). wentFrom L x p k c) e ∙ simp t)
+call-end-sound L p k (reading d q) c e l t = sym (ap (λ (x : State). endFrom L x p k c) e ∙ simp t)
+call-end-sound L p k (owing d id r) c e l t = sym (ap (λ (x : State). endFrom L x p k c) e ∙ simp t)
 call-end-sound L p k broke c e l t = absurd l
 
 pub call-end-broken : (L : Limits) (p : Phase) (k : Carried) (c : List ℕ) → p ≡ Broken → refused 2 p k ≡ endOf L p k c
 unfolding endOf
-call-end-broken L p k c e = sym (ap (λ (q : Phase). wentFrom L (stateAt (k .depth) q) p k c) e)
+call-end-broken L p k c e = sym (ap (λ (q : Phase). endFrom L (stateAt (k .depth) q) p k c) e)
 
 pub call-end-unsound : (L : Limits) (p : Phase) (k : Carried) (c : List ℕ) → k .depth ≤ L .depth → soundPhase L p ≡ false → refused 1 p k ≡ endOf L p k c
 unfolding endOf
 call-end-unsound L p k c h t = go (stateAt (k .depth) p) refl
   where
-    go : (st : State) → stateAt (k .depth) p ≡ st → refused 1 p k ≡ wentFrom L (stateAt (k .depth) p) p k c
-    go (reading d q) e = sym (ap (λ (x : State). wentFrom L x p k c) e ∙ simp t)
-    go (owing d id r) e = sym (ap (λ (x : State). wentFrom L x p k c) e ∙ simp t)
+    go : (st : State) → stateAt (k .depth) p ≡ st → refused 1 p k ≡ endFrom L (stateAt (k .depth) p) p k c
+    go (reading d q) e = sym (ap (λ (x : State). endFrom L x p k c) e ∙ simp t)
+    go (owing d id r) e = sym (ap (λ (x : State). endFrom L x p k c) e ∙ simp t)
     go broke e = absurd (true≢false (sym (both (leb (k .depth) (L .depth)) (soundPhase L p) (broken-sound L (k .depth) p h e) .1) ∙ t))
 
 -- an empty payload's piece

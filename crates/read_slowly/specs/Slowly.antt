@@ -10,10 +10,10 @@ use Rattle.phase.specs.Phases.{stateAt, soundPhase}
 use Rattle.call_end.specs.declared.CallEnd.{CallEnd}
 use Rattle.call_end.specs.CallEnd.{endIn, refused}
 
-abbrev pub wentFrom : Limits → State → Phase → Carried → List ℕ → CallEnd
-wentFrom L (reading d q) p k c = pick (soundPhase L p) (endIn (call L (reading d q) c)) (refused 1 p k)
-wentFrom L (owing d id r) p k c = pick (soundPhase L p) (endIn (call L (owing d id r) c)) (refused 1 p k)
-wentFrom L broke p k c = refused 2 p k
+abbrev pub endFrom : Limits → State → Phase → Carried → List ℕ → CallEnd
+endFrom L (reading d q) p k c = pick (soundPhase L p) (endIn (call L (reading d q) c)) (refused 1 p k)
+endFrom L (owing d id r) p k c = pick (soundPhase L p) (endIn (call L (owing d id r) c)) (refused 1 p k)
+endFrom L broke p k c = refused 2 p k
 
 unfoldable pub endOf : Limits → Phase → Carried → List ℕ → CallEnd
-endOf L p k c = wentFrom L (stateAt (k .depth) p) p k c
+endOf L p k c = endFrom L (stateAt (k .depth) p) p k c

@@ -55,11 +55,15 @@ pub none-ahead : (s : IStream) (c : List ℕ) → soundStream base s ≡ true �
 none-ahead s c t l = record { few = omega arith; same = none-as-is base (stateOf s) (s .carried .depth); sound = t; live = l }
 
 -- whole fields
-pub fields-ahead : (d e n : ℕ) (c : List ℕ) → e ≤ base .depth → n ≤ length c → own.OwnFields base d (take n c) e → Ahead (streamIn (reading d idle)) c n (streamIn (reading e idle))
+fields-ahead : (d e n : ℕ) (c : List ℕ) → e ≤ base .depth → n ≤ length c → own.OwnFields base d (take n c) e → Ahead (streamIn (reading d idle)) c n (streamIn (reading e idle))
 fields-ahead d e n c h few a =
     ahead (reading d idle) (reading e idle) c n few
     (subst (λ (bs : List ℕ). AsIs base (reading d idle) d bs (reading e idle) e) (sym (a .bytes)) (λ pos r b f. fields-as-is base fit-base (a .fields) d e pos r b (a .legal) (a .balanced) f))
     (h, sound-start base) tt
+
+pub fields-behind : (d e n : ℕ) (c : List ℕ) (b : Block) → b ≡ record { len = n; reader = streamIn (reading e idle) } → e ≤ base .depth → n ≤ length c → own.OwnFields base d (take n c) e
+    → Ahead (streamIn (reading d idle)) c (b .len) (b .reader)
+fields-behind d e n c b k h few a = subst (λ (b : Block). Ahead (streamIn (reading d idle)) c (b .len) (b .reader)) (sym k) (fields-ahead d e n c h few a)
 
 -- ---- elements, of which P m is the phase with m left
 

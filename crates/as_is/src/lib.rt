@@ -12,6 +12,7 @@ ghost use Rattle.phase.proofs.Phases.{Live};
 ghost use Rattle.istream.specs.Stream.{stateOf, streamIn, soundStream};
 ghost use Rattle.as_is.specs.Ahead.{Ahead};
 use istream::IStream;
+use own::Run;
 use own::elements;
 use own::fields;
 use phase::Carried;
@@ -34,10 +35,10 @@ fn none(reader: IStream) -> Block
     Block { len: 0, reader }
 }
 
-fn whole_fields(carried: Carried, bytes: &[u8]) -> Block
-    ensures { λ r. ⌜ Ahead (streamIn (reading (carried .depth) idle)) (now (bytes .entry)) (r .len) (r .reader) ⌝ }
+// Behind whole fields the reader stands between fields.
+fn behind(run: Run) -> Block
+    ensures { λ r. ⌜ r ≡ record { len = run .len; reader = streamIn (reading (run .depth) idle) } ⌝ }
 {
-    let run = fields(bytes, carried.depth);
     let phase = idle();
     Block {
         len: run.len,
@@ -46,6 +47,17 @@ fn whole_fields(carried: Carried, bytes: &[u8]) -> Block
             carried: Carried { depth: run.depth },
         },
     }
+}
+
+// `fields` stands at two places, and so out of line (docs/PERFORMANCE.md).
+fn whole_fields(carried: Carried, bytes: &[u8]) -> Block
+    ensures { λ r. ⌜ Ahead (streamIn (reading (carried .depth) idle)) (now (bytes .entry)) (r .len) (r .reader) ⌝ }
+{
+    let depth = carried.depth;
+    if depth == 0 {
+        return behind(fields(bytes, 0));
+    }
+    behind(fields(bytes, depth))
 }
 
 fn unsigned_elements(carried: Carried, id: u32, left: u32, bytes: &[u8]) -> Block

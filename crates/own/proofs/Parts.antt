@@ -9,7 +9,7 @@ use Rattle.layout.specs.Varint.{shortest}
 use Rattle.layout.specs.Field.{Width, bytesOf, subtypeNumber, float, string, blob, T-unsigned, T-signed, T-fixlen, T-unsigneds, T-signeds, T-floats}
 use Rattle.shortest.specs.Own.{OwnFields, Numbers, Number, Body, Stretch, Ends}
 use Rattle.shortest.proofs.Spans.{here, stretch-then, all-bytes, reaches, found-at, ends-bytes, ends-then}
-use Rattle.shortest.proofs.Varints.{one}
+use Rattle.shortest.proofs.Varints.{one, one-value}
 use Rattle.own.proofs.Runs.{fields-none, fields-append, numbers-none, numbers-one, numbers-append}
 use Rattle.own.proofs.Bodies.{unsigned-body, signed-body, float-body, raw-body, unsigneds-body, signeds-body, floats-body, with-header, opens, closes}
 
@@ -80,6 +80,16 @@ small-ends t at h l s g =
     subst (λ (x : List ℕ). OwnFields base d (x ++ ys) d) (sym p)
     (scalar-field (getD t at 0) d ys (omega arith) s (getD t (at + 1) 0, omega arith, q)))))
 
+-- such scalars in a row
+abbrev pub Smalls : List ℕ → ℕ → ℕ → Type 0
+Smalls t at i = (i ≤ length t) × Stretch t at i (λ bs. (d : ℕ) → OwnFields base d bs d)
+
+pub smalls-start : (t : List ℕ) (at : ℕ) → at ≤ length t → Smalls t at at
+smalls-start t at h = (h, here at (λ d. fields-none base d))
+
+pub smalls-next : {t : List ℕ} {at i j : ℕ} → Smalls t at i → i < j → Ends t i (λ bs. (d : ℕ) → OwnFields base d bs d) j → Smalls t at j
+smalls-next r l e = (e .inside, stretch-then (r .1) (e .found (omega arith)) (λ xs ys p q d. fields-append base d d d xs ys (p d) (q d)))
+
 -- the two types of arrays of numbers
 pub array-field : (h d : ℕ) (bs : List ℕ) → h / 8 ≤ base .id → (h % 8 ≡ 2 → ⊥) → 2 ≤ h % 8 → h % 8 < 5 → Body T-unsigneds bs × Body T-signeds bs → OwnFields base d (shortest h ++ bs) d
 array-field h d bs i a g l b = go (h % 8) refl a g l
@@ -103,6 +113,14 @@ close-ends t at h d p e l = reaches p (here at (closes h d e l))
 pub field-ends : {t : List ℕ} {at i r : ℕ} (h d f : ℕ) → Ends t at (λ bs. (h / 8 ≤ base .id) × (bs ≡ shortest h)) i → (i ≡ 0 → ⊥) →
     Ends t i (λ bs. OwnFields base d (shortest h ++ bs) f) r → Ends t at (λ bs. OwnFields base d bs f) r
 field-ends h d f e n b = ends-then (found-at e n) b (λ xs ys p q. subst (λ (x : List ℕ). OwnFields base d (x ++ ys) f) (sym (p .1)) q)
+
+-- an open or a close of one byte
+module _ (t : List ℕ) (at d : ℕ) (l : at < length t) (s : getD t at 0 < 128) where
+  pub small-open : getD t at 0 % 8 ≡ 6 → d < base .depth → Ends t at (λ bs. OwnFields base d bs (d + 1)) (at + 1)
+  small-open e h = field-ends (getD t at 0) d (d + 1) (one-value t at l s) (λ z. omega arith) (open-ends t (at + 1) (getD t at 0) d (omega arith) (omega arith) e h)
+
+  pub small-close : getD t at 0 ≡ 7 → 0 < d → Ends t at (λ bs. OwnFields base d bs (d - 1)) (at + 1)
+  small-close e h = field-ends (getD t at 0) d (d - 1) (one-value t at l s) (λ z. omega arith) (close-ends t (at + 1) (getD t at 0) d (omega arith) e h)
 
 -- ---- the run of fields
 

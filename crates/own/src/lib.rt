@@ -352,12 +352,63 @@ fn small_at(t: &[u8], at: usize) -> usize
     0
 }
 
-fn field_at(t: &[u8], at: usize, depth: u8) -> Next
+// Such scalars in a row: the place after the last of them. Most fields are no longer, and their loop is short by itself.
+fn smalls_at(t: &[u8], at: usize) -> usize
+    requires { ⌜ at ≤ length (now t) ⌝ }
+    ensures { λ r. ⌜ (r ≤ length (now (t .entry))) × Stretch (now (t .entry)) at r (λ bs. (d : ℕ) → OwnFields base d bs d) ⌝ }
+{
+    let mut i = at;
+    while i < t.len() {
+        let j = small_at(t, i);
+        if j <= i {
+            return i;
+        }
+        i = j;
+    }
+    i
+}
+
+// An open of one byte, or a close.
+fn sequence_at(t: &[u8], at: usize, depth: u8) -> Next
     ensures { λ r. ⌜ Ends (now (t .entry)) at (λ bs. OwnFields base depth bs (r .depth)) (r .at) ⌝ }
 {
-    let small = small_at(t, at);
-    if 0 < small {
+    if at < t.len() {
+        let h = t[at];
+        if h < 128 {
+            if h % 8 == 6 {
+                if depth < MAX_DEPTH as u8 {
+                    return Next {
+                        at: at + 1,
+                        depth: depth + 1,
+                    };
+                }
+            }
+            if is_close(h as u64) {
+                if 0 < depth {
+                    return Next {
+                        at: at + 1,
+                        depth: depth - 1,
+                    };
+                }
+            }
+        }
+    }
+    Next { at: 0, depth }
+}
+
+// One field, or more where they are small.
+fn field_at(t: &[u8], at: usize, depth: u8) -> Next
+    requires { ⌜ at ≤ length (now t) ⌝ }
+    ensures { λ r. ⌜ Ends (now (t .entry)) at (λ bs. OwnFields base depth bs (r .depth)) (r .at) ⌝ }
+{
+    let small = smalls_at(t, at);
+    if at < small {
         return Next { at: small, depth };
+    }
+    let sequence = sequence_at(t, at, depth);
+    let next = sequence.at;
+    if 0 < next {
+        return sequence;
     }
     let header = header_at(t, at);
     let h = header.value;

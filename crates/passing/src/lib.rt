@@ -127,6 +127,19 @@ pub fn skip_at(t: &[u8], at: usize) -> Land
     Land::Short
 }
 
+// Most scalars are one byte.
+pub fn scalar_at(t: &[u8], at: usize) -> Land
+    requires { ⌜ at ≤ length (now t) ⌝ }
+    ensures { λ r. ⌜ Passes (now (t .entry)) at (λ d. ends d (varint base (drop at (now (t .entry))))) r ⌝ }
+{
+    if at < t.len() {
+        if t[at] < 128 {
+            return Land::At(at + 1);
+        }
+    }
+    skip_at(t, at)
+}
+
 // Most elements are one byte or two.
 pub fn element_at(t: &[u8], at: usize) -> Land
     requires { ⌜ at ≤ length (now t) ⌝ }

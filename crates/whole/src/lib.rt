@@ -16,7 +16,7 @@ use passing::Found;
 use passing::Land;
 use passing::header_at;
 use passing::no_value;
-use passing::skip_at;
+use passing::scalar_at;
 use types::MAX_DEPTH;
 
 // What a message comes to; a broken one with the number of bytes up to the offending one, which is counted.
@@ -49,7 +49,7 @@ fn body_at(t: &[u8], at: usize, wire: u64, depth: u32) -> Next
     ensures { λ r. ⌜ ((id : ℕ) → Goes (now (t .entry)) at (afterBody id (wireOf wire) (drop at (now (t .entry))) depth) r) ⌝ }
 {
     match wire {
-        0 | 1 => at_depth(skip_at(t, at), depth),
+        0 | 1 => at_depth(scalar_at(t, at), depth),
         2 => at_depth(fixlen_at(t, at), depth),
         3 | 4 => at_depth(array_at(t, at), depth),
         5 => at_depth(float_array_at(t, at), depth),

@@ -1,21 +1,32 @@
 -- `as_is::whole_fields`: whole fields go as they came.
 use native.Mathlib.Omega.{arith}
+use Prim.Native.Nat.{ℕ}
+use mathlib.Core.Path.{sym, subst}
 use mir.Syntax.{w8}
 use mir.Val.{Fits}
-use Rattle.as_is.proofs.Laws.{fields-ahead, by-phase}
+use denote.Ref.{now}
+use Rattle.machine.specs.Machine.{idle}
+use Rattle.machine.specs.Calls.{reading}
+use Rattle.istream.specs.Stream.{streamIn}
+use Rattle.as_is.specs.Ahead.{Ahead}
+use Rattle.as_is.proofs.Laws.{fields-behind}
 use borrow.Author.Needs.{needs}
 use Rattle.as_is.proofs.whole_fields.Statement.{statement}
 use Rattle.as_is.proofs.whole_fields.Tie as tie
-use Rattle.as_is.proofs.whole_fields.Reads as reads
-use Rattle.as_is.proofs.whole_fields.Lts as lts
-use Rattle.own.proofs.fields.Reads as fields-reads
-use Rattle.phase.proofs.idle.Reads as idle-reads
 
 returns : tie.Need-returns
 returns c =
-    let f : Fits w8 (c .before .fields .result .depth) = search needs in
-    by-phase _ _ _ _ _ _ (c .idle .ensures) (fields-ahead _ _ _ _ (omega (arith, f .fits)) (c .before .fields .ensures .0) (c .before .fields .ensures .1))
+    let f = c .before .fields in
+    let s : Fits w8 (f .result .depth) = search needs in
+    let a = fields-behind 0 _ _ _ _ (c .behind .ensures) (omega (arith, s .fits)) (f .ensures .0) (f .ensures .1) in
+    subst (λ (d : ℕ). Ahead (streamIn (reading d idle)) (now (c .before .before .before .before .args .bytes)) (c .behind .result .len) (c .behind .result .reader)) (sym (c .before .before .if1 .taken)) a
+
+returns-2 : tie.Need-returns-2
+returns-2 c =
+    let f = c .before .fields2 in
+    let s : Fits w8 (f .result .depth) = search needs in
+    fields-behind _ _ _ _ _ (c .behind2 .ensures) (omega (arith, s .fits)) (f .ensures .0) (f .ensures .1)
 
 pub whole-fields-spec : {M : Type 1} → statement M
 whole-fields-spec =
-    tie.close (tie.spec (λ c κs. search needs) (λ c κs. search needs) returns)
+    tie.close (tie.spec (λ c κs. search needs) (λ c κs. search needs) returns (λ c κs. search needs) (λ c κs. search needs) returns-2)

@@ -19,7 +19,7 @@ returns-4 : tie.Need-returns-4
 returns-4 c id = at-wire _ id T-begin _ _ (ap wireOf (c .before .match .keys3)) (opens-not _ id (c .before .before .before .pre) (c .if1 .left))
 
 returns-5 : tie.Need-returns-5
-returns-5 c id = deepens _ _ _ _ (passes-as (λ d. scalar-wire _ id _ d (c .before .before .if2 .taken)) (c .before .skip-at .ensures)) (c .at-depth3 .ensures)
+returns-5 c id = deepens _ _ _ _ (passes-as (λ d. scalar-wire _ id _ d (c .before .before .if2 .taken)) (c .before .scalar-at .ensures)) (c .at-depth3 .ensures)
 
 returns-6 : tie.Need-returns-6
 returns-6 c id =

@@ -3,7 +3,7 @@
 // The contracts say what holds of the bytes up to the place that was reached, and not that it is the last such place: a shorter run
 // would be slower and no less right. The private functions answer 0 for what is not so, or not whole.
 ghost use mathlib.Core.Path.{_≡_};
-ghost use Prim.Native.Nat.{ℕ, _/_, _≤_};
+ghost use Prim.Native.Nat.{ℕ, _+_, _/_, _≤_, _<_};
 ghost use mathlib.Core.List.{_++_};
 ghost use lib.ListN.{length, take};
 ghost use Rattle.layout.specs.Limits.{base};
@@ -110,7 +110,8 @@ fn long_value_at(t: &[u8], at: usize) -> Found
     Found { value: 0, end: 0 }
 }
 
-// The value of one byte or two, and the place after it, or 0: most headers, words and counts are no longer.
+// The value of one byte or two, and the place after it, or 0: most headers, words and counts are no longer. A value with no place says that
+// two bytes are longer than needed, so that nothing is left to look at.
 fn short_value_at(t: &[u8], at: usize) -> Found
     ensures { λ r. ⌜ Ends (now (t .entry)) at (λ bs. (r .value / 8 ≤ base .id) × (bs ≡ shortest (r .value))) (r .end) ⌝ }
 {
@@ -124,13 +125,14 @@ fn short_value_at(t: &[u8], at: usize) -> Found
         }
         if at + 1 < t.len() {
             let c = t[at + 1];
-            if 0 < c {
-                if c < 128 {
-                    return Found {
-                        value: (b % 128) as u64 + c as u64 * 128,
-                        end: at + 2,
-                    };
-                }
+            if c == 0 {
+                return Found { value: 1, end: 0 };
+            }
+            if c < 128 {
+                return Found {
+                    value: (b % 128) as u64 + c as u64 * 128,
+                    end: at + 2,
+                };
             }
         }
     }
@@ -155,6 +157,10 @@ fn header_at(t: &[u8], at: usize) -> Found
     let short = short_value_at(t, at);
     let i = short.end;
     if 0 < i {
+        return short;
+    }
+    let v = short.value;
+    if 0 < v {
         return short;
     }
     let found = long_value_at(t, at);
@@ -335,17 +341,14 @@ fn body_at(t: &[u8], at: usize, h: u64, depth: u8) -> Next
 
 // The place after a scalar of two bytes, or 0.
 fn small_at(t: &[u8], at: usize) -> usize
+    requires { ⌜ at + 1 < length (now t) ⌝ }
     ensures { λ r. ⌜ Ends (now (t .entry)) at (λ bs. (d : ℕ) → OwnFields base d bs d) r ⌝ }
 {
-    if at < t.len() {
-        if at + 1 < t.len() {
-            let h = t[at];
-            if h < 128 {
-                if h % 8 < 2 {
-                    if t[at + 1] < 128 {
-                        return at + 2;
-                    }
-                }
+    let h = t[at];
+    if h < 128 {
+        if h % 8 < 2 {
+            if t[at + 1] < 128 {
+                return at + 2;
             }
         }
     }
@@ -358,7 +361,7 @@ fn smalls_at(t: &[u8], at: usize) -> usize
     ensures { λ r. ⌜ (r ≤ length (now (t .entry))) × Stretch (now (t .entry)) at r (λ bs. (d : ℕ) → OwnFields base d bs d) ⌝ }
 {
     let mut i = at;
-    while i < t.len() {
+    while i + 1 < t.len() {
         let j = small_at(t, i);
         if j <= i {
             return i;

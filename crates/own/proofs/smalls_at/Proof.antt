@@ -28,4 +28,5 @@ pub smalls-at-spec : {M : Type 1} → statement M
 smalls-at-spec =
     tie.close
     (tie.spec
-    Inv-loop μ-loop loop-holds (λ c κs. search needs) returns (λ c. search needs) loop-again returns-2)
+    Inv-loop μ-loop loop-holds (λ c. search needs) (λ c κs. search needs) returns (λ c. search needs) loop-again
+    returns-2)

@@ -237,13 +237,25 @@ impl Visitor for Ear {
 }
 
 /// The whole ticket, byte by byte: its events, the verdict after each of its first bytes, and where it breaks.
-struct Told {
+pub struct Told {
     heard: Vec<Heard>,
     verdicts: Vec<u8>,
     broken: Option<usize>,
 }
 
-fn listen(ticket: &[u8], fault: Fault) -> Told {
+impl Told {
+    /// The bytes of all events.
+    pub fn copy(&self) -> Vec<u8> {
+        self.heard.iter().flat_map(|h| h.bytes.iter().copied()).collect()
+    }
+
+    /// The verdicts after 0 to `len` bytes, as ../worked.txt has them.
+    pub fn verdicts(&self, len: usize) -> String {
+        (0..=len).map(|i| self.verdicts.get(i).map_or('R', |&tag| if tag == COMPLETE { 'c' } else { 'i' })).collect()
+    }
+}
+
+pub fn listen(ticket: &[u8], fault: Fault) -> Told {
     let mut ear = Ear { fault: fault.0, ..Ear::default() };
     let mut reader = IStream::new();
     let tag = |status| if status == Status::Complete { COMPLETE } else { INCOMPLETE };
@@ -391,7 +403,11 @@ struct Desk<'t> {
     broke: bool,
 }
 
-impl Desk<'_> {
+impl<'t> Desk<'t> {
+    fn new(told: &'t Told, fault: Fault, size: usize) -> Desk<'t> {
+        Desk { told, fault, buf: fresh(size), position: 0, owed: Vec::new(), next: 0, read: 0, end: 0, full: false, broke: false }
+    }
+
     fn answer(&mut self, out: &mut Vec<u8>, tag: u8, from: usize) {
         let fault = self.fault.0;
         self.full = tag == 1;
@@ -486,12 +502,11 @@ pub fn answer(case: &[u8], fault: Fault, out: &mut Vec<u8>) {
     }
     let told = listen(ticket, fault);
     if told.broken.is_none() && told.verdicts[ticket.len()] == COMPLETE && fault.0 == 0 {
-        let whole: Vec<u8> = told.heard.iter().flat_map(|h| h.bytes.iter().copied()).collect();
-        if plain_copy(ticket) != Some(whole) {
+        if plain_copy(ticket) != Some(told.copy()) {
             return out.push(BROKEN);
         }
     }
-    let mut desk = Desk { told: &told, fault, buf: fresh(size), position: 0, owed: Vec::new(), next: 0, read: 0, end: 0, full: false, broke: false };
+    let mut desk = Desk::new(&told, fault, size);
     for _ in 0..count {
         let code = input.number(1) as u8;
         desk.act(Act::of(code, input.number(4) as usize), ticket.len(), out);
@@ -504,4 +519,72 @@ pub fn answer(case: &[u8], fault: Fault, out: &mut Vec<u8>) {
             return;
         }
     }
+}
+
+// ---- schedules
+
+/// What stands between the chunks of a run. `drains`: a drain and an empty chunk before each, and a second drain at "full". `refusals`: before
+/// each and at "full" a change to a buffer with no byte free, and a drain, a feed and a change over one that ends below the position.
+#[derive(Clone, Copy)]
+pub struct Between {
+    pub drains: bool,
+    pub refusals: bool,
+}
+
+pub const PLAIN: Between = Between { drains: false, refusals: false };
+pub const DRAINS: Between = Between { drains: true, refusals: false };
+pub const REFUSALS: Between = Between { drains: false, refusals: true };
+pub const BOTH: Between = Between { drains: true, refusals: true };
+
+/// A schedule, made act by act on what the Rust told of the ticket: so each chunk comes to its end before the next, however often the buffer
+/// is full.
+struct Schedule<'t> {
+    desk: Desk<'t>,
+    between: Between,
+    len: usize,
+    acts: Vec<Act>,
+}
+
+impl Schedule<'_> {
+    fn make(&mut self, act: Act) {
+        self.desk.act(act, self.len, &mut Vec::new());
+        self.acts.push(act);
+    }
+
+    fn refusals(&mut self) {
+        if !self.between.refusals {
+            return;
+        }
+        self.make(Act::Unfit(self.desk.buf.len()));
+        // With no byte below the position, no buffer ends there.
+        if let Some(below) = self.desk.position.checked_sub(1) {
+            [Act::StrayDrain(below), Act::StrayFeed(below), Act::StrayChange(below)].into_iter().for_each(|act| self.make(act));
+        }
+    }
+
+    fn chunk(&mut self, n: usize) {
+        self.make(Act::Feed(n));
+        while self.desk.full {
+            self.refusals();
+            self.make(Act::Drain);
+            if self.between.drains {
+                self.make(Act::Drain);
+            }
+            self.make(Act::Feed(n));
+        }
+    }
+}
+
+/// A ticket in these chunks over a buffer of so many bytes.
+pub fn run(ticket: &[u8], told: &Told, chunks: &[usize], size: usize, between: Between) -> Copier {
+    let mut schedule = Schedule { desk: Desk::new(told, Fault(0), size), between, len: ticket.len(), acts: Vec::new() };
+    for &n in chunks {
+        schedule.refusals();
+        if between.drains {
+            schedule.make(Act::Drain);
+            schedule.chunk(0);
+        }
+        schedule.chunk(n);
+    }
+    Copier { size, acts: schedule.acts, ticket: ticket.to_vec() }
 }

@@ -653,8 +653,28 @@ fn short_writer(r: &mut Random) -> Writer {
 
 // ---- the corpus of short tickets, for every cut
 
-/// Worked bytes of the layout and its limits, each of at most twelve bytes.
-pub fn corpus() -> Vec<Vec<u8>> {
+/// A ticket of ../worked.txt: the verdicts after 0, 1, 2 .. of its bytes, and its copy.
+pub struct Worked {
+    pub ticket: Vec<u8>,
+    pub verdicts: String,
+    pub copy: Vec<u8>,
+}
+
+/// What was worked out by hand.
+pub fn table() -> Vec<Worked> {
+    let bytes = |word: &str| crate::bytes::unhex(word.trim_matches('.')).expect("hexadecimal");
+    let lines = include_str!("../worked.txt").lines().filter(|l| !l.starts_with('#'));
+    lines
+        .map(|l| match l.split(' ').collect::<Vec<_>>()[..] {
+            [ticket, verdicts] => Worked { ticket: bytes(ticket), verdicts: verdicts.to_string(), copy: bytes(ticket) },
+            [ticket, verdicts, copy] => Worked { ticket: bytes(ticket), verdicts: verdicts.to_string(), copy: bytes(copy) },
+            _ => panic!("no worked message: {l}"),
+        })
+        .collect()
+}
+
+/// Worked bytes of the layout and its limits, and the tickets of the table: but for two of these, each of at most twelve bytes.
+pub fn worked() -> Vec<Vec<u8>> {
     let worked = [
         "08ac02", "1101", "09ffffffffffffffffff01", "09ffffffffffffffffff02", "09ffffffffffffffffff81", "1a124869", "1a03", "1a02", "1a04", "22200000803f", "2218", "2b020102", "2d0041", "2d0020",
         "2d00", "f8ffffff3f00", "8080808040", "03ffffffff07", "038080808008", "8800ac8200", "360f", "3607", "07", "0e161e262e363e464e070707", "3608ac0207", "0a41000000000000f07f", "0a20010080ff", "0a2000000080",
@@ -663,8 +683,19 @@ pub fn corpus() -> Vec<Vec<u8>> {
         "0803090306070707", "000000000000", "ffffffffff", "ffffffffffffffffffff", "02a1000000803f", "021a616263", "02930061", "0d810020000080bf", "05802020", "", "06060606060607070707",
     ];
     let mut found: Vec<Vec<u8>> = worked.iter().map(|w| crate::bytes::unhex(w).expect("hexadecimal")).collect();
+    found.extend(table().into_iter().map(|w| w.ticket).filter(|t| !worked.contains(&&crate::bytes::hex(t)[..])));
+    found
+}
+
+/// Random tickets of at most twelve bytes in the corpus.
+const SHORT_TICKETS: usize = 332;
+
+/// The worked tickets, and random ones.
+pub fn corpus() -> Vec<Vec<u8>> {
+    let mut found = worked();
+    let most = found.len() + SHORT_TICKETS;
     let mut r = Random(12);
-    while found.len() < 400 {
+    while found.len() < most {
         let t = ticket(&mut r);
         if t.len() <= 12 && !found.contains(&t) {
             found.push(t);

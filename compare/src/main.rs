@@ -20,7 +20,8 @@ const HELP: &str = "\
 compare/run DIR COMMAND
   differ SEED SIZE      everything below: tickets of up to 3 bytes, every cut of the corpus, SIZE random cases of each kind
   short BYTES           all tickets of up to BYTES bytes, in every cut
-  copies BYTES          all tickets of up to BYTES bytes, in every cut, through copiers over 1, 2, 3 and 7 bytes, and whole
+  copies BYTES [FAULT]  all tickets of up to BYTES bytes and the corpus, in every cut, through copiers over 1, 2, 3 and 7 bytes, and whole;
+                        the worked ones over 1 to 20 bytes by four schedules, and beside worked.txt (FAULT: a planted one)
   cuts                  every cut of every ticket in the corpus
   random SEED SIZE [KINDS]
                         SIZE random cases of each kind (KINDS: some of the letters rgwc, for reader, gatherer, writer and copier)
@@ -55,7 +56,10 @@ fn main() {
         }
         Some("states") => runs.states(seed, size),
         Some("short") => runs.short(number(&args, 1, 3) as usize),
-        Some("copies") => runs.copies(number(&args, 1, 2) as usize),
+        Some("copies") => {
+            runs = Runs::planted(number(&args, 2, 0) as usize);
+            runs.copies(number(&args, 1, 2) as usize);
+        }
         Some("cuts") => runs.cuts(),
         Some("pieces") => runs.pieces(),
         Some("random") => runs.random(seed, size, kinds),

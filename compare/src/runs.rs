@@ -2,9 +2,9 @@
 
 use crate::bytes::hex;
 use crate::case::{Case, Gatherer, Kind, Piece, Reader};
-use crate::copier::{self, Act, Copier};
+use crate::copier::{self, Between};
 use crate::fault::{Fault, FAULTS};
-use crate::gen::{self, Random};
+use crate::gen::{self, Random, Worked};
 use crate::oracle::{self, Oracle};
 use crate::port::{self, Port};
 use crate::states::{self, Seen};
@@ -32,6 +32,11 @@ const GUARD: usize = 16;
 impl Runs {
     pub fn new(fault: usize) -> Runs {
         Runs { oracle: Oracle::new(Fault(fault)), port: Port::default(), cases: 0, differences: 0, case: Vec::new(), rust: Vec::new(), told: Vec::new(), quiet: fault != 0 }
+    }
+
+    /// With a fault, and what differs is shown.
+    pub fn planted(fault: usize) -> Runs {
+        Runs { quiet: false, ..Runs::new(fault) }
     }
 
     pub fn rust(&mut self, kind: Kind, case: &[u8]) -> Vec<u8> {
@@ -187,30 +192,49 @@ impl Runs {
     }
 
     /// Every ticket of up to `most` bytes, and those of the corpus, in every cut, copied through buffers of 1, 2, 3 and 7 bytes, with a drain
-    /// after each feed.
+    /// and an empty chunk before each chunk; the worked ones through all of 1 to 20 bytes, by every schedule.
     pub fn copies(&mut self, most: usize) {
         let before = self.cases;
         for len in 0..=most {
             for n in 0u64..1 << (8 * len) {
-                let ticket = n.to_be_bytes()[8 - len..].to_vec();
-                self.whole(&ticket);
-                self.copied(ticket);
+                self.copied(&n.to_be_bytes()[8 - len..], &[1, 2, 3, 7], &[copier::DRAINS]);
             }
         }
-        for ticket in gen::corpus() {
-            self.whole(&ticket);
-            self.copied(ticket);
+        let worked = gen::worked();
+        for ticket in gen::corpus().iter().filter(|t| !worked.contains(t)) {
+            self.copied(ticket, &[1, 2, 3, 7], &[copier::DRAINS]);
         }
         println!("copies of tickets of up to {most} bytes and of the corpus, every cut, through 1, 2, 3 and 7 bytes, and whole: {} cases", self.cases - before);
+        let before = self.cases;
+        gen::table().iter().for_each(|w| self.worked_out(w));
+        let sizes: Vec<usize> = (1..=20).collect();
+        for ticket in &worked {
+            self.copied(ticket, &sizes, &[copier::PLAIN, copier::DRAINS, copier::REFUSALS, copier::BOTH]);
+        }
+        println!("copies of {} worked tickets, every cut, through 1 to 20 bytes, by four schedules, and whole: {} cases", worked.len(), self.cases - before);
     }
 
-    fn copied(&mut self, ticket: Vec<u8>) {
+    fn copied(&mut self, ticket: &[u8], sizes: &[usize], schedules: &[Between]) {
+        self.whole(ticket);
+        let told = copier::listen(ticket, Fault(0));
         for chunks in every_cut(ticket.len()) {
-            for size in [1, 2, 3, 7] {
-                // As many feeds as the chunk can need: it has no more bytes than came in.
-                let acts = chunks.iter().flat_map(|&n| std::iter::repeat([Act::Feed(n), Act::Drain]).take(1 + n / size + (size < 3) as usize).flatten()).collect();
-                self.compare(&Copier { size, acts, ticket: ticket.clone() });
+            for &size in sizes {
+                schedules.iter().for_each(|&between| self.compare(&copier::run(ticket, &told, &chunks, size, between)));
             }
+        }
+    }
+
+    /// The Rust's side on a ticket beside what was worked out by hand.
+    fn worked_out(&mut self, worked: &Worked) {
+        self.cases += 1;
+        let told = copier::listen(&worked.ticket, self.oracle.fault);
+        let (verdicts, copy) = (told.verdicts(worked.ticket.len()), told.copy());
+        if verdicts == worked.verdicts && copy == worked.copy {
+            return;
+        }
+        self.differences += 1;
+        if !self.quiet && self.differences <= SHOWN {
+            println!("difference, worked ticket {}: by hand {} {}, rust {verdicts} {}", hex(&worked.ticket), worked.verdicts, hex(&worked.copy), hex(&copy));
         }
     }
 
@@ -271,13 +295,16 @@ impl Runs {
     }
 }
 
-/// Every way to cut so many bytes into chunks that aren't empty.
+/// Places of a ticket where a cut is made or not, before they come again.
+const GAPS: usize = 11;
+
+/// Every way to cut so many bytes into chunks that aren't empty; of more than twelve, those that come again after eleven.
 fn every_cut(len: usize) -> impl Iterator<Item = Vec<usize>> {
     let gaps = len.saturating_sub(1);
-    (0u32..1 << gaps).map(move |cut| {
+    (0u32..1 << gaps.min(GAPS)).map(move |cut| {
         let mut chunks = Vec::new();
         let mut from = 0;
-        for i in (0..gaps).filter(|i| cut >> i & 1 == 1) {
+        for i in (0..gaps).filter(|i| cut >> (i % GAPS) & 1 == 1) {
             chunks.push(i + 1 - from);
             from = i + 1;
         }
@@ -303,8 +330,7 @@ fn case_seed(seed: u64, i: u64, kind: u64) -> Random {
 
 /// Plants one fault, and shows the smallest case that shows it.
 pub fn show(fault: usize, seed: u64, size: u64) -> i32 {
-    let mut runs = Runs::new(fault);
-    runs.quiet = false;
+    let mut runs = Runs::planted(fault);
     let start = std::time::Instant::now();
     let found = (0..size).any(|i| {
         runs.turn(seed, i, "rgwc");
@@ -352,8 +378,8 @@ pub fn faults(seed: u64, size: u64, kinds: &str) -> i32 {
 
 // ---- rows for the crate `vectors`: the calls of some cases in which the port tells what the Rust does, with what each told
 
-/// Most bytes of a list and of a case in it; the block that a row stays within; how often a feature is wanted.
-const LIST: usize = 700_000;
+/// Most bytes of a list and of a case in it, but for the copies of worked tickets; the block that a row stays within; how often a feature is wanted.
+const LIST: usize = 720_000;
 const LONGEST: usize = 1_500;
 const BLOCK: usize = 65_536;
 const WANTED: u32 = 3;
@@ -488,21 +514,33 @@ impl Sample {
         }
     }
 
-    /// Takes a case, where its calls are short enough, both sides answer it alike, and it shows something new or `any` will do.
-    fn add<C: Case>(&mut self, case: &C, any: bool, share: usize) {
+    /// Takes a case, where its calls are short enough, both sides answer it alike, and it shows something new or `any` will do. Answers whether it was taken.
+    fn add<C: Case>(&mut self, case: &C, any: bool, share: usize) -> bool {
         self.runs.port.list = Some(port::List { whole: true, ..Default::default() });
         let same = self.runs.same(case);
         let list = self.runs.port.list.take().unwrap_or_default();
-        if !same || !list.whole || LONGEST < list.rows.len() || share < self.list.len() + list.rows.len() {
-            return;
+        if !same || !list.whole || !any && LONGEST < list.rows.len() || share < self.list.len() + list.rows.len() {
+            return false;
         }
         let features = features(C::KIND, &self.runs.case, &self.runs.rust);
-        if any || features.iter().any(|f| self.shown.get(f).copied().unwrap_or(0) < WANTED) {
+        let wanted = any || features.iter().any(|f| self.shown.get(f).copied().unwrap_or(0) < WANTED);
+        if wanted {
             features.into_iter().for_each(|f| *self.shown.entry(f).or_default() += 1);
             self.take(&list.rows);
             self.cases[C::KIND as usize - 1] += 1;
             self.calls += list.calls;
         }
+        wanted
+    }
+
+    /// A worked ticket through copiers: whole over 20 bytes, byte by byte over one, and in up to three chunks over three with all between
+    /// that a schedule has.
+    fn add_worked(&mut self, ticket: &[u8]) -> bool {
+        let told = copier::listen(ticket, Fault(0));
+        let n = ticket.len();
+        let thirds: Vec<usize> = ticket.chunks(n.div_ceil(3).max(1)).map(<[u8]>::len).collect();
+        let runs = [(vec![n], 20, copier::PLAIN), (vec![1; n], 1, copier::PLAIN), (thirds, 3, copier::BOTH)];
+        runs.iter().all(|(chunks, size, between)| self.add(&copier::run(ticket, &told, chunks, *size, *between), true, usize::MAX))
     }
 }
 
@@ -524,6 +562,10 @@ pub fn sample(seed: u64, file: &str) -> i32 {
         s.add(&gen::gatherer(&mut case_seed(seed, i, 2)), false, LIST * 11 / 20);
         s.add(&gen::writer(&mut case_seed(seed, i, 3)), false, LIST * 16 / 20);
         s.add(&copier::case(&mut case_seed(seed, i, 4)), false, LIST);
+    }
+    if let Some(ticket) = gen::worked().iter().find(|t| !s.add_worked(t)) {
+        println!("no rows for the copies of {}", hex(ticket));
+        return 1;
     }
     let [r, g, w, c] = s.cases;
     println!("{} cases ({r} of the reader, {g} of the gatherer, {w} of the writer, {c} of the copier), {} calls, {} bytes", r + g + w + c, s.calls, s.list.len());

@@ -1,5 +1,4 @@
-// What the test programs share: a script on standard input, a case to a line, its words parted by one blank; and what they print.
-// A word that isn't there is empty.
+// A script on standard input, a case to a line, its words parted by one blank; and what is printed. A word that isn't there is empty.
 ghost use Prim.Native.Nat.{_≤_};
 ghost use lib.ListN.{length};
 use libc::STDOUT_FILENO;
@@ -48,18 +47,10 @@ pub fn first<'a>(s: &'a [u8], n: usize) -> &'a [u8] {
     if n <= s.len() { &s[..n] } else { s }
 }
 
-// The bytes from a place to another, where they are there.
-pub fn between<'a>(s: &'a [u8], from: usize, to: usize) -> &'a [u8] {
-    if from <= to && to <= s.len() {
-        return &s[from..to];
-    }
-    &s[0..0]
-}
-
 // ---- the bytes of a word
 
 // A hexadecimal digit's value; 16 for any other byte.
-pub fn nibble(b: u8) -> u8 {
+fn nibble(b: u8) -> u8 {
     if b'0' <= b && b <= b'9' {
         b - b'0'
     } else if b'A' <= b && b <= b'F' {
@@ -97,10 +88,4 @@ pub fn unhex(word: &[u8], out: &mut [u8]) -> usize {
 
 pub fn say(text: &[u8]) {
     io::write_all(STDOUT_FILENO, text);
-}
-
-// A blank and a number.
-pub fn tell(n: u64) {
-    say(b" ");
-    io::print_decimal(STDOUT_FILENO, n);
 }

@@ -1,5 +1,5 @@
--- Whole fields and elements in their shortest form, as this crate's functions find them: what `copying` says of them, over the reader's own
--- states.
+-- Whole fields and elements in their shortest form, as this crate's functions find them: what `copying_laws` says of them, over the
+-- reader's own states.
 use Prim.Native.Nat.{ℕ, zero, suc, _+_, _-_, _*_, _/_, _^_, _<_, _≤_}
 use native.Mathlib.Omega.{arith}
 use mathlib.Core.Path.{_≡_, refl, sym, ap, _∙_, subst}
@@ -30,8 +30,8 @@ use Rattle.istream.specs.declared.IStream.{IStream}
 use Rattle.istream.specs.Stream.{stateOf, streamIn, soundStream}
 use Rattle.istream.proofs.Calls.{state-of-stream}
 use Rattle.istream.proofs.Laws.{is-sound, sound-is}
-use Rattle.copying.proofs.OneEvent.{AsIs, none-as-is}
-use Rattle.copying.proofs.AsIs.{fields-as-is, unsigneds-as-is, signeds-as-is, floats-as-is}
+use Rattle.copying_laws.proofs.OneEvent.{AsIs, none-as-is}
+use Rattle.copying_laws.proofs.AsIs.{fields-as-is, unsigneds-as-is, signeds-as-is, floats-as-is}
 use Rattle.shortest.specs.Own as own
 use Rattle.shortest.specs.Own.{Numbers}
 use Rattle.shortest.proofs.Spans.{all-bytes, bytes-front}

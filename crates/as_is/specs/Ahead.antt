@@ -9,7 +9,7 @@ use Rattle.layout.specs.Limits.{base}
 use Rattle.phase.proofs.Phases.{Live}
 use Rattle.istream.specs.declared.IStream.{IStream}
 use Rattle.istream.specs.Stream.{stateOf, soundStream}
-use Rattle.copying.proofs.OneEvent.{AsIs}
+use Rattle.copying_laws.proofs.OneEvent.{AsIs}
 
 -- from the reader s, where nothing is owed: wherever there is room for the first n bytes of c, they go out, and s′ reads on
 pub record Ahead (s : IStream) (c : List ℕ) (n : ℕ) (s′ : IStream) : Type 0 where

@@ -12,7 +12,7 @@ use Rattle.layout.specs.Event.{Event, Unsigned, Signed, Float, Piece, Fixlen, A
 use Rattle.laws.specs.Events.{eventBytes}
 use Rattle.machine.specs.Calls.{State, reading, owing, broke}
 use Rattle.copying.specs.Owed.{Owed, nothing, owes, rest, legal, level, agrees, soundOwed}
-use Rattle.copying.proofs.Sound.{both}
+use Rattle.copying.proofs.Allowed.{both}
 use Rattle.copier.specs.Copier.{owedOf, owe, owedIn, placeIn}
 
 three : {x y z : Bool} → x ≡ true → y ≡ true → z ≡ true → (x && (y && z)) ≡ true

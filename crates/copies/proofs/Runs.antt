@@ -29,7 +29,7 @@ use Rattle.copying.specs.Copy as copying
 use Rattle.copying.specs.Copy.{Copied, copy}
 use Rattle.copying.specs.Run.{Keeps, Kept, Final}
 use Rattle.copying.proofs.Keeps.{copy-keeps}
-use Rattle.copying.proofs.Sound.{sound-plain, copy-sound}
+use Rattle.copying_laws.proofs.Sound.{sound-plain, copy-sound}
 use Rattle.copier.specs.declared.Copier.{Copier}
 use Rattle.copier.specs.Copier.{copyOf, copierIn}
 use Rattle.copier.specs.Calls.{Said, full, verdict, Result, untouched, saidIn, copied, freshOver, bytes, Sent, over, changed}

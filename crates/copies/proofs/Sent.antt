@@ -18,7 +18,7 @@ use Rattle.machine.proofs.Prefix.{broken-stays}
 use Rattle.machine.proofs.Runs.{verdict-broken}
 use Rattle.istream.specs.Stream.{stateOf}
 use Rattle.copying.specs.Owed.{rest, soundOwed}
-use Rattle.copying.proofs.Bound.{out-bound}
+use Rattle.copying_laws.proofs.Bound.{out-bound}
 use Rattle.copier.specs.Copier.{copyOf}
 use Rattle.copier.specs.Calls.{bytes, Started, started, Sent}
 use Rattle.copies.specs.Desk.{Desk, openedAt, Act, feed, drain, change, stray, sending, act, acts, MayStand, Allowed}

@@ -32,12 +32,12 @@ use Rattle.ostream.proofs.Buffers.{sound-at, opened-sound, unheld-clean, draine
 use Rattle.copying.specs.Owed.{agrees, soundOwed}
 use Rattle.copying.specs.Copy as copying
 use Rattle.copying.specs.Copy.{Copied, copy}
-use Rattle.copying.proofs.Sound as counted
-use Rattle.copying.proofs.Sound.{both, Sounds, copy-sound}
 use Rattle.copying.specs.Refusals.{isBroke}
 use Rattle.copying.proofs.Refusals.{with-parts, with-owed, unsound-reader, unsound-writer, broken-reader, none-refused}
-use Rattle.copying.proofs.Allowed.{InForce}
-use Rattle.copying.proofs.Reader.{copy-reader}
+use Rattle.copying.proofs.Allowed.{InForce, both}
+use Rattle.copying_laws.proofs.Sound as counted
+use Rattle.copying_laws.proofs.Sound.{Sounds, copy-sound}
+use Rattle.copying_laws.proofs.Reader.{copy-reader}
 use Rattle.reading.proofs.Feeds.{call-sound}
 use Rattle.copier.specs.declared.Copier.{Copier}
 use Rattle.copier.specs.Copier.{owedOf, owedIn, placeIn, copyOf, moved, copierIn, soundReader, soundWriter, soundCopier}

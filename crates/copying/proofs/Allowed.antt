@@ -6,7 +6,7 @@ use mathlib.Core.Path.{_≡_, refl, sym, subst}
 use mathlib.Core.Bool.{Bool, true, false, _&&_}
 use mathlib.Core.List.{List, [], _∷_}
 use lib.Dec.{leb, ltb, eqb}
-use borrow.Author.Tests.{leb-true, le-leb, ltb-true, eqb-false, eq-eqb}
+use borrow.Author.Tests.{leb-true, le-leb, ltb-true, eqb-true, eqb-false, eq-eqb}
 use lib.ListN.{length}
 use Rattle.layout.specs.Limits.{Limits, pick}
 use Rattle.layout.specs.Varint.{Push, more, value, overrun, push}
@@ -18,7 +18,7 @@ use Rattle.machine.specs.Machine.{idle, Stepped, on, bad, nextOr, atWire, atHea
 use Rattle.machine.specs.Machine.{atElement, atArrayWord, atUnsigned, atSigned, within, atFloat, step}
 use Rattle.machine.specs.Calls.{State, reading, owing, broke, byte, paceOf, Called, raisedState, scan, scanned, call}
 use Rattle.machine.specs.Calls as calls
-use Rattle.copying.specs.Owed.{legal, level}
+use Rattle.copying.specs.Owed.{depthBy, legal, level}
 use Rattle.copying.specs.Copy.{Said, verdict, invalid}
 use Rattle.copying.specs.Run.{NotPiece}
 use Rattle.copying.proofs.Pieces.{NoneFirst, none-step, byte-scan}
@@ -41,6 +41,20 @@ abbrev pub InForce : Limits → State → Type 0
 InForce L (reading d p) = (d ≤ L .depth) × Numbers L p
 InForce L (owing d id r) = (d ≤ L .depth) × (id ≤ L .id)
 InForce L broke = Unit {0}
+
+-- ---- depths
+
+-- once the event is written, the writer's depth is the reader's
+pub depth-then : (d w : ℕ) (e : Event) → level d w e ≡ true → d ≡ depthBy w e
+unfolding level depthBy
+depth-then d w (Unsigned id n) h = eqb-true d w h
+depth-then d w (Signed id z) h = eqb-true d w h
+depth-then d w (Float id f x) h = eqb-true d w h
+depth-then d w (Piece id r total o bs) h = eqb-true d w h
+depth-then d w (Fixlen id s n) h = eqb-true d w h
+depth-then d w (Array id k n) h = eqb-true d w h
+depth-then d w (Begin id) h = eqb-true d (suc w) h
+depth-then d w End h = let e = eqb-true (suc d) w h in omega arith
 
 -- ---- a byte: the event that it raises is as the layout allows, and its depth is that event's
 
@@ -98,6 +112,11 @@ pub all-of : (x y : Bool) → x ≡ true → y ≡ true → (x && y) ≡ true
 all-of true true h h′ = refl
 all-of true false h h′ = h′
 all-of false y h h′ = h
+
+pub both : (x y : Bool) → (x && y) ≡ true → (x ≡ true) × (y ≡ true)
+both true true h = (refl, refl)
+both true false h = (refl, h)
+both false y h = let w : _≡_ {A = ℕ} 0 1 = cc in absurd (omega arith)
 
 payload-sound : (L : Limits) (d id : ℕ) (r : Raw) (m : ℕ) → d ≤ L .depth → id ≤ L .id → m ≤ L .size → SoundStep L d (atPayload d id r m)
 unfolding level legal

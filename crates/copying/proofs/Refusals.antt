@@ -8,7 +8,7 @@ use Rattle.layout.specs.Limits.{Limits}
 use Rattle.copying.specs.Owed.{soundOwed}
 use Rattle.copying.specs.Copy.{Copy}
 use Rattle.copying.specs.Refusals.{soundWith, refusing}
-use Rattle.copying.proofs.Sound.{both}
+use Rattle.copying.proofs.Allowed.{both}
 
 module _ (L : Limits) (writer : Bool) (held : ℕ) (k : Copy) where
   -- a copier whose writer holds an id is unsound, and so is one whose writer is

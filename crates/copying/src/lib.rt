@@ -1,1 +1,1 @@
-// No code: the copier's call as definitions over the reader's machine, and what holds of one call.
+// No code: the copier's call as definitions over the reader's machine, the laws of its turns, and that no byte is lost or made up.

@@ -19,7 +19,7 @@ use Rattle.ostream.specs.Stream.{opened}
 use Rattle.ostream.proofs.Buffers.{fits, open-taken, open-refused, opened-sound}
 use Rattle.istream.proofs.Laws.{fresh-sound}
 use Rattle.copying.specs.Copy.{copy}
-use Rattle.copying.proofs.Whole.{copy-whole}
+use Rattle.copying_laws.proofs.Whole.{copy-whole}
 use Rattle.copier.specs.declared.Copier.{Copier}
 use Rattle.turns.specs.declared.Answer.{Answer}
 use Rattle.turns.specs.declared.Answer.the-variants.{Full, Status, Refused}

@@ -11,7 +11,7 @@ use Rattle.layout.specs.Copy.{plainCopy}
 use Rattle.laws.specs.Legal.{Balanced}
 use Rattle.laws.proofs.Laws.{fit-base}
 use Rattle.shortest.specs.Own.{OwnFields}
-use Rattle.copying.proofs.AsIs.{own-copy}
+use Rattle.copying_laws.proofs.AsIs.{own-copy}
 use Rattle.exports.specs.Exports.{filled, copied}
 
 pub own-whole : (T : List ℕ) (n d : ℕ) → OwnFields base 0 (take n T) d → n ≡ length T → d ≡ 0 → (verdictOf base T ≡ complete) × (plainCopy base T ≡ T)

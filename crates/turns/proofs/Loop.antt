@@ -12,7 +12,7 @@ use Rattle.istream.specs.declared.IStream.{IStream}
 use Rattle.istream.specs.Stream.{stateOf, soundStream}
 use Rattle.phase.proofs.Phases.{Live}
 use Rattle.copying.specs.Copy.{after, copy}
-use Rattle.copying.proofs.OneEvent.{after-after}
+use Rattle.copying_laws.proofs.OneEvent.{after-after}
 use Rattle.turns.specs.declared.Stop.{Stop}
 use Rattle.turns.specs.declared.Turn.{Turn}
 use Rattle.turns.specs.declared.Turn.the-variants as turns

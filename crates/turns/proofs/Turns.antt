@@ -35,7 +35,7 @@ use Rattle.copying.specs.Owed.{nothing, owes, rest, further, depthBy, depthOnce
 use Rattle.copying.specs.Copy as copying
 use Rattle.copying.specs.Copy.{Copy, after, settled, filled, gone, handed, stuck, heard, copy}
 use Rattle.copying.proofs.Turns.{copy-full, copy-settles, copy-turn, Heard, turn-heard, paced, handed-is}
-use Rattle.copying.proofs.OneEvent.{AsIs}
+use Rattle.copying_laws.proofs.OneEvent.{AsIs}
 use Rattle.as_is.specs.Ahead.{Ahead}
 use Rattle.owed.specs.declared.Owed.{Owed}
 use Rattle.owed.specs.Owed.{owe, outputOf}

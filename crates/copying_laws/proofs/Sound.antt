@@ -20,13 +20,13 @@ use Rattle.machine.specs.Run.{spotOf}
 use Rattle.machine.proofs.Calls.{FairSpot, weight}
 use Rattle.putting.specs.Put.{put, reached}
 use Rattle.putting.proofs.Writes.{reached-is, length-put, reached-le}
-use Rattle.copying.specs.Owed.{Owed, nothing, owes, rest, further, depthBy, depthOnce, dueIn, legal, level, agrees, soundOwed}
+use Rattle.copying.specs.Owed.{Owed, nothing, owes, rest, further, depthOnce, dueIn, legal, level, agrees, soundOwed}
 use Rattle.copying.specs.Copy.{Copy, Said, full, verdict, invalid, unfinished, Copied, after, settled, filled, gone, handed, stuck, heard, fits, allOf, copies, turnsFor, copy}
 use Rattle.copying.specs.Run.{NotPiece, NoPiece}
 use Rattle.copying.proofs.Turns.{goes, goes-on, turn-full, turn-goes, fits-false, fits-true, enough, turn-heard, nearer}
 use Rattle.copying.proofs.Pieces.{Takes, takes-plain, given-fits}
 use Rattle.copying.proofs.Keeps.{put-below, put-beyond, take-less, drop-more}
-use Rattle.copying.proofs.Allowed.{InForce, Gave, Stood, CallOf, all-of, call-sound}
+use Rattle.copying.proofs.Allowed.{InForce, Gave, Stood, CallOf, depth-then, all-of, both, call-sound}
 
 -- ---- sound
 
@@ -52,11 +52,6 @@ record Mid (L : Limits) (k : Copy) : Type 0 where
   fair : FairSpot (spotOf (k .reader))
   depth : k .depth ≤ L .depth
   even : Even L (k .reader) (k .depth) (k .owed)
-
-pub both : (x y : Bool) → (x && y) ≡ true → (x ≡ true) × (y ≡ true)
-both true true h = (refl, refl)
-both true false h = (refl, h)
-both false y h = let w : _≡_ {A = ℕ} 0 1 = cc in absurd (omega arith)
 
 agrees-is : (L : Limits) (d w : ℕ) (o : Owed) → agrees L d w o ≡ true → Agree L d w o
 unfolding agrees
@@ -100,17 +95,6 @@ sound-plain L broke w nothing h = tt
 sound-plain L broke w (owes due e place) h = let w : _≡_ {A = ℕ} 0 1 = cc in absurd (omega arith)
 
 -- ---- what is owed goes out
-
-depth-then : (d w : ℕ) (e : Event) → level d w e ≡ true → d ≡ depthBy w e
-unfolding level depthBy
-depth-then d w (Unsigned id n) h = eqb-true d w h
-depth-then d w (Signed id z) h = eqb-true d w h
-depth-then d w (Float id f x) h = eqb-true d w h
-depth-then d w (Piece id r total o bs) h = eqb-true d w h
-depth-then d w (Fixlen id s n) h = eqb-true d w h
-depth-then d w (Array id k n) h = eqb-true d w h
-depth-then d w (Begin id) h = eqb-true d (suc w) h
-depth-then d w End h = let e = eqb-true (suc d) w h in omega arith
 
 agree-then : (L : Limits) (d w : ℕ) (o : Owed) → Agree L d w o → d ≡ depthOnce w o
 unfolding depthOnce

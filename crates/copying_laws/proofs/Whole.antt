@@ -23,11 +23,11 @@ use Rattle.machine.proofs.Bridge.{events-walk}
 use Rattle.machine.proofs.Prefix.{broken-stays}
 use Rattle.machine.proofs.Calls.{fresh-follows}
 use Rattle.machine.proofs.Runs.{verdict-at, verdict-broken}
 use Rattle.copying.specs.Owed.{Owed, nothing, rest}
 use Rattle.copying.specs.Copy.{Copy, Said, full, verdict, invalid, unfinished, Copied, copy}
 use Rattle.copying.specs.Run.{Keeps, InPayload, Wants, Kept, Final}
 use Rattle.copying.proofs.Keeps.{copy-keeps}
-use Rattle.copying.proofs.Bound.{later, events-later}
+use Rattle.copying_laws.proofs.Bound.{later, events-later}
 
 -- a fresh copier, at the buffer's start
 abbrev pub start : Copy

@@ -20,10 +20,10 @@ use Rattle.machine.proofs.Bridge.{Fair}
 use Rattle.machine.proofs.Calls.{FairSpot}
 use Rattle.putting.specs.Put.{put, reached}
 use Rattle.putting.proofs.Writes.{length-put, put-put, put-none, reached-is}
 use Rattle.copying.specs.Owed.{nothing, rest, depthBy, depthOnce, leftIn, dueIn}
 use Rattle.copying.specs.Copy.{Copy, Copied, after, settled, gone, handed, stuck, heard, allOf, copy}
-use Rattle.copying.proofs.Takes.{Reads}
 use Rattle.copying.proofs.Turns.{paced, handed-is, copy-turn, copy-settles}
+use Rattle.copying_laws.proofs.Takes.{Reads}
 
 -- a copier that owes nothing
 abbrev pub free : State → ℕ → ℕ → Copy

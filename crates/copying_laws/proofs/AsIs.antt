@@ -30,10 +30,10 @@ use Rattle.machine.specs.Machine.{Phase, inUnsigned, inSigned, inWord, inUnsign
 use Rattle.machine.specs.Machine.{idle, on, bad, nextOr, firstOr, atWire, atUnsigned, atSigned, atUnsignedCount, atSignedCount, atFloatCount, atArrayWord}
 use Rattle.machine.specs.Calls.{State, reading, owing, raisedState}
 use Rattle.putting.specs.Put.{put}
 use Rattle.copying.specs.Owed.{depthBy}
 use Rattle.copying.specs.Copy.{Copy, after, copy}
-use Rattle.copying.proofs.OneEvent.{free, AsIs, none-as-is, joined, one-event, event-as-is, piece-raises, empty-raises}
-use Rattle.copying.proofs.Takes.{Reads, then, shortest-reads, at-unsigned, at-signed, at-unsigneds, at-signeds, at-floats, header-reads, word-reads, array-word-reads, count-reads, some-byte, float-reads}
+use Rattle.copying_laws.proofs.OneEvent.{free, AsIs, none-as-is, joined, one-event, event-as-is, piece-raises, empty-raises}
+use Rattle.copying_laws.proofs.Takes.{Reads, then, shortest-reads, at-unsigned, at-signed, at-unsigneds, at-signeds, at-floats, header-reads, word-reads, array-word-reads, count-reads, some-byte, float-reads}
 
 -- ---- elements
 

@@ -35,6 +35,7 @@ use Rattle.copying_laws.proofs.AsIs.{fields-as-is, unsigneds-as-is, signeds-as-
 use Rattle.shortest.specs.Own as own
 use Rattle.shortest.specs.Own.{Numbers}
 use Rattle.shortest.proofs.Spans.{all-bytes, bytes-front}
+use Rattle.own.proofs.Runs.{fields-none}
 use Rattle.as_is.specs.declared.Block.{Block}
 use Rattle.as_is.specs.Ahead.{Ahead}
 
@@ -64,6 +65,10 @@ fields-ahead d e n c h few a =
 pub fields-behind : (d e n : ℕ) (c : List ℕ) (b : Block) → b ≡ record { len = n; reader = streamIn (reading e idle) } → e ≤ base .depth → n ≤ length c → own.OwnFields base d (take n c) e
     → Ahead (streamIn (reading d idle)) c (b .len) (b .reader)
 fields-behind d e n c b k h few a = subst (λ (b : Block). Ahead (streamIn (reading d idle)) c (b .len) (b .reader)) (sym k) (fields-ahead d e n c h few a)
+
+-- none of them
+pub none-behind : (d : ℕ) (c : List ℕ) (b : Block) → b ≡ record { len = 0; reader = streamIn (reading d idle) } → d ≤ base .depth → Ahead (streamIn (reading d idle)) c (b .len) (b .reader)
+none-behind d c b k h = fields-behind d d 0 c b k h (omega arith) (fields-none base d)
 
 -- ---- elements, of which P m is the phase with m left
 

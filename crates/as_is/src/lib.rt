@@ -49,11 +49,14 @@ fn behind(run: Run) -> Block
     }
 }
 
-// `fields` stands at two places, and so out of line (docs/PERFORMANCE.md).
+// `fields` stands at two places, and so out of line (docs/PERFORMANCE.md). One byte is not worth that call.
 fn whole_fields(carried: Carried, bytes: &[u8]) -> Block
     ensures { λ r. ⌜ Ahead (streamIn (reading (carried .depth) idle)) (now (bytes .entry)) (r .len) (r .reader) ⌝ }
 {
     let depth = carried.depth;
+    if bytes.len() < 2 {
+        return behind(Run { len: 0, depth });
+    }
     if depth == 0 {
         return behind(fields(bytes, 0));
     }

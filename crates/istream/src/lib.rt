@@ -131,11 +131,18 @@ impl IStream {
         }
     }
 
-    // Whether a reader can be in this state; a depth beyond 255 has no place in its byte.
+    // Whether a reader can be in this state; a depth beyond 255 has no place in its byte. A payload and a header, in which
+    // most short calls begin, are tested here (docs/PERFORMANCE.md).
     pub fn sound(self) -> bool
         ensures { λ r. ⌜ r ≡ soundStream base self ⌝ }
     {
         let phase = self.phase;
+        if let Phase::Payload(id, r, total, offset) = phase {
+            return sound_payload(id, r, total, offset);
+        }
+        if let Phase::Header(a) = phase {
+            return a.sound();
+        }
         sound(phase)
     }
 

@@ -11,9 +11,25 @@ use Rattle.istream.proofs.IStream.sound.Tie as tie
 
 returns : tie.Need-returns
 returns c =
-    let f : Fits w8 (c .before .args .self .carried .depth) = search needs in
-    c .sound .ensures ∙ sound-in base (c .before .args .self) _ (omega (arith, f .fits)) refl
+    let s = c .before .before .before .before .args .self in
+    let f : Fits w8 (s .carried .depth) = search needs in
+    c .sound-payload .ensures ∙ sound-in base s _ (omega (arith, f .fits)) (c .before .before .phase .given .1)
+
+returns-2 : tie.Need-returns-2
+returns-2 c =
+    let s = c .before .before .before .before .before .args .self in
+    let f : Fits w8 (s .carried .depth) = search needs in
+    c .sound .ensures ∙ sound-in base s _ (omega (arith, f .fits)) (c .before .before .phase2 .given .1)
+
+returns-3 : tie.Need-returns-3
+returns-3 c =
+    let s = c .before .before .before .args .self in
+    let f : Fits w8 (s .carried .depth) = search needs in
+    c .sound2 .ensures ∙ sound-in base s _ (omega (arith, f .fits)) refl
 
 pub sound-spec : {M : Type 1} → statement M
 sound-spec =
-    tie.close (tie.spec (λ c κs. search needs) returns)
+    tie.close
+    (tie.spec
+    (λ c. search needs) (λ c κs. search needs) returns (λ c. search needs) (λ c κs. search needs) returns-2
+    (λ c κs. search needs) returns-3)

@@ -49,13 +49,19 @@ fn behind(run: Run) -> Block
     }
 }
 
-// `fields` stands at two places, and so out of line (docs/PERFORMANCE.md). One byte is not worth that call.
+// `fields` stands at two places, and so out of line (docs/PERFORMANCE.md). One byte is not worth that call, nor is a header whose
+// second byte is 0: none in its shortest form begins so.
 fn whole_fields(carried: Carried, bytes: &[u8]) -> Block
     ensures { λ r. ⌜ Ahead (streamIn (reading (carried .depth) idle)) (now (bytes .entry)) (r .len) (r .reader) ⌝ }
 {
     let depth = carried.depth;
     if bytes.len() < 2 {
         return behind(Run { len: 0, depth });
+    }
+    if bytes[0] >= 128 {
+        if bytes[1] == 0 {
+            return behind(Run { len: 0, depth });
+        }
     }
     if depth == 0 {
         return behind(fields(bytes, 0));

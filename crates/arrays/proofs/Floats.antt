@@ -13,8 +13,8 @@ use Rattle.emit.specs.declared.Cursor.{Cursor}
 use Rattle.low_bytes.proofs.Low.{length-low}
 use Rattle.emit.proofs.Elements.{length-each}
 use Rattle.emit.proofs.Segments.{Emitted, joined}
-use Rattle.answers.specs.declared.Outcome.{Outcome}
-use Rattle.answers.specs.Outcome.{reaches}
+use Rattle.outcomes.specs.declared.Outcome.{Outcome}
+use Rattle.outcomes.specs.Outcome.{reaches}
 use Rattle.held.specs.Headers.{headersOf, headOf, startAt}
 use Rattle.held.proofs.Ends.{Ended, ended, ended-as, grouped}
 use mathlib.Core.List.{append-assoc}

@@ -15,10 +15,10 @@ use Rattle.emit.specs.declared.Cursor.{Cursor}
 use Rattle.emit.proofs.Segments.{Emitted, joined}
 use Rattle.elements.specs.OutAfter.{OutAfter, elementsMost}
 use Rattle.elements.proofs.Resumed.{counted-up}
-use Rattle.answers.specs.declared.Outcome.{Outcome}
-use Rattle.answers.specs.declared.Outcome.the-variants.{Through}
-use Rattle.answers.specs.Outcome.{reaches}
-use Rattle.answers.proofs.Outcomes.{reaches-full}
+use Rattle.outcomes.specs.declared.Outcome.{Outcome}
+use Rattle.outcomes.specs.declared.Outcome.the-variants.{Through}
+use Rattle.outcomes.specs.Outcome.{reaches}
+use Rattle.outcomes.proofs.Outcomes.{reaches-full}
 use Rattle.held.specs.Headers.{headersOf, headOf, startAt}
 use Rattle.held.proofs.Ends.{Ended, ended, ended-as, stops-short, grouped}
 

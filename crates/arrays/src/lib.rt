@@ -1,6 +1,4 @@
 // Arrays, from any place on and behind the headers that are held back.
-use answers::Outcome;
-use answers::finish;
 use elements::Out;
 use elements::counted;
 use elements::put_varints;
@@ -15,6 +13,8 @@ use floats::put_fp64s;
 use held::head_len;
 use held::put_head;
 use held::tagged;
+use outcomes::Outcome;
+use outcomes::finish;
 use types::ARRAY_MAX;
 use types::LAZY_SEQ_DEPTH;
 use types::T_FIXLENARRAY;
@@ -32,9 +32,9 @@ ghost use Rattle.layout.specs.Field.{fp32, fp64, bytesOf, unsignedArray, signed
 ghost use Rattle.layout.specs.Copy.{fieldBytes};
 ghost use Rattle.layout.specs.Limits.{base, pick};
 ghost use Rattle.emit.specs.Cursor.{placed, moved};
-ghost use Rattle.answers.specs.Outcome.{reaches};
+ghost use Rattle.outcomes.specs.Outcome.{reaches};
 ghost use Rattle.elements.specs.OutAfter.{elementsMost};
-ghost use Rattle.held.specs.Places.{lazyDepth};
+ghost use Rattle.places.specs.Places.{lazyDepth};
 ghost use Rattle.held.specs.Headers.{headersOf, headOf, startAt, bufferAfter};
 
 // Most bytes of an array's elements.

@@ -5,7 +5,7 @@ use Prim.Native.Nat.{ℕ}
 use Rattle.refusals.specs.Judged.{Judgement, accepted, refusedWith, judged}
 use Rattle.refusals.specs.Tests.{unsoundWriter}
 use Rattle.refusals.specs.Orders.{changeTests}
-use Rattle.held.specs.Places.{soundFor}
+use Rattle.places.specs.Places.{soundFor}
 use Rattle.buffers.specs.declared.Moved.{Moved}
 use Rattle.buffers.specs.declared.Moved.the-variants.{To, Refused}
 

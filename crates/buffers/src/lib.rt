@@ -1,6 +1,6 @@
 // A drain and a buffer change by the numbers of a writer's state: how many bytes are to be sent, and where writing goes on.
-use answers::check_change;
-use held::sound_for;
+use checks::check_change;
+use places::sound_for;
 use types::Error;
 use types::LAZY_SEQ_DEPTH;
 ghost use mathlib.Core.Path.{_≡_};

@@ -8,8 +8,8 @@ use lib.Dec.{eqb}
 use lib.ListN.{length, getD}
 use borrow.Author.Tests.{eqb-true, eqb-false, lt-leb, le-leb}
 use Rattle.layout.specs.Limits.{base}
-use Rattle.held.specs.Places.{every, lazyDepth, soundFor}
-use Rattle.held.proofs.Places.{both}
+use Rattle.places.specs.Places.{every, lazyDepth, soundFor}
+use Rattle.places.proofs.Places.{both}
 
 abbrev pub sumOf : List ℕ → ℕ
 sumOf l = getD l 0 0 + getD l 1 0 + getD l 2 0 + getD l 3 0 + (getD l 4 0 + getD l 5 0 + getD l 6 0 + getD l 7 0)

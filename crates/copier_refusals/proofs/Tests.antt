@@ -22,7 +22,7 @@ use Rattle.owed.proofs.Owed as owing-types
 use Rattle.ostream.specs.declared.OStream.{OStream}
 use Rattle.copying.specs.Refusals.{isBroke}
 use Rattle.copying.proofs.Refusals.{with-held, with-unsound, with-owed}
-use Rattle.held.specs.Places.{soundFor}
+use Rattle.places.specs.Places.{soundFor}
 use Rattle.ostream.specs.Stream.{soundStream}
 use Rattle.copier_refusals.specs.Checked.{copyBy, fitsWriter}
 

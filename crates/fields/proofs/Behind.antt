@@ -11,11 +11,12 @@ use Rattle.emit.specs.Cursor.{placed, moved}
 use Rattle.putting.proofs.Writes.{reached-is}
 use Rattle.putting.proofs.Turns.{Whole, in-a-row, same-size}
 use Rattle.emit.proofs.Segments.{Emitted}
-use Rattle.answers.specs.declared.Outcome.the-variants.{Through}
-use Rattle.held.specs.Headers.{pairMost, startAt}
+use Rattle.outcomes.specs.declared.Outcome.the-variants.{Through}
+use Rattle.held.specs.Headers.{startAt}
+use Rattle.at_ease.specs.AtOnce.{pairMost}
 use Rattle.held.proofs.Ends.{Ended, at-once}
-use Rattle.write_at_once.specs.AtOnce.{roomFor}
-use Rattle.write_at_once.proofs.AtOnce.{WholeIf, was-made, yes-both, room-for}
+use Rattle.at_ease.specs.AtOnce.{roomFor}
+use Rattle.at_ease.proofs.AtOnce.{WholeIf, was-made, yes-both, room-for}
 
 as-whole : (pos : ℕ) (b o : List ℕ) (c′ : Cursor) (b′ : List ℕ) → Emitted (startAt pos 0) b o c′ b′ → Whole b pos o b′ (c′ .pos)
 unfolding moved placed

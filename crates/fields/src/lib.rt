@@ -1,12 +1,12 @@
 // A field of one varint or of fixed length, and the markers of a sequence, from any place on and behind the headers that are held back.
-use answers::Outcome;
-use answers::finish;
 use held::has_room_behind;
 use held::head_len;
 use held::held_len;
 use held::put_head;
 use held::put_held;
 use held::tagged;
+use outcomes::Outcome;
+use outcomes::finish;
 use types::LAZY_SEQ_DEPTH;
 use types::T_SEQUENCE_END;
 use varint::varint_len;
@@ -19,8 +19,8 @@ ghost use lib.ListN.{length};
 ghost use Rattle.layout.specs.Varint.{shortest};
 ghost use Rattle.layout.specs.Field.{lowBytes, end};
 ghost use Rattle.layout.specs.Copy.{fieldBytes};
-ghost use Rattle.answers.specs.Outcome.{reaches};
-ghost use Rattle.held.specs.Places.{lazyDepth};
+ghost use Rattle.outcomes.specs.Outcome.{reaches};
+ghost use Rattle.places.specs.Places.{lazyDepth};
 ghost use Rattle.held.specs.Headers.{headersOf, headOf, bufferAfter};
 
 // The held headers, a header and one varint: where there is room for the longest that they can be, at once.

@@ -14,10 +14,10 @@ use Rattle.emit.specs.Cursor.{placed, moved}
 use Rattle.putting.proofs.Writes.{put-none, reached-is}
 use Rattle.putting.proofs.Turns.{Whole}
 use Rattle.emit.proofs.Segments.{Emitted}
-use Rattle.answers.specs.declared.Outcome.{Outcome}
-use Rattle.answers.specs.declared.Outcome.the-variants.{Through, Full}
-use Rattle.answers.specs.Outcome.{reaches}
-use Rattle.answers.proofs.Outcomes.{reaches-through, reaches-full}
+use Rattle.outcomes.specs.declared.Outcome.{Outcome}
+use Rattle.outcomes.specs.declared.Outcome.the-variants.{Through, Full}
+use Rattle.outcomes.specs.Outcome.{reaches}
+use Rattle.outcomes.proofs.Outcomes.{reaches-through, reaches-full}
 use Rattle.held.specs.Headers.{startAt, bufferAfter}
 
 -- output o, gone on with from a place, from pos on over b

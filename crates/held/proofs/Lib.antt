@@ -1,3 +1,2 @@
--- `Places` has the laws of the held ids' places, `Ends` those of how a call ends.
-pub mod Places
+-- The laws of how a call ends: `Ends`.
 pub mod Ends

@@ -8,12 +8,10 @@ use Rattle.layout.specs.Varint.{shortest}
 use Rattle.layout.specs.Field.{header, each, T-begin}
 use Rattle.putting.specs.Put.{put}
 use Rattle.emit.specs.declared.Cursor.{Cursor}
-use Rattle.held.specs.Places.{lazyDepth}
+use Rattle.places.specs.Places.{lazyDepth}
+use Rattle.at_ease.specs.AtOnce.{pairMost}
 
--- the most bytes of a field's header and the varint after it, of the headers that are held back, and of all of these
-abbrev pub pairMost : ℕ
-pairMost = 2 * longest base
-
+-- the most bytes of the headers that are held back, and of these with a field's header and the varint after it
 abbrev pub heldMost : ℕ
 heldMost = lazyDepth * longest base
 

@@ -1,3 +1,2 @@
--- The sequences that a writer holds back: `Places` (where their ids stand, and which states are sound), `Headers` (the bytes that they owe).
-pub mod Places
+-- The sequences that a writer holds back, by the bytes that they owe: `Headers`.
 pub mod Headers

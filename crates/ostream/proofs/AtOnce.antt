@@ -10,11 +10,11 @@ use borrow.Author.Tests.{leb-true, ltb-true, le-leb, le-ltb}
 use Rattle.layout.specs.Limits.{base}
 use Rattle.layout.specs.Varint.{shortest}
 use Rattle.putting.proofs.Turns.{Whole}
-use Rattle.held.specs.Places.{clean}
-use Rattle.held.specs.Headers.{pairMost}
+use Rattle.places.specs.Places.{clean}
+use Rattle.at_ease.specs.AtOnce.{pairMost}
 use Rattle.held.proofs.Ends.{at-once}
-use Rattle.write_at_once.specs.AtOnce.{roomFor, easyAt, closesAt}
-use Rattle.write_at_once.proofs.AtOnce.{has-room}
+use Rattle.at_ease.specs.AtOnce.{roomFor, easyAt, closesAt}
+use Rattle.at_ease.proofs.AtOnce.{has-room}
 use Rattle.ostream.specs.declared.OStream.{OStream}
 use Rattle.ostream.specs.declared.Answer.the-variants.{Done}
 use Rattle.ostream.specs.declared.Written.{Written}

@@ -8,8 +8,8 @@ use lib.Dec.{leb, eqb}
 use lib.ListN.{drop}
 use borrow.Author.Tests.{leb-false, ltb-false, le-leb, lt-leb, le-ltb}
 use Rattle.types.specs.Types.{refusal}
-use Rattle.held.specs.Places.{clean}
-use Rattle.write_at_once.proofs.AtOnce.{clean-zeros}
+use Rattle.places.specs.Places.{clean}
+use Rattle.at_ease.proofs.AtOnce.{clean-zeros}
 use Rattle.buffers.specs.Moved.{movedBy}
 use Rattle.ostream.specs.declared.OStream.{OStream}
 use Rattle.ostream.specs.declared.Answer.the-variants.{Done}

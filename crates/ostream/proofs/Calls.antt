@@ -13,10 +13,10 @@ use Rattle.types.specs.declared.Error.{Error}
 use Rattle.types.specs.Types.{refusal}
 use Rattle.putting.specs.Put.{put}
 use Rattle.putting.proofs.Writes.{put-none}
-use Rattle.answers.specs.declared.Outcome.{Outcome}
-use Rattle.answers.specs.declared.Outcome.the-variants.{Through, Full, Refused}
-use Rattle.answers.specs.Outcome.{reaches}
-use Rattle.answers.proofs.Checks.{passed, check-sound}
+use Rattle.outcomes.specs.declared.Outcome.{Outcome}
+use Rattle.outcomes.specs.declared.Outcome.the-variants.{Through, Full, Refused}
+use Rattle.outcomes.specs.Outcome.{reaches}
+use Rattle.checks.proofs.Checks.{passed, check-sound}
 use Rattle.held.specs.Headers.{headersOf, bufferAfter}
 use Rattle.held.proofs.Ends.{Ended}
 use Rattle.write_slowly.specs.Went.{Went, wentBy, goesBy, fieldFrom}
@@ -27,7 +27,7 @@ use Rattle.ostream.specs.Stream.{every, soundStream, lazyDepth, heldByte
 use Rattle.ostream.specs.Private.{Clears, settled, unwritten}
 use Rattle.ostream.specs.Calls.{unsound, tooDeep, noneOpen, idTooLarge}
 use Rattle.ostream.specs.Emission.{Test, Call, Judgement, accepted, refusedWith, judged, through, resultOf, refused, emittedBy, emitted, writtenBy, written}
-pub use Rattle.held.proofs.Places.{both}
+pub use Rattle.places.proofs.Places.{both}
 
 -- ---- a sound state
 

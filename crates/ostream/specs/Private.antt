@@ -4,8 +4,8 @@ use Prim.Native.Nat.{ℕ, _≤_}
 use lib.Dec.{leb, ltb}
 use Rattle.layout.specs.Limits.{base, pick}
 use Rattle.types.specs.Types.{refusal}
-use Rattle.answers.specs.declared.Outcome.{Outcome}
-use Rattle.answers.specs.declared.Outcome.the-variants.{Through, Full, Refused}
+use Rattle.outcomes.specs.declared.Outcome.{Outcome}
+use Rattle.outcomes.specs.declared.Outcome.the-variants.{Through, Full, Refused}
 use Rattle.buffers.specs.declared.Moved.{Moved}
 use Rattle.buffers.specs.declared.Moved.the-variants as moved
 use Rattle.ostream.specs.declared.OStream.{OStream}

@@ -3,11 +3,11 @@ use mathlib.Core.Bool.{Bool}
 use mathlib.Core.List.{List}
 use Prim.Native.Nat.{ℕ, _+_, _-_}
 use lib.ListN.{set, replicate}
-use Rattle.held.specs.Places.{soundFor}
+use Rattle.places.specs.Places.{soundFor}
 use Rattle.held.specs.Headers.{headersOf}
 use Rattle.ostream.specs.declared.OStream.{OStream}
-unfoldable pub use Rattle.held.specs.Places.{every}
-pub use Rattle.held.specs.Places.{lazyDepth, zeroed}
+unfoldable pub use Rattle.places.specs.Places.{every}
+pub use Rattle.places.specs.Places.{lazyDepth, zeroed}
 
 -- "Writer: position at most the buffer's length, held at most 8 and at most depth, depth to 255, ids to `ID_MAX`, unused places zero
 -- (these are tested too)."

@@ -2,11 +2,11 @@
 use crate::Answer;
 use crate::OStream;
 use crate::Written;
+use at_ease::at_ease_with;
 use held::tagged;
 use types::ARRAY_MAX;
 use types::T_VARINTARRAY_SIGNED;
 use types::T_VARINTARRAY_UNSIGNED;
-use write_at_once::at_ease_with;
 use write_at_once::put_signeds;
 use write_at_once::put_unsigneds;
 use write_slowly::fp32_array;

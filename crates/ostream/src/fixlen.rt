@@ -2,7 +2,8 @@
 use crate::Answer;
 use crate::OStream;
 use crate::Written;
-use answers::check_fixlen;
+use at_ease::at_ease_with;
+use checks::check_fixlen;
 use event::fp32_bits;
 use event::fp64_bits;
 use fields::le32;
@@ -11,7 +12,6 @@ use held::tagged;
 use types::FIXLEN_MAX;
 use types::FixlenType;
 use types::T_FIXLEN;
-use write_at_once::at_ease_with;
 use write_at_once::put_field;
 use write_slowly::fixlen_field;
 ghost use mathlib.Core.Path.{_≡_};

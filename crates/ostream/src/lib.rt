@@ -7,13 +7,13 @@ mod fixlen;
 mod scalar;
 mod sequence;
 
-use answers::Outcome;
-use answers::unfit;
 use buffers::Moved;
 use buffers::change;
 use buffers::drain;
-use held::clear;
-use held::sound_for;
+use checks::unfit;
+use outcomes::Outcome;
+use places::clear;
+use places::sound_for;
 use types::Error;
 use types::LAZY_SEQ_DEPTH;
 ghost use mathlib.Core.Path.{_≡_};

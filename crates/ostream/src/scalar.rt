@@ -2,11 +2,11 @@
 use crate::Answer;
 use crate::OStream;
 use crate::Written;
+use at_ease::at_ease;
 use held::tagged;
 use types::T_VARINT_SIGNED;
 use types::T_VARINT_UNSIGNED;
 use varint::zigzag_encode;
-use write_at_once::at_ease;
 use write_at_once::put_pair;
 use write_slowly::varint_field;
 ghost use mathlib.Core.Path.{_≡_};

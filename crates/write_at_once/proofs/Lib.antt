@@ -1,3 +1,2 @@
--- `AtOnce` has the laws of the fast forms: the room, the tests and the writes; `Rows` those of two varints and what follows them.
-pub mod AtOnce
+-- The laws of two varints and what follows them: `Rows`.
 pub mod Rows

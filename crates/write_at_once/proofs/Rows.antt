@@ -11,9 +11,9 @@ use Rattle.varint.proofs.Shortest.{length-longest}
 use Rattle.putting.specs.Put.{put, reached}
 use Rattle.putting.proofs.Writes.{reached-is}
 use Rattle.putting.proofs.Turns.{Whole, in-a-row, same-size}
-use Rattle.held.specs.Headers.{pairMost}
-use Rattle.write_at_once.specs.AtOnce.{roomFor}
-use Rattle.write_at_once.proofs.AtOnce.{ArrayIf, has-room, made-array}
+use Rattle.at_ease.specs.AtOnce.{pairMost}
+use Rattle.at_ease.specs.AtOnce.{roomFor}
+use Rattle.at_ease.proofs.AtOnce.{ArrayIf, has-room, made-array}
 
 -- a varint ends where it should, where there is room for the longest
 module _ (b : List ℕ) (pos v : ℕ) (d : List ℕ) (end n : ℕ) (h : pos + longest base + n ≤ length b) (f : v < 2 ^ base .bits) (w : Whole b pos (shortest v) d end) where

@@ -1,77 +1,27 @@
-// Fields written at once: where nothing is held and there is room for the longest that they can be, no byte is tested for by itself.
+// Fields written at once, where `at_ease` has nothing against it.
+use at_ease::has_room;
 use elements::put_fitting_zigzags;
 use elements::put_fittings;
 use emit::put_fitting;
 use emit::put_rest;
-use held::PAIR_MAX;
-use held::unused_zero;
-use types::ID_MAX;
+use places::unused_zero;
 use types::LAZY_SEQ_DEPTH;
-use types::MAX_DEPTH;
-use types::T_SEQUENCE_END;
 use varint::VARINT_MAX;
 ghost use mathlib.Core.Path.{_≡_};
-ghost use mathlib.Core.List.{[], _∷_, _++_};
+ghost use mathlib.Core.List.{_++_};
 ghost use Prim.Native.Nat.{_+_, _≤_};
 ghost use mathlib.Core.Bool.{true, _&&_};
-ghost use lib.Dec.{leb, ltb};
 ghost use lib.ListN.{length};
 ghost use Rattle.layout.specs.Varint.{shortest};
 ghost use Rattle.layout.specs.Field.{each};
 ghost use Rattle.layout.specs.Zigzag.{zigzag};
 ghost use Rattle.layout.specs.Limits.{base};
 ghost use Rattle.elements.specs.OutAfter.{elementsMost};
-ghost use Rattle.held.specs.Places.{clean};
-ghost use Rattle.write_at_once.specs.AtOnce.{roomFor, easyAt, closesAt, reachedIf, putIf};
-
-// Whether no id is held, and nothing but the places and the room stands against a field.
-pub fn at_ease(depth: u16, held: u16, id: u32) -> bool
-    ensures { λ r. ⌜ r ≡ easyAt depth held id ⌝ }
-{
-    if ID_MAX < id {
-        return false;
-    }
-    if 0 < held {
-        return false;
-    }
-    depth <= MAX_DEPTH as u16
-}
-
-// And against one with a payload or an array of `len`, of which `most` is the limit.
-pub fn at_ease_with(depth: u16, held: u16, id: u32, len: usize, most: u32) -> bool
-    ensures { λ r. ⌜ r ≡ (easyAt depth held id && leb len most) ⌝ }
-{
-    if !at_ease(depth, held, id) {
-        return false;
-    }
-    len <= most as usize
-}
-
-// Whether no id is held, a sequence is open, and nothing but the places and the room stands against a close.
-pub fn closes_at_ease(depth: u16, held: u16) -> bool
-    ensures { λ r. ⌜ r ≡ closesAt depth held ⌝ }
-{
-    if depth == 0 {
-        return false;
-    }
-    at_ease(depth, held, 0)
-}
-
-// Whether there is room from pos on for two varints, however long, and `more` bytes.
-fn has_room(size: usize, pos: usize, more: usize) -> bool
-    ensures { λ r. ⌜ r ≡ roomFor size pos more ⌝ }
-{
-    if size < PAIR_MAX {
-        return false;
-    }
-    if size - PAIR_MAX < pos {
-        return false;
-    }
-    more <= size - PAIR_MAX - pos
-}
+ghost use Rattle.places.specs.Places.{clean};
+ghost use Rattle.at_ease.specs.AtOnce.{roomFor, reachedIf, putIf};
 
 // Two varints at once, where no place is in use and there is room for the longest; where they end. Else nothing, and pos. (Out of line, as
-// the four after it.)
+// the three after it.)
 pub fn put_pair(
     buf: &mut [u8],
     pos: usize,
@@ -155,18 +105,4 @@ pub fn put_signeds(
     let mid = put_fitting(buf, pos, header);
     let at = put_fitting(buf, mid, items.len() as u64);
     put_fitting_zigzags(buf, at, items)
-}
-
-// The one byte of a close.
-pub fn put_end(buf: &mut [u8], pos: usize, places: [u32; LAZY_SEQ_DEPTH]) -> usize
-    ensures { λ r. ⌜ (r ≡ reachedIf (ltb pos (length (now (buf .entry))) && clean places) (now (buf .entry)) pos (7 ∷ [])) × (now (buf .exit) ≡ putIf (ltb pos (length (now (buf .entry))) && clean places) (now (buf .entry)) pos (7 ∷ [])) ⌝ }
-{
-    if buf.len() <= pos {
-        return pos;
-    }
-    if !unused_zero(places, 0) {
-        return pos;
-    }
-    buf[pos] = T_SEQUENCE_END;
-    pos + 1
 }

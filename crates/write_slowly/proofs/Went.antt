@@ -5,17 +5,17 @@ use mathlib.Core.List.{List, [], _∷_, _++_}
 use Prim.Native.Nat.{ℕ, _≤_}
 use lib.ListN.{length}
 use borrow.Author.Tests.{leb-true}
-use Rattle.answers.specs.declared.Check.{Check}
-use Rattle.answers.specs.declared.Outcome.{Outcome}
-use Rattle.answers.specs.declared.Outcome.the-variants.{Refused}
+use Rattle.checks.specs.declared.Check.{Check}
+use Rattle.outcomes.specs.declared.Outcome.{Outcome}
+use Rattle.outcomes.specs.declared.Outcome.the-variants.{Refused}
 use Rattle.refusals.specs.Judged.{Test, Judgement, accepted}
-use Rattle.answers.specs.Check.{checkOf}
+use Rattle.checks.specs.Check.{checkOf}
 use Rattle.refusals.specs.Tests.{idTooLarge, tooLong}
-use Rattle.answers.specs.Outcome.{reaches}
-use Rattle.answers.proofs.Checks.{check-passes, check-fails, check-sound, check-short}
-use Rattle.held.specs.Places.{lazyDepth, soundFor}
+use Rattle.outcomes.specs.Outcome.{reaches}
+use Rattle.checks.proofs.Checks.{check-passes, check-fails, check-sound, check-short}
+use Rattle.places.specs.Places.{lazyDepth, soundFor}
 use Rattle.held.specs.Headers.{headersOf}
-use Rattle.held.proofs.Places.{both}
+use Rattle.places.proofs.Places.{both}
 use Rattle.held.proofs.Ends.{Ended}
 use Rattle.write_slowly.specs.Went.{wentBy, goesBy, judgementOf, fieldFrom}
 

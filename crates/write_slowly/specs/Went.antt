@@ -4,12 +4,12 @@ use mathlib.Core.List.{List, _∷_, _++_}
 use Prim.Native.Nat.{ℕ}
 use lib.ListN.{length}
 use Rattle.layout.specs.Field.{Subtype, header, word, T-fixlen}
-use Rattle.answers.specs.declared.Outcome.{Outcome}
-use Rattle.answers.specs.declared.Outcome.the-variants.{Refused}
+use Rattle.outcomes.specs.declared.Outcome.{Outcome}
+use Rattle.outcomes.specs.declared.Outcome.the-variants.{Refused}
 use Rattle.refusals.specs.Judged.{Test, Judgement, accepted, refusedWith, judged}
 use Rattle.refusals.specs.Tests.{unsoundWriter, idTooLarge}
-use Rattle.answers.specs.Outcome.{reaches}
-use Rattle.held.specs.Places.{soundFor}
+use Rattle.outcomes.specs.Outcome.{reaches}
+use Rattle.places.specs.Places.{soundFor}
 use Rattle.held.specs.Headers.{headersOf, bufferAfter}
 
 -- what the call comes to, and the buffer as it leaves it

@@ -1,19 +1,19 @@
 // A field or an array from any state and any place on, by the state's numbers: what it refuses, in order, and else its bytes behind the
 // headers that are held back.
-use answers::Check;
-use answers::Outcome;
-use answers::check_field;
-use answers::check_sized;
 use arrays::put_fp32_array;
 use arrays::put_fp32_bits_array;
 use arrays::put_fp64_array;
 use arrays::put_fp64_bits_array;
 use arrays::put_signed_array;
 use arrays::put_unsigned_array;
+use checks::Check;
+use checks::check_field;
+use checks::check_sized;
 use fields::put_fixlen_field;
 use fields::put_varint_field;
-use held::sound_for;
 use held::tagged;
+use outcomes::Outcome;
+use places::sound_for;
 use types::ARRAY_MAX;
 use types::FIXLEN_MAX;
 use types::FixlenType;
@@ -28,7 +28,7 @@ ghost use Rattle.layout.specs.Varint.{shortest};
 ghost use Rattle.layout.specs.Field.{fp32, fp64, unsignedArray, signedArray, floatArray};
 ghost use Rattle.layout.specs.Copy.{fieldBytes};
 ghost use Rattle.types.specs.Types.{subtype};
-ghost use Rattle.answers.specs.Check.{checkOf};
+ghost use Rattle.checks.specs.Check.{checkOf};
 ghost use Rattle.refusals.specs.Tests.{payloadTooLong, arrayTooLong};
 ghost use Rattle.write_slowly.specs.Went.{wentBy, fixlenBytes, judgementOf, fieldFrom};
 

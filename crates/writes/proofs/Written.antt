@@ -19,7 +19,7 @@ use Rattle.ostream.specs.declared.OStream.{OStream}
 use Rattle.ostream.specs.Stream.{at, every, soundStream, lazyDepth, heldBytes, committed, holding, dropped}
 use Rattle.ostream.specs.Emission.{Test, Judgement, accepted, refusedWith, judged}
 use Rattle.ostream.specs.Calls.{unsound, idTooLarge, tooDeep, noneOpen}
-use Rattle.answers.proofs.Checks.{passed}
+use Rattle.checks.proofs.Checks.{passed}
 use Rattle.ostream.proofs.Calls.{Sound, is-sound, both}
 use Rattle.ostream.proofs.Places.{length-zeroed}
 use Rattle.writes.specs.Series.{Able, judgement, outputBy, doneBy, numbersBy, Steady, outputs, refusals}

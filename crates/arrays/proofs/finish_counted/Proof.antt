@@ -7,13 +7,13 @@ use lib.Dec.{ltb}
 use lib.ListN.{length}
 use borrow.Author.Needs.{needs}
 use Rattle.layout.specs.Limits.{pick}
-use Rattle.answers.specs.Outcome.{reaches}
+use Rattle.outcomes.specs.Outcome.{reaches}
 use Rattle.held.specs.Headers.{headOf}
 use Rattle.arrays.proofs.finish_counted.Statement.{statement}
 use Rattle.arrays.proofs.finish_counted.Tie as tie
 use Rattle.arrays.proofs.finish_counted.Reads as reads
 use Rattle.arrays.proofs.finish_counted.Lts as lts
-use Rattle.answers.proofs.finish.Reads as finish-reads
+use Rattle.outcomes.proofs.finish.Reads as finish-reads
 use Rattle.elements.proofs.counted.Reads as counted-reads
 use Rattle.held.proofs.head_len.Reads as head-len-reads
 

@@ -3,14 +3,14 @@ use Prim.Native.Nat.{ℕ, _+_}
 use mathlib.Core.Path.{ap, _∙_}
 use native.Mathlib.Omega.{arith}
 use lib.ListN.{length}
-use Rattle.answers.specs.Outcome.{reaches}
+use Rattle.outcomes.specs.Outcome.{reaches}
 use Rattle.held.specs.Headers.{headOf}
 use borrow.Author.Needs.{needs}
 use Rattle.arrays.proofs.finish_floats.Statement.{statement}
 use Rattle.arrays.proofs.finish_floats.Tie as tie
 use Rattle.arrays.proofs.finish_floats.Reads as reads
 use Rattle.arrays.proofs.finish_floats.Lts as lts
-use Rattle.answers.proofs.finish.Reads as finish-reads
+use Rattle.outcomes.proofs.finish.Reads as finish-reads
 use Rattle.held.proofs.head_len.Reads as head-len-reads
 use Rattle.held.proofs.tagged.Reads as tagged-reads
 

@@ -3,17 +3,17 @@ use mathlib.Core.Bool.{Bool, not}
 use mathlib.Core.Path.{_≡_, sym, ap, _∙_}
 use Rattle.refusals.specs.Judged.{Judgement, judged}
 use Rattle.refusals.specs.Orders.{changeTests}
-use Rattle.answers.specs.Check.{checkOf}
-use Rattle.answers.proofs.Checks.{check-passes, check-fails}
-use Rattle.held.specs.Places.{soundFor}
+use Rattle.checks.specs.Check.{checkOf}
+use Rattle.checks.proofs.Checks.{check-passes, check-fails}
+use Rattle.places.specs.Places.{soundFor}
 use Rattle.buffers.specs.Moved.{movedBy}
 use borrow.Author.Needs.{needs}
 use Rattle.buffers.proofs.change.Statement.{statement}
 use Rattle.buffers.proofs.change.Tie as tie
 use Rattle.buffers.proofs.change.Reads as reads
 use Rattle.buffers.proofs.change.Lts as lts
-use Rattle.answers.proofs.check_change.Reads as check-change-reads
-use Rattle.held.proofs.sound_for.Reads as sound-for-reads
+use Rattle.checks.proofs.check_change.Reads as check-change-reads
+use Rattle.places.proofs.sound_for.Reads as sound-for-reads
 
 abbrev judgement : tie.After-check-change → Judgement
 judgement c = let a = c .before .before .args in judged (changeTests (soundFor (a .pos) (a .depth) (a .held) (a .places) (a .old)) (a .new) (a .offset) (a .drained))

@@ -5,7 +5,7 @@ use Rattle.buffers.proofs.drain.Statement.{statement}
 use Rattle.buffers.proofs.drain.Tie as tie
 use Rattle.buffers.proofs.drain.Reads as reads
 use Rattle.buffers.proofs.drain.Lts as lts
-use Rattle.held.proofs.sound_for.Reads as sound-for-reads
+use Rattle.places.proofs.sound_for.Reads as sound-for-reads
 
 returns : tie.Need-returns
 returns c = simp (sym (c .before .sound-for .ensures) ∙ c .if1 .taken)

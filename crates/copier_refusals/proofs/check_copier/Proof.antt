@@ -3,7 +3,7 @@ use mathlib.Core.Path.{sym, ap, _∙_}
 use borrow.Author.Tests.{not-true, not-false}
 use Rattle.types.specs.Types.{refusal}
 use Rattle.refusals.specs.Judged.{accepted, refusedWith}
-use Rattle.answers.specs.Check.{checkOf}
+use Rattle.checks.specs.Check.{checkOf}
 use Rattle.copying.proofs.Refusals.{unsound-reader, unsound-writer, broken-reader, none-refused}
 use borrow.Author.Needs.{needs}
 use Rattle.copier_refusals.proofs.check_copier.Statement.{statement}

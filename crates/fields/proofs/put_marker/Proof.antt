@@ -12,7 +12,7 @@ use Rattle.fields.proofs.put_marker.Statement.{statement}
 use Rattle.fields.proofs.put_marker.Tie as tie
 use Rattle.fields.proofs.put_marker.Reads as reads
 use Rattle.fields.proofs.put_marker.Lts as lts
-use Rattle.answers.proofs.finish.Reads as finish-reads
+use Rattle.outcomes.proofs.finish.Reads as finish-reads
 use Rattle.emit.proofs.Cursor.put_varint.Reads as put-varint-reads
 use Rattle.held.proofs.held_len.Reads as held-len-reads
 use Rattle.held.proofs.put_held.Reads as put-held-reads

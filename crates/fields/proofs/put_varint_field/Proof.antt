@@ -8,16 +8,17 @@ use borrow.Author.Tests.{leb-true}
 use Rattle.layout.specs.Limits.{base}
 use Rattle.layout.specs.Varint.{shortest}
 use Rattle.varint.proofs.Shortest.{length-longest}
-use Rattle.held.specs.Headers.{headersOf, pairMost}
+use Rattle.held.specs.Headers.{headersOf}
+use Rattle.at_ease.specs.AtOnce.{pairMost}
 use Rattle.held.proofs.Ends.{ended}
-use Rattle.write_at_once.proofs.AtOnce.{clean-zeros}
+use Rattle.at_ease.proofs.AtOnce.{clean-zeros}
 use Rattle.fields.proofs.Behind.{behind}
 use borrow.Author.Needs.{needs}
 use Rattle.fields.proofs.put_varint_field.Statement.{statement}
 use Rattle.fields.proofs.put_varint_field.Tie as tie
 use Rattle.fields.proofs.put_varint_field.Reads as reads
 use Rattle.fields.proofs.put_varint_field.Lts as lts
-use Rattle.answers.proofs.finish.Reads as finish-reads
+use Rattle.outcomes.proofs.finish.Reads as finish-reads
 use Rattle.held.proofs.has_room_behind.Reads as has-room-behind-reads
 use Rattle.held.proofs.head_len.Reads as head-len-reads
 use Rattle.held.proofs.put_head.Reads as put-head-reads

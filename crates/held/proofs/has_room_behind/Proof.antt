@@ -6,7 +6,8 @@ use native.Mathlib.Omega.{arith}
 use lib.Dec.{leb}
 use lib.ListN.{length}
 use borrow.Author.Tests.{le-leb, lt-leb, leb-true, leb-false}
-use Rattle.held.specs.Headers.{headersOf, pairMost}
+use Rattle.held.specs.Headers.{headersOf}
+use Rattle.at_ease.specs.AtOnce.{pairMost}
 use borrow.Author.Needs.{needs}
 use Rattle.held.proofs.has_room_behind.Statement.{statement}
 use Rattle.held.proofs.has_room_behind.Tie as tie

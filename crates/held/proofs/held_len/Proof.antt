@@ -5,7 +5,7 @@ use native.Mathlib.Omega.{arith}
 use borrow.Author.Needs.{needs}
 use lib.ListN.{length, take}
 use lib.Seq.{length-take-le, getD-take}
-use Rattle.held.specs.Places.{lazyDepth}
+use Rattle.places.specs.Places.{lazyDepth}
 use Rattle.layout.specs.Limits.{base, longest}
 use Rattle.layout.specs.Varint.{shortest}
 use Rattle.layout.specs.Field.{header, T-begin}

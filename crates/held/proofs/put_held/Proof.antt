@@ -5,7 +5,7 @@ use native.Mathlib.Omega.{arith}
 use borrow.Author.Needs.{needs}
 use lib.ListN.{length, take, drop}
 use lib.Seq.{length-take-le, getD-take}
-use Rattle.held.specs.Places.{lazyDepth}
+use Rattle.places.specs.Places.{lazyDepth}
 use Rattle.layout.specs.Varint.{shortest}
 use Rattle.layout.specs.Field.{header, each, T-begin}
 use Rattle.emit.proofs.Elements.{Owing, owing-start, owing-next, owing-end, each-at, each-end}

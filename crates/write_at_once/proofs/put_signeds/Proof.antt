@@ -7,7 +7,7 @@ use Rattle.layout.specs.Varint.{shortest}
 use Rattle.layout.specs.Zigzag.{zigzag}
 use Rattle.layout.specs.Field.{each}
 use Rattle.elements.specs.OutAfter.{elementsMost}
-use Rattle.write_at_once.proofs.AtOnce.{Tested, has-room, tight, unclean, passed, unmade-array}
+use Rattle.at_ease.proofs.AtOnce.{Tested, has-room, tight, unclean, passed, unmade-array}
 use Rattle.write_at_once.proofs.Rows.{second-fits, rest-fits, array-made}
 use Rattle.write_at_once.proofs.put_signeds.Statement.{statement}
 use Rattle.write_at_once.proofs.put_signeds.Tie as tie
@@ -15,8 +15,8 @@ use Rattle.write_at_once.proofs.put_signeds.Reads as reads
 use Rattle.write_at_once.proofs.put_signeds.Lts as lts
 use Rattle.elements.proofs.put_fitting_zigzags.Reads as put-fitting-zigzags-reads
 use Rattle.emit.proofs.put_fitting.Reads as put-fitting-reads
-use Rattle.write_at_once.proofs.has_room.Reads as has-room-reads
-use Rattle.held.proofs.unused_zero.Reads as unused-zero-reads
+use Rattle.at_ease.proofs.has_room.Reads as has-room-reads
+use Rattle.places.proofs.unused_zero.Reads as unused-zero-reads
 
 tested : (c : tie.Else2) → Tested (length (c .before .before .before .before .before .args .buf .now)) (c .before .before .before .before .before .args .pos) (elementsMost (length (c .before .before .before .before .before .args .items .now))) (c .before .before .before .before .before .args .places)
 tested c = passed _ _ _ _ (c .before .before .before .before .before .args .places) (c .before .before .before .has-room .ensures) (c .before .before .if1 .left) _ (c .before .unused-zero .ensures) (c .if2 .left)

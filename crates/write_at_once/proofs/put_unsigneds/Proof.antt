@@ -6,7 +6,7 @@ use borrow.Author.Needs.{needs}
 use Rattle.layout.specs.Varint.{shortest}
 use Rattle.layout.specs.Field.{each}
 use Rattle.elements.specs.OutAfter.{elementsMost}
-use Rattle.write_at_once.proofs.AtOnce.{Tested, has-room, tight, unclean, passed, unmade-array}
+use Rattle.at_ease.proofs.AtOnce.{Tested, has-room, tight, unclean, passed, unmade-array}
 use Rattle.write_at_once.proofs.Rows.{second-fits, rest-fits, array-made}
 use Rattle.write_at_once.proofs.put_unsigneds.Statement.{statement}
 use Rattle.write_at_once.proofs.put_unsigneds.Tie as tie
@@ -14,8 +14,8 @@ use Rattle.write_at_once.proofs.put_unsigneds.Reads as reads
 use Rattle.write_at_once.proofs.put_unsigneds.Lts as lts
 use Rattle.elements.proofs.put_fittings.Reads as put-fittings-reads
 use Rattle.emit.proofs.put_fitting.Reads as put-fitting-reads
-use Rattle.write_at_once.proofs.has_room.Reads as has-room-reads
-use Rattle.held.proofs.unused_zero.Reads as unused-zero-reads
+use Rattle.at_ease.proofs.has_room.Reads as has-room-reads
+use Rattle.places.proofs.unused_zero.Reads as unused-zero-reads
 
 tested : (c : tie.Else2) → Tested (length (c .before .before .before .before .before .before .args .buf .now)) (c .before .before .before .before .before .before .args .pos) (elementsMost (length (c .before .before .before .before .before .before .args .items .now))) (c .before .before .before .before .before .before .args .places)
 tested c = passed _ _ _ _ (c .before .before .before .before .before .before .args .places) (c .before .before .before .has-room .ensures) (c .before .before .if1 .left) _ (c .before .unused-zero .ensures) (c .if2 .left)

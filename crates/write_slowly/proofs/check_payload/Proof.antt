@@ -3,7 +3,7 @@ use mathlib.Core.Bool.{Bool}
 use mathlib.Core.Path.{ap, _∙_}
 use mathlib.Core.List.{[], _∷_}
 use Rattle.refusals.specs.Judged.{judged}
-use Rattle.answers.specs.Check.{checkOf}
+use Rattle.checks.specs.Check.{checkOf}
 use Rattle.refusals.specs.Tests.{payloadTooLong}
 use Rattle.write_slowly.specs.Went.{tests}
 use borrow.Author.Needs.{needs}
@@ -11,8 +11,8 @@ use Rattle.write_slowly.proofs.check_payload.Statement.{statement}
 use Rattle.write_slowly.proofs.check_payload.Tie as tie
 use Rattle.write_slowly.proofs.check_payload.Reads as reads
 use Rattle.write_slowly.proofs.check_payload.Lts as lts
-use Rattle.answers.proofs.check_sized.Reads as check-sized-reads
-use Rattle.held.proofs.sound_for.Reads as sound-for-reads
+use Rattle.checks.proofs.check_sized.Reads as check-sized-reads
+use Rattle.places.proofs.sound_for.Reads as sound-for-reads
 
 returns : tie.Need-returns
 returns c =

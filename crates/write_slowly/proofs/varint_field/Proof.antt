@@ -6,7 +6,7 @@ use mathlib.Core.Path.{_≡_, ap, _∙_}
 use mathlib.Core.List.{[], _++_}
 use Rattle.layout.specs.Varint.{shortest}
 use Rattle.refusals.specs.Judged.{judged}
-use Rattle.answers.specs.Check.{checkOf}
+use Rattle.checks.specs.Check.{checkOf}
 use Rattle.held.specs.Headers.{headersOf}
 use Rattle.write_slowly.specs.Went.{tests, judgementOf}
 use Rattle.write_slowly.proofs.Went.{may-go, refuses, goes}
@@ -17,8 +17,8 @@ use Rattle.write_slowly.proofs.varint_field.Reads as reads
 use Rattle.write_slowly.proofs.varint_field.Lts as lts
 use Rattle.fields.proofs.put_varint_field.Reads as put-varint-field-reads
 use Rattle.held.proofs.tagged.Reads as tagged-reads
-use Rattle.answers.proofs.check_field.Reads as check-field-reads
-use Rattle.held.proofs.sound_for.Reads as sound-for-reads
+use Rattle.checks.proofs.check_field.Reads as check-field-reads
+use Rattle.places.proofs.sound_for.Reads as sound-for-reads
 
 -- the tests, with the state's own
 judges : (c : tie.After-check-field) → c .check-field .result ≡ checkOf (judgementOf (c .before .before .before .args .pos) (c .before .before .before .args .depth) (c .before .before .before .args .held) (c .before .before .before .args .places) (length (c .before .before .before .args .buf .now)) (c .before .before .before .args .id) [])

@@ -5,7 +5,7 @@ use mir.Val.{Fits}
 use mir.Syntax.{w8}
 use lib.ListN.{length}
 use Rattle.refusals.specs.Judged.{Judgement, accepted}
-use Rattle.answers.proofs.Checks.{check-passes, check-fails}
+use Rattle.checks.proofs.Checks.{check-passes, check-fails}
 use Rattle.copier_refusals.specs.Checked.{judgedBy}
 use Rattle.copier.proofs.Calls.{feed-refused, feed-ready, feed-runs}
 use borrow.Author.Needs.{needs}

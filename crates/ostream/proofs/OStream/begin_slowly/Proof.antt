@@ -9,9 +9,9 @@ use Rattle.layout.specs.Limits.{base}
 use Rattle.layout.specs.Varint.{shortest}
 use Rattle.layout.specs.Copy.{fieldBytes}
 use Rattle.refusals.specs.Judged.{Judgement, accepted, judged}
-use Rattle.answers.specs.Check.{checkOf}
+use Rattle.checks.specs.Check.{checkOf}
 use Rattle.refusals.specs.Tests.{unsoundWriter, deepest, idTooLarge}
-use Rattle.answers.proofs.Checks.{check-passes, check-fails}
+use Rattle.checks.proofs.Checks.{check-passes, check-fails}
 use Rattle.ostream.proofs.Calls.{Sound, refuses, settles, alters, begin-knows, few-clears}
 use borrow.Author.Tests.{lt-ltb, le-ltb}
 use Rattle.ostream.specs.declared.OStream.{OStream}
@@ -23,7 +23,7 @@ use Rattle.ostream.proofs.OStream.begin_slowly.Statement.{statement}
 use Rattle.ostream.proofs.OStream.begin_slowly.Tie as tie
 use Rattle.ostream.proofs.OStream.begin_slowly.Reads as reads
 use Rattle.ostream.proofs.OStream.begin_slowly.Lts as lts
-use Rattle.answers.proofs.check_begin.Reads as check-begin-reads
+use Rattle.checks.proofs.check_begin.Reads as check-begin-reads
 use Rattle.fields.proofs.put_marker.Reads as put-marker-reads
 use Rattle.held.proofs.tagged.Reads as tagged-reads
 use Rattle.ostream.proofs.OStream.alter.Reads as alter-reads

@@ -8,7 +8,7 @@ use Rattle.ostream.proofs.OStream.commit.Statement.{statement}
 use Rattle.ostream.proofs.OStream.commit.Tie as tie
 use Rattle.ostream.proofs.OStream.commit.Reads as reads
 use Rattle.ostream.proofs.OStream.commit.Lts as lts
-use Rattle.held.proofs.clear.Reads as clear-reads
+use Rattle.places.proofs.clear.Reads as clear-reads
 
 returns : tie.Need-returns
 unfolding committed

@@ -7,9 +7,9 @@ use native.Mathlib.Omega.{arith}
 use lib.ListN.{length}
 use Rattle.layout.specs.Copy.{fieldBytes}
 use Rattle.refusals.specs.Judged.{Judgement, accepted, judged}
-use Rattle.answers.specs.Check.{checkOf}
+use Rattle.checks.specs.Check.{checkOf}
 use Rattle.refusals.specs.Tests.{unsoundWriter, outermost}
-use Rattle.answers.proofs.Checks.{check-passes, check-fails}
+use Rattle.checks.proofs.Checks.{check-passes, check-fails}
 use Rattle.ostream.proofs.Calls.{refuses, alters, recalled, none-held, is-sound, end-knows}
 use borrow.Author.Tests.{eq-eqb, ne-eqb}
 use Rattle.ostream.specs.declared.OStream.{OStream}
@@ -22,7 +22,7 @@ use Rattle.ostream.proofs.OStream.end_slowly.Statement.{statement}
 use Rattle.ostream.proofs.OStream.end_slowly.Tie as tie
 use Rattle.ostream.proofs.OStream.end_slowly.Reads as reads
 use Rattle.ostream.proofs.OStream.end_slowly.Lts as lts
-use Rattle.answers.proofs.check_end.Reads as check-end-reads
+use Rattle.checks.proofs.check_end.Reads as check-end-reads
 use Rattle.ostream.proofs.OStream.alter.Reads as alter-reads
 use Rattle.ostream.proofs.OStream.close.Reads as close-reads
 use Rattle.ostream.proofs.OStream.refuse.Reads as refuse-reads

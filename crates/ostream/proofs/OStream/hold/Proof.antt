@@ -8,7 +8,7 @@ use Rattle.ostream.proofs.OStream.hold.Statement.{statement}
 use Rattle.ostream.proofs.OStream.hold.Tie as tie
 use Rattle.ostream.proofs.OStream.hold.Reads as reads
 use Rattle.ostream.proofs.OStream.hold.Lts as lts
-use Rattle.held.proofs.add_id.Reads as add-id-reads
+use Rattle.places.proofs.add_id.Reads as add-id-reads
 
 returns : tie.Need-returns
 unfolding holding

@@ -12,7 +12,7 @@ use Rattle.ostream.proofs.OStream.open.Reads as reads
 use Rattle.ostream.proofs.OStream.open.Lts as lts
 use Rattle.ostream.proofs.OStream.install.Reads as install-reads
 use Rattle.ostream.proofs.OStream.refuse.Reads as refuse-reads
-use Rattle.answers.proofs.unfit.Reads as unfit-reads
+use Rattle.checks.proofs.unfit.Reads as unfit-reads
 
 returns : tie.Need-returns
 unfolding opening

@@ -1,6 +1,6 @@
 -- `ostream::OStream::settle`: the three outcomes.
 use mathlib.Core.Path.{sym, ap, _∙_, subst}
-use Rattle.answers.specs.declared.Outcome.{Outcome}
+use Rattle.outcomes.specs.declared.Outcome.{Outcome}
 use Rattle.ostream.specs.declared.OStream.{OStream}
 use Rattle.ostream.specs.declared.Answer.the-variants.{Done}
 use Rattle.ostream.specs.Stream.{at, committed}

@@ -5,7 +5,7 @@ use Rattle.ostream.proofs.OStream.sound.Statement.{statement}
 use Rattle.ostream.proofs.OStream.sound.Tie as tie
 use Rattle.ostream.proofs.OStream.sound.Reads as reads
 use Rattle.ostream.proofs.OStream.sound.Lts as lts
-use Rattle.held.proofs.sound_for.Reads as sound-for-reads
+use Rattle.places.proofs.sound_for.Reads as sound-for-reads
 
 returns : tie.Need-returns
 unfolding soundStream

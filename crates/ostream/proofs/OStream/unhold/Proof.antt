@@ -8,7 +8,7 @@ use Rattle.ostream.proofs.OStream.unhold.Statement.{statement}
 use Rattle.ostream.proofs.OStream.unhold.Tie as tie
 use Rattle.ostream.proofs.OStream.unhold.Reads as reads
 use Rattle.ostream.proofs.OStream.unhold.Lts as lts
-use Rattle.held.proofs.drop_id.Reads as drop-id-reads
+use Rattle.places.proofs.drop_id.Reads as drop-id-reads
 
 returns : tie.Need-returns
 unfolding dropped

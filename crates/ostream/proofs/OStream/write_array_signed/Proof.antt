@@ -8,7 +8,7 @@ use lib.ListN.{length, length-append}
 use Rattle.layout.specs.Limits.{base}
 use Rattle.layout.specs.Varint.{shortest}
 use Rattle.varint.proofs.Shortest.{length-some}
-use Rattle.write_at_once.proofs.AtOnce.{went, unmoved}
+use Rattle.at_ease.proofs.AtOnce.{went, unmoved}
 use Rattle.ostream.proofs.Calls.{committed-none}
 use Rattle.layout.specs.Zigzag.{zigzag}
 use Rattle.layout.specs.Field.{each}
@@ -24,7 +24,7 @@ use Rattle.held.proofs.tagged.Reads as tagged-reads
 use Rattle.ostream.proofs.OStream.rebuilt.Reads as OStream-rebuilt-reads
 use Rattle.ostream.proofs.OStream.write_array_signed_slowly.Reads as write-array-signed-slowly-reads
 use Rattle.ostream.proofs.Written.rebuilt.Reads as Written-rebuilt-reads
-use Rattle.write_at_once.proofs.at_ease_with.Reads as at-ease-with-reads
+use Rattle.at_ease.proofs.at_ease_with.Reads as at-ease-with-reads
 use Rattle.write_at_once.proofs.put_signeds.Reads as put-signeds-reads
 
 -- where nothing was written at once, the buffer is as it was

@@ -8,7 +8,7 @@ use lib.ListN.{length, length-append}
 use Rattle.layout.specs.Limits.{base}
 use Rattle.layout.specs.Varint.{shortest}
 use Rattle.varint.proofs.Shortest.{length-some}
-use Rattle.write_at_once.proofs.AtOnce.{went, unmoved}
+use Rattle.at_ease.proofs.AtOnce.{went, unmoved}
 use Rattle.ostream.proofs.Calls.{committed-none}
 use Rattle.layout.specs.Field.{each}
 use Rattle.layout.specs.Copy.{fieldBytes}
@@ -23,7 +23,7 @@ use Rattle.held.proofs.tagged.Reads as tagged-reads
 use Rattle.ostream.proofs.OStream.rebuilt.Reads as OStream-rebuilt-reads
 use Rattle.ostream.proofs.OStream.write_array_unsigned_slowly.Reads as write-array-unsigned-slowly-reads
 use Rattle.ostream.proofs.Written.rebuilt.Reads as Written-rebuilt-reads
-use Rattle.write_at_once.proofs.at_ease_with.Reads as at-ease-with-reads
+use Rattle.at_ease.proofs.at_ease_with.Reads as at-ease-with-reads
 use Rattle.write_at_once.proofs.put_unsigneds.Reads as put-unsigneds-reads
 
 -- where nothing was written at once, the buffer is as it was

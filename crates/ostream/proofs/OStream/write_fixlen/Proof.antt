@@ -4,9 +4,9 @@ use mathlib.Core.List.{[], _∷_}
 use mathlib.Core.Path.{_≡_, refl, sym, ap, _∙_}
 use lib.ListN.{length}
 use Rattle.refusals.specs.Judged.{Judgement, judged}
-use Rattle.answers.specs.Check.{checkOf}
+use Rattle.checks.specs.Check.{checkOf}
 use Rattle.refusals.specs.Tests.{unsoundWriter, stringSubtype, idTooLarge, payloadTooLong}
-use Rattle.answers.proofs.Checks.{check-passes, check-fails}
+use Rattle.checks.proofs.Checks.{check-passes, check-fails}
 use Rattle.ostream.proofs.Calls.{refuses, recalled, without}
 use Rattle.ostream.specs.Calls.{fixlenCall, unsound}
 use borrow.Author.Needs.{needs}
@@ -14,7 +14,7 @@ use Rattle.ostream.proofs.OStream.write_fixlen.Statement.{statement}
 use Rattle.ostream.proofs.OStream.write_fixlen.Tie as tie
 use Rattle.ostream.proofs.OStream.write_fixlen.Reads as reads
 use Rattle.ostream.proofs.OStream.write_fixlen.Lts as lts
-use Rattle.answers.proofs.check_fixlen.Reads as check-fixlen-reads
+use Rattle.checks.proofs.check_fixlen.Reads as check-fixlen-reads
 use Rattle.ostream.proofs.OStream.refuse.Reads as refuse-reads
 use Rattle.ostream.proofs.OStream.sound.Reads as sound-reads
 use Rattle.ostream.proofs.OStream.write_fixlen_raw.Reads as write-fixlen-raw-reads

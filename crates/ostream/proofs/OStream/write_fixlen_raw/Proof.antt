@@ -8,7 +8,7 @@ use lib.ListN.{length, length-append}
 use Rattle.layout.specs.Limits.{base}
 use Rattle.layout.specs.Varint.{shortest}
 use Rattle.varint.proofs.Shortest.{length-longest, length-some}
-use Rattle.write_at_once.proofs.AtOnce.{went, unmoved}
+use Rattle.at_ease.proofs.AtOnce.{went, unmoved}
 use Rattle.ostream.proofs.Calls.{committed-none}
 use Rattle.types.specs.Types.{fixlenRaw}
 use Rattle.ostream.specs.Calls.{rawCall, fixlenBytes}
@@ -22,7 +22,7 @@ use Rattle.held.proofs.tagged.Reads as tagged-reads
 use Rattle.ostream.proofs.OStream.rebuilt.Reads as OStream-rebuilt-reads
 use Rattle.ostream.proofs.OStream.write_fixlen_slowly.Reads as write-fixlen-slowly-reads
 use Rattle.ostream.proofs.Written.rebuilt.Reads as Written-rebuilt-reads
-use Rattle.write_at_once.proofs.at_ease_with.Reads as at-ease-with-reads
+use Rattle.at_ease.proofs.at_ease_with.Reads as at-ease-with-reads
 use Rattle.write_at_once.proofs.put_field.Reads as put-field-reads
 use Rattle.types.proofs.FixlenType.raw.Reads as raw-reads
 

@@ -10,8 +10,8 @@ use borrow.Author.Tests.{eq-eqb, ne-eqb, ltb-true}
 use lib.ListN.{length}
 use Rattle.layout.specs.Copy.{fieldBytes}
 use Rattle.varint.proofs.Shortest.{shortest-one}
-use Rattle.held.specs.Places.{clean}
-use Rattle.write_at_once.proofs.AtOnce.{went, stayed}
+use Rattle.places.specs.Places.{clean}
+use Rattle.at_ease.proofs.AtOnce.{went, stayed}
 use Rattle.ostream.specs.Stream.{soundStream}
 use Rattle.ostream.specs.Calls.{endCall}
 use Rattle.ostream.proofs.Calls.{both, committed-none}
@@ -24,8 +24,8 @@ use Rattle.ostream.proofs.OStream.write_sequence_end.Lts as lts
 use Rattle.ostream.proofs.OStream.rebuilt.Reads as OStream-rebuilt-reads
 use Rattle.ostream.proofs.OStream.end_slowly.Reads as end-slowly-reads
 use Rattle.ostream.proofs.Written.rebuilt.Reads as Written-rebuilt-reads
-use Rattle.write_at_once.proofs.closes_at_ease.Reads as closes-at-ease-reads
-use Rattle.write_at_once.proofs.put_end.Reads as put-end-reads
+use Rattle.at_ease.proofs.closes_at_ease.Reads as closes-at-ease-reads
+use Rattle.at_ease.proofs.put_end.Reads as put-end-reads
 
 -- where nothing was written at once, the buffer is as it was
 some : 0 < length {A = ℕ} (7 ∷ [])

@@ -4,9 +4,9 @@ use mathlib.Core.List.{[], _∷_}
 use mathlib.Core.Path.{_≡_, ap, _∙_}
 use lib.ListN.{length}
 use Rattle.refusals.specs.Judged.{Judgement, accepted, judged}
-use Rattle.answers.specs.Check.{checkOf}
+use Rattle.checks.specs.Check.{checkOf}
 use Rattle.refusals.specs.Tests.{unsoundWriter, outermost}
-use Rattle.answers.proofs.Checks.{check-passes, check-fails}
+use Rattle.checks.proofs.Checks.{check-passes, check-fails}
 use Rattle.ostream.proofs.Calls.{refuses, end-knows}
 use Rattle.ostream.specs.Calls.{endKeepCall}
 use borrow.Author.Needs.{needs}
@@ -14,7 +14,7 @@ use Rattle.ostream.proofs.OStream.write_sequence_end_keep.Statement.{st
 use Rattle.ostream.proofs.OStream.write_sequence_end_keep.Tie as tie
 use Rattle.ostream.proofs.OStream.write_sequence_end_keep.Reads as reads
 use Rattle.ostream.proofs.OStream.write_sequence_end_keep.Lts as lts
-use Rattle.answers.proofs.check_end.Reads as check-end-reads
+use Rattle.checks.proofs.check_end.Reads as check-end-reads
 use Rattle.ostream.proofs.OStream.close.Reads as close-reads
 use Rattle.ostream.proofs.OStream.refuse.Reads as refuse-reads
 use Rattle.ostream.proofs.OStream.sound.Reads as sound-reads

@@ -8,7 +8,7 @@ use lib.ListN.{length, length-append}
 use Rattle.layout.specs.Limits.{base}
 use Rattle.layout.specs.Varint.{shortest}
 use Rattle.varint.proofs.Shortest.{length-longest, length-some}
-use Rattle.write_at_once.proofs.AtOnce.{went, unmoved}
+use Rattle.at_ease.proofs.AtOnce.{went, unmoved}
 use Rattle.ostream.proofs.Calls.{committed-none}
 use Rattle.ostream.specs.Calls.{varintCall}
 use Rattle.ostream.proofs.AtOnce.{is-ready, is-easy, ready-scalar, spelled, goes-at-once, by-slow-form}
@@ -21,7 +21,7 @@ use Rattle.held.proofs.tagged.Reads as tagged-reads
 use Rattle.ostream.proofs.OStream.rebuilt.Reads as OStream-rebuilt-reads
 use Rattle.ostream.proofs.OStream.write_varint_field_slowly.Reads as write-varint-field-slowly-reads
 use Rattle.ostream.proofs.Written.rebuilt.Reads as Written-rebuilt-reads
-use Rattle.write_at_once.proofs.at_ease.Reads as at-ease-reads
+use Rattle.at_ease.proofs.at_ease.Reads as at-ease-reads
 use Rattle.write_at_once.proofs.put_pair.Reads as put-pair-reads
 
 -- where nothing was written at once, the buffer is as it was

@@ -1,0 +1,32 @@
+-- The tests and the writes of the fast forms, where a call writes at once. No public call of the writer cites these: each has its
+-- equation in `Calls` of `ostream`, which a fast form meets as the slow one does.
+use mathlib.Core.Bool.{Bool, _&&_}
+use mathlib.Core.List.{List}
+use Prim.Native.Nat.{ℕ, _-_, _*_}
+use lib.Dec.{leb, ltb}
+use Rattle.layout.specs.Limits.{base, longest, pick}
+use Rattle.putting.specs.Put.{put, reached}
+
+-- the most bytes of a field's header and the varint after it
+abbrev pub pairMost : ℕ
+pairMost = 2 * longest base
+
+-- whether there is room from pos on for two varints, however long, and n more bytes
+unfoldable pub roomFor : ℕ → ℕ → ℕ → Bool
+roomFor size pos n = leb pairMost size && (leb pos (size - pairMost) && leb n (size - pairMost - pos))
+
+-- whether no id is held, and nothing but the places, the room and a length stands against a field
+unfoldable pub easyAt : ℕ → ℕ → ℕ → Bool
+easyAt depth held id = leb id (base .id) && (leb held 0 && leb depth (base .depth))
+
+-- whether no id is held, a sequence is open, and nothing but the places and the room stands against a close
+unfoldable pub closesAt : ℕ → ℕ → Bool
+unfolding easyAt
+closesAt depth held = ltb 0 depth && easyAt depth held 0
+
+-- a write that is made where a test passes, and otherwise not: where it ends, and what it leaves
+abbrev pub reachedIf : Bool → List ℕ → ℕ → List ℕ → ℕ
+reachedIf t b pos o = pick t (reached b pos o) pos
+
+abbrev pub putIf : Bool → List ℕ → ℕ → List ℕ → List ℕ
+putIf t b pos o = pick t (put b pos o) b

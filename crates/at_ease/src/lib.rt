@@ -1,0 +1,78 @@
+// Whether a field can be written at once, no byte of it tested for by itself: nothing is held, and there is room for the longest that it can
+// be. And a close, which is one byte.
+use places::unused_zero;
+use types::ID_MAX;
+use types::LAZY_SEQ_DEPTH;
+use types::MAX_DEPTH;
+use types::T_SEQUENCE_END;
+use varint::VARINT_MAX;
+ghost use mathlib.Core.Path.{_≡_};
+ghost use mathlib.Core.List.{[], _∷_};
+ghost use mathlib.Core.Bool.{_&&_};
+ghost use lib.Dec.{leb, ltb};
+ghost use lib.ListN.{length};
+ghost use Rattle.places.specs.Places.{clean};
+ghost use Rattle.at_ease.specs.AtOnce.{roomFor, easyAt, closesAt, reachedIf, putIf};
+
+// Most bytes of two varints: a field's header, and the value, word or count after it.
+pub const PAIR_MAX: usize = 2 * VARINT_MAX;
+
+// Whether no id is held, and nothing but the places and the room stands against a field.
+pub fn at_ease(depth: u16, held: u16, id: u32) -> bool
+    ensures { λ r. ⌜ r ≡ easyAt depth held id ⌝ }
+{
+    if ID_MAX < id {
+        return false;
+    }
+    if 0 < held {
+        return false;
+    }
+    depth <= MAX_DEPTH as u16
+}
+
+// And against one with a payload or an array of `len`, of which `most` is the limit.
+pub fn at_ease_with(depth: u16, held: u16, id: u32, len: usize, most: u32) -> bool
+    ensures { λ r. ⌜ r ≡ (easyAt depth held id && leb len most) ⌝ }
+{
+    if !at_ease(depth, held, id) {
+        return false;
+    }
+    len <= most as usize
+}
+
+// Whether no id is held, a sequence is open, and nothing but the places and the room stands against a close.
+pub fn closes_at_ease(depth: u16, held: u16) -> bool
+    ensures { λ r. ⌜ r ≡ closesAt depth held ⌝ }
+{
+    if depth == 0 {
+        return false;
+    }
+    at_ease(depth, held, 0)
+}
+
+// Whether there is room from pos on for two varints, however long, and `more` bytes.
+pub fn has_room(size: usize, pos: usize, more: usize) -> bool
+    ensures { λ r. ⌜ r ≡ roomFor size pos more ⌝ }
+{
+    if size < PAIR_MAX {
+        return false;
+    }
+    if size - PAIR_MAX < pos {
+        return false;
+    }
+    more <= size - PAIR_MAX - pos
+}
+
+// The one byte of a close.
+pub fn put_end(buf: &mut [u8], pos: usize, places: [u32; LAZY_SEQ_DEPTH]) -> usize
+    ensures { λ r. ⌜ (r ≡ reachedIf (ltb pos (length (now (buf .entry))) && clean places) (now (buf .entry)) pos (7 ∷ [])) × (now (buf .exit) ≡ putIf (ltb pos (length (now (buf .entry))) && clean places) (now (buf .entry)) pos (7 ∷ [])) ⌝ }
+{
+    if buf.len() <= pos {
+        return pos;
+    }
+    if !unused_zero(places, 0) {
+        return pos;
+    }
+    buf[pos] = T_SEQUENCE_END;
+    pos + 1
+}

@@ -1,0 +1,2 @@
+-- The laws of a call's first tests: `Checks`.
+pub mod Checks

@@ -1,0 +1,2 @@
+-- The laws of how far an output goes: `Outcomes`.
+pub mod Outcomes

@@ -1,0 +1,2 @@
+-- The laws of the held ids' places: `Places`.
+pub mod Places

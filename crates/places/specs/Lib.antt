@@ -1,0 +1,2 @@
+-- The places of held ids, and which states are sound: `Places`.
+pub mod Places

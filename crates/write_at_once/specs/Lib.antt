@@ -1,2 +1,0 @@
--- Fields that are written at once, where there is room: `AtOnce`.
-pub mod AtOnce

@@ -12,11 +12,12 @@ use Rattle.varint.proofs.Shortest.{length-one}
 use Rattle.emit.specs.declared.Cursor.{Cursor}
 use Rattle.low_bytes.proofs.Low.{length-low}
 use Rattle.emit.proofs.Elements.{length-each}
-use Rattle.emit.proofs.Segments.{Emitted, joined}
+use Rattle.emit.proofs.Segments.{joined}
+use Rattle.emit.specs.Cursor.{Emitted}
 use Rattle.outcomes.specs.declared.Outcome.{Outcome}
 use Rattle.outcomes.specs.Outcome.{reaches}
-use Rattle.held.specs.Headers.{headersOf, headOf, startAt}
-use Rattle.held.proofs.Ends.{Ended, ended, ended-as, grouped}
+use Rattle.held.specs.Headers.{headersOf, headOf, startAt, Ended}
+use Rattle.held.proofs.Ends.{ended, ended-as, grouped}
 use mathlib.Core.List.{append-assoc}
 
 -- the word takes a byte

@@ -12,15 +12,16 @@ use Rattle.layout.specs.Varint.{shortest}
 use Rattle.layout.specs.Field.{each}
 use Rattle.layout.specs.Limits.{base, pick}
 use Rattle.emit.specs.declared.Cursor.{Cursor}
-use Rattle.emit.proofs.Segments.{Emitted, joined}
+use Rattle.emit.proofs.Segments.{joined}
+use Rattle.emit.specs.Cursor.{Emitted}
 use Rattle.elements.specs.OutAfter.{OutAfter, elementsMost}
 use Rattle.elements.proofs.Resumed.{counted-up}
 use Rattle.outcomes.specs.declared.Outcome.{Outcome}
 use Rattle.outcomes.specs.declared.Outcome.the-variants.{Through}
 use Rattle.outcomes.specs.Outcome.{reaches}
 use Rattle.outcomes.proofs.Outcomes.{reaches-full}
-use Rattle.held.specs.Headers.{headersOf, headOf, startAt}
-use Rattle.held.proofs.Ends.{Ended, ended, ended-as, stops-short, grouped}
+use Rattle.held.specs.Headers.{headersOf, headOf, startAt, Ended}
+use Rattle.held.proofs.Ends.{ended, ended-as, stops-short, grouped}
 
 -- outputs that both exceed the place and the room go equally far
 alike : (pos size s t place : ℕ) → place + (size - pos) < s → place + (size - pos) < t → reaches pos size s place ≡ reaches pos size t place

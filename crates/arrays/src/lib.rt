@@ -31,11 +31,11 @@ ghost use Rattle.layout.specs.Varint.{shortest};
 ghost use Rattle.layout.specs.Field.{fp32, fp64, bytesOf, unsignedArray, signedArray, floatArray};
 ghost use Rattle.layout.specs.Copy.{fieldBytes};
 ghost use Rattle.layout.specs.Limits.{base, pick};
-ghost use Rattle.emit.specs.Cursor.{placed, moved};
+ghost use Rattle.emit.specs.Cursor.{Emitted};
 ghost use Rattle.outcomes.specs.Outcome.{reaches};
 ghost use Rattle.elements.specs.OutAfter.{elementsMost};
 ghost use Rattle.places.specs.Places.{lazyDepth};
-ghost use Rattle.held.specs.Headers.{headersOf, headOf, startAt, bufferAfter};
+ghost use Rattle.held.specs.Headers.{headersOf, headOf, startAt, Ended};
 
 // Most bytes of an array's elements.
 const ELEMENTS_MAX: usize = VARINT_MAX * (ARRAY_MAX as usize);
@@ -83,7 +83,7 @@ pub fn put_unsigned_array(
     place: usize,
 ) -> Outcome
     requires { ⌜ (held ≤ lazyDepth) × (pos ≤ length (now buf)) × (length (now items) ≤ base .count) ⌝ }
-    ensures { λ r. ⌜ (r ≡ reaches pos (length (now (buf .entry))) (length (headersOf held places ++ fieldBytes (unsignedArray id (now (items .entry))))) place) × (now (buf .exit) ≡ bufferAfter pos (now (buf .entry)) (headersOf held places ++ fieldBytes (unsignedArray id (now (items .entry)))) place) ⌝ }
+    ensures { λ r. ⌜ Ended pos (now (buf .entry)) (headersOf held places ++ fieldBytes (unsignedArray id (now (items .entry)))) place r (now (buf .exit)) ⌝ }
 {
     let size = buf.len();
     let header = tagged(id, T_VARINTARRAY_UNSIGNED);
@@ -119,7 +119,7 @@ pub fn put_signed_array(
     place: usize,
 ) -> Outcome
     requires { ⌜ (held ≤ lazyDepth) × (pos ≤ length (now buf)) × (length (now items) ≤ base .count) ⌝ }
-    ensures { λ r. ⌜ (r ≡ reaches pos (length (now (buf .entry))) (length (headersOf held places ++ fieldBytes (signedArray id (now (items .entry))))) place) × (now (buf .exit) ≡ bufferAfter pos (now (buf .entry)) (headersOf held places ++ fieldBytes (signedArray id (now (items .entry)))) place) ⌝ }
+    ensures { λ r. ⌜ Ended pos (now (buf .entry)) (headersOf held places ++ fieldBytes (signedArray id (now (items .entry)))) place r (now (buf .exit)) ⌝ }
 {
     let size = buf.len();
     let header = tagged(id, T_VARINTARRAY_SIGNED);
@@ -157,7 +157,7 @@ fn put_announced(
     place: usize,
 ) -> Cursor
     requires { ⌜ (held ≤ lazyDepth) × (pos ≤ length (now buf)) ⌝ }
-    ensures { λ r. ⌜ (r ≡ moved (startAt pos place) (now (buf .entry)) (headOf held places (id * 8 + 5) count ++ shortest word)) × (now (buf .exit) ≡ placed (startAt pos place) (now (buf .entry)) (headOf held places (id * 8 + 5) count ++ shortest word)) ⌝ }
+    ensures { λ r. ⌜ Emitted (startAt pos place) (now (buf .entry)) (headOf held places (id * 8 + 5) count ++ shortest word) r (now (buf .exit)) ⌝ }
 {
     let head = put_head(
         buf,
@@ -200,7 +200,7 @@ pub fn put_fp32_bits_array(
     place: usize,
 ) -> Outcome
     requires { ⌜ (held ≤ lazyDepth) × (pos ≤ length (now buf)) × (length (now items) ≤ base .count) ⌝ }
-    ensures { λ r. ⌜ (r ≡ reaches pos (length (now (buf .entry))) (length (headersOf held places ++ fieldBytes (floatArray id fp32 (now (items .entry))))) place) × (now (buf .exit) ≡ bufferAfter pos (now (buf .entry)) (headersOf held places ++ fieldBytes (floatArray id fp32 (now (items .entry)))) place) ⌝ }
+    ensures { λ r. ⌜ Ended pos (now (buf .entry)) (headersOf held places ++ fieldBytes (floatArray id fp32 (now (items .entry)))) place r (now (buf .exit)) ⌝ }
 {
     let size = buf.len();
     let n = items.len();
@@ -220,7 +220,7 @@ pub fn put_fp32_array(
     place: usize,
 ) -> Outcome
     requires { ⌜ (held ≤ lazyDepth) × (pos ≤ length (now buf)) × (length (now items) ≤ base .count) ⌝ }
-    ensures { λ r. ⌜ (r ≡ reaches pos (length (now (buf .entry))) (length (headersOf held places ++ fieldBytes (floatArray id fp32 (map (toBits binary32) (now (items .entry)))))) place) × (now (buf .exit) ≡ bufferAfter pos (now (buf .entry)) (headersOf held places ++ fieldBytes (floatArray id fp32 (map (toBits binary32) (now (items .entry))))) place) ⌝ }
+    ensures { λ r. ⌜ Ended pos (now (buf .entry)) (headersOf held places ++ fieldBytes (floatArray id fp32 (map (toBits binary32) (now (items .entry))))) place r (now (buf .exit)) ⌝ }
 {
     let size = buf.len();
     let n = items.len();
@@ -240,7 +240,7 @@ pub fn put_fp64_bits_array(
     place: usize,
 ) -> Outcome
     requires { ⌜ (held ≤ lazyDepth) × (pos ≤ length (now buf)) × (length (now items) ≤ base .count) ⌝ }
-    ensures { λ r. ⌜ (r ≡ reaches pos (length (now (buf .entry))) (length (headersOf held places ++ fieldBytes (floatArray id fp64 (now (items .entry))))) place) × (now (buf .exit) ≡ bufferAfter pos (now (buf .entry)) (headersOf held places ++ fieldBytes (floatArray id fp64 (now (items .entry)))) place) ⌝ }
+    ensures { λ r. ⌜ Ended pos (now (buf .entry)) (headersOf held places ++ fieldBytes (floatArray id fp64 (now (items .entry)))) place r (now (buf .exit)) ⌝ }
 {
     let size = buf.len();
     let n = items.len();
@@ -260,7 +260,7 @@ pub fn put_fp64_array(
     place: usize,
 ) -> Outcome
     requires { ⌜ (held ≤ lazyDepth) × (pos ≤ length (now buf)) × (length (now items) ≤ base .count) ⌝ }
-    ensures { λ r. ⌜ (r ≡ reaches pos (length (now (buf .entry))) (length (headersOf held places ++ fieldBytes (floatArray id fp64 (map (toBits binary64) (now (items .entry)))))) place) × (now (buf .exit) ≡ bufferAfter pos (now (buf .entry)) (headersOf held places ++ fieldBytes (floatArray id fp64 (map (toBits binary64) (now (items .entry))))) place) ⌝ }
+    ensures { λ r. ⌜ Ended pos (now (buf .entry)) (headersOf held places ++ fieldBytes (floatArray id fp64 (map (toBits binary64) (now (items .entry))))) place r (now (buf .exit)) ⌝ }
 {
     let size = buf.len();
     let n = items.len();

@@ -1,9 +1,11 @@
 -- The tests and the writes of the fast forms, where a call writes at once. No public call of the writer cites these: each has its
 -- equation in `Calls` of `ostream`, which a fast form meets as the slow one does.
-use mathlib.Core.Bool.{Bool, _&&_}
+use mathlib.Core.Path.{_≡_}
+use mathlib.Core.Bool.{Bool, true, _&&_}
 use mathlib.Core.List.{List}
-use Prim.Native.Nat.{ℕ, _-_, _*_}
+use Prim.Native.Nat.{ℕ, _+_, _-_, _*_, _≤_}
 use lib.Dec.{leb, ltb}
+use lib.ListN.{length}
 use Rattle.layout.specs.Limits.{base, longest, pick}
 use Rattle.putting.specs.Put.{put, reached}
 
@@ -30,3 +32,11 @@ reachedIf t b pos o = pick t (reached b pos o) pos
 
 abbrev pub putIf : Bool → List ℕ → ℕ → List ℕ → List ℕ
 putIf t b pos o = pick t (put b pos o) b
+
+-- both: the write of o from pos on over b ends at `end` and leaves d
+abbrev pub WroteIf : Bool → List ℕ → ℕ → List ℕ → List ℕ → ℕ → Type 0
+WroteIf t b pos o d end = (end ≡ reachedIf t b pos o) × (d ≡ putIf t b pos o)
+
+-- both for an array, and that there was room for it
+abbrev pub ArrayIf : Bool → List ℕ → ℕ → List ℕ → List ℕ → ℕ → Type 0
+ArrayIf t b pos o d end = (end ≡ reachedIf t b pos o) × (d ≡ putIf t b pos o) × (t ≡ true → pos + length o ≤ length b)

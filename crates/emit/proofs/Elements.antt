@@ -9,7 +9,8 @@ use lib.ListN.{length, drop, getD, length-append, drop-of-length-le}
 use lib.Seq.{drop-cons}
 use Rattle.layout.specs.Field.{each}
 use Rattle.emit.specs.declared.Cursor.{Cursor}
-use Rattle.emit.proofs.Segments.{Emitted, none-left, joined, stays-in}
+use Rattle.emit.proofs.Segments.{none-left, joined, stays-in}
+use Rattle.emit.specs.Cursor.{Emitted}
 
 -- ---- the bytes of a list's elements
 

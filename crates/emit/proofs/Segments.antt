@@ -6,14 +6,11 @@ use native.Mathlib.Omega.{arith}
 use lib.ListN.{length, drop, length-append}
 use Rattle.emit.specs.declared.Cursor.{Cursor}
 use Rattle.putting.specs.Put.{put, reached}
-use Rattle.emit.specs.Cursor.{placed, moved}
+use Rattle.emit.specs.Cursor.{placed, moved, Emitted}
 use Rattle.putting.proofs.Writes.{reached-le, length-put}
 use Rattle.putting.proofs.Places.{same-where-out, stays-where-out, put-from-twice, reached-from-twice}
 
 -- ---- one segment
-
-abbrev pub Emitted : Cursor → List ℕ → List ℕ → Cursor → List ℕ → Type 0
-Emitted c b s c′ b′ = (c′ ≡ moved c b s) × (b′ ≡ placed c b s)
 
 pub respelled : (c : Cursor) (b s t : List ℕ) (c′ : Cursor) (b′ : List ℕ) → s ≡ t → Emitted c b s c′ b′ → Emitted c b t c′ b′
 respelled c b s t c′ b′ e h = subst (λ (l : List ℕ). Emitted c b l c′ b′) e h

@@ -10,8 +10,8 @@ use varint_bytes::put_whole;
 ghost use Rattle.layout.specs.Limits.{base, longest};
 ghost use Rattle.layout.specs.Varint.{shortest};
 ghost use Rattle.layout.specs.Field.{lowBytes};
-ghost use Rattle.putting.specs.Put.{put, reached};
-ghost use Rattle.emit.specs.Cursor.{placed, moved};
+ghost use Rattle.putting.specs.Put.{Wrote};
+ghost use Rattle.emit.specs.Cursor.{Emitted};
 
 // Where the output's next byte stands in the buffer, and how many bytes still to come are out already.
 pub struct Cursor {
@@ -22,7 +22,7 @@ pub struct Cursor {
 // The varint of v where there is room for the longest, with no test for the buffer's end at each byte; where it ends.
 pub fn put_fitting(buf: &mut [u8], pos: usize, v: u64) -> usize
     requires { ⌜ pos + longest base ≤ length (now buf) ⌝ }
-    ensures { λ r. ⌜ (r ≡ reached (now (buf .entry)) pos (shortest v)) × (now (buf .exit) ≡ put (now (buf .entry)) pos (shortest v)) ⌝ }
+    ensures { λ r. ⌜ Wrote (now (buf .entry)) pos (shortest v) (now (buf .exit)) r ⌝ }
 {
     if v < 128 {
         buf[pos] = v as u8;
@@ -41,7 +41,7 @@ pub fn put_fitting(buf: &mut [u8], pos: usize, v: u64) -> usize
 // Such a varint from its third byte on.
 fn put_third(buf: &mut [u8], pos: usize, v: u64) -> usize
     requires { ⌜ pos + (longest base - 2) ≤ length (now buf) ⌝ }
-    ensures { λ r. ⌜ (r ≡ reached (now (buf .entry)) pos (shortest v)) × (now (buf .exit) ≡ put (now (buf .entry)) pos (shortest v)) ⌝ }
+    ensures { λ r. ⌜ Wrote (now (buf .entry)) pos (shortest v) (now (buf .exit)) r ⌝ }
 {
     if v < 128 {
         buf[pos] = v as u8;
@@ -71,7 +71,7 @@ pub fn least(a: usize, b: usize) -> usize
 
 // The given bytes from their place `from` on, from pos on; where they end.
 pub fn put_rest(buf: &mut [u8], pos: usize, bytes: &[u8], from: usize) -> usize
-    ensures { λ r. ⌜ (r ≡ reached (now (buf .entry)) pos (drop from (now (bytes .entry)))) × (now (buf .exit) ≡ put (now (buf .entry)) pos (drop from (now (bytes .entry)))) ⌝ }
+    ensures { λ r. ⌜ Wrote (now (buf .entry)) pos (drop from (now (bytes .entry))) (now (buf .exit)) r ⌝ }
 {
     if buf.len() <= pos {
         return pos;
@@ -91,7 +91,7 @@ pub fn put_rest(buf: &mut [u8], pos: usize, bytes: &[u8], from: usize) -> usize
 impl Cursor {
     // The varint of v.
     pub fn put_varint(self, buf: &mut [u8], v: u64) -> Cursor
-        ensures { λ r. ⌜ (r ≡ moved self (now (buf .entry)) (shortest v)) × (now (buf .exit) ≡ placed self (now (buf .entry)) (shortest v)) ⌝ }
+        ensures { λ r. ⌜ Emitted self (now (buf .entry)) (shortest v) r (now (buf .exit)) ⌝ }
     {
         let pos = self.pos;
         let skip = self.skip;
@@ -112,7 +112,7 @@ impl Cursor {
 
     // Bytes that go as they are.
     pub fn put_bytes(self, buf: &mut [u8], bytes: &[u8]) -> Cursor
-        ensures { λ r. ⌜ (r ≡ moved self (now (buf .entry)) (now (bytes .entry))) × (now (buf .exit) ≡ placed self (now (buf .entry)) (now (bytes .entry))) ⌝ }
+        ensures { λ r. ⌜ Emitted self (now (buf .entry)) (now (bytes .entry)) r (now (buf .exit)) ⌝ }
     {
         let pos = self.pos;
         let skip = self.skip;
@@ -129,7 +129,7 @@ impl Cursor {
     // The n low bytes of x, low byte first.
     fn put_bits(self, buf: &mut [u8], x: u64, n: usize) -> Cursor
         requires { ⌜ n ≤ 8 ⌝ }
-        ensures { λ r. ⌜ (r ≡ moved self (now (buf .entry)) (lowBytes n x)) × (now (buf .exit) ≡ placed self (now (buf .entry)) (lowBytes n x)) ⌝ }
+        ensures { λ r. ⌜ Emitted self (now (buf .entry)) (lowBytes n x) r (now (buf .exit)) ⌝ }
     {
         let pos = self.pos;
         let skip = self.skip;
@@ -145,14 +145,14 @@ impl Cursor {
 
     // A float of 32 bits.
     pub fn put_fp32(self, buf: &mut [u8], bits: u32) -> Cursor
-        ensures { λ r. ⌜ (r ≡ moved self (now (buf .entry)) (lowBytes 4 bits)) × (now (buf .exit) ≡ placed self (now (buf .entry)) (lowBytes 4 bits)) ⌝ }
+        ensures { λ r. ⌜ Emitted self (now (buf .entry)) (lowBytes 4 bits) r (now (buf .exit)) ⌝ }
     {
         self.put_bits(buf, bits as u64, 4)
     }
 
     // A float of 64 bits.
     pub fn put_fp64(self, buf: &mut [u8], bits: u64) -> Cursor
-        ensures { λ r. ⌜ (r ≡ moved self (now (buf .entry)) (lowBytes 8 bits)) × (now (buf .exit) ≡ placed self (now (buf .entry)) (lowBytes 8 bits)) ⌝ }
+        ensures { λ r. ⌜ Emitted self (now (buf .entry)) (lowBytes 8 bits) r (now (buf .exit)) ⌝ }
     {
         self.put_bits(buf, bits, 8)
     }

@@ -19,9 +19,8 @@ ghost use lib.ListN.{length};
 ghost use Rattle.layout.specs.Varint.{shortest};
 ghost use Rattle.layout.specs.Field.{lowBytes, end};
 ghost use Rattle.layout.specs.Copy.{fieldBytes};
-ghost use Rattle.outcomes.specs.Outcome.{reaches};
 ghost use Rattle.places.specs.Places.{lazyDepth};
-ghost use Rattle.held.specs.Headers.{headersOf, headOf, bufferAfter};
+ghost use Rattle.held.specs.Headers.{headersOf, headOf, Ended};
 
 // The held headers, a header and one varint: where there is room for the longest that they can be, at once.
 pub fn put_varint_field(
@@ -34,7 +33,7 @@ pub fn put_varint_field(
     place: usize,
 ) -> Outcome
     requires { ⌜ (held ≤ lazyDepth) × (pos ≤ length (now buf)) ⌝ }
-    ensures { λ r. ⌜ (r ≡ reaches pos (length (now (buf .entry))) (length (headOf held places header value)) place) × (now (buf .exit) ≡ bufferAfter pos (now (buf .entry)) (headOf held places header value) place) ⌝ }
+    ensures { λ r. ⌜ Ended pos (now (buf .entry)) (headOf held places header value) place r (now (buf .exit)) ⌝ }
 {
     let size = buf.len();
     if place == 0 && has_room_behind(size, pos, places, held, 0) {
@@ -58,7 +57,7 @@ pub fn put_fixlen_field(
     place: usize,
 ) -> Outcome
     requires { ⌜ (held ≤ lazyDepth) × (pos ≤ length (now buf)) ⌝ }
-    ensures { λ r. ⌜ (r ≡ reaches pos (length (now (buf .entry))) (length (headersOf held places ++ (shortest header ++ (shortest word ++ now (bytes .entry))))) place) × (now (buf .exit) ≡ bufferAfter pos (now (buf .entry)) (headersOf held places ++ (shortest header ++ (shortest word ++ now (bytes .entry)))) place) ⌝ }
+    ensures { λ r. ⌜ Ended pos (now (buf .entry)) (headersOf held places ++ (shortest header ++ (shortest word ++ now (bytes .entry)))) place r (now (buf .exit)) ⌝ }
 {
     let size = buf.len();
     if place == 0 && has_room_behind(size, pos, places, held, bytes.len()) {
@@ -82,7 +81,7 @@ pub fn put_marker(
     place: usize,
 ) -> Outcome
     requires { ⌜ (held ≤ lazyDepth) × (pos ≤ length (now buf)) ⌝ }
-    ensures { λ r. ⌜ (r ≡ reaches pos (length (now (buf .entry))) (length (headersOf held places ++ shortest header)) place) × (now (buf .exit) ≡ bufferAfter pos (now (buf .entry)) (headersOf held places ++ shortest header) place) ⌝ }
+    ensures { λ r. ⌜ Ended pos (now (buf .entry)) (headersOf held places ++ shortest header) place r (now (buf .exit)) ⌝ }
 {
     let size = buf.len();
     let behind = put_held(buf, pos, places, held, place);
@@ -104,7 +103,7 @@ pub fn put_close(
     place: usize,
 ) -> Outcome
     requires { ⌜ (held ≤ lazyDepth) × (pos ≤ length (now buf)) ⌝ }
-    ensures { λ r. ⌜ (r ≡ reaches pos (length (now (buf .entry))) (length (headersOf held places ++ fieldBytes (end 0))) place) × (now (buf .exit) ≡ bufferAfter pos (now (buf .entry)) (headersOf held places ++ fieldBytes (end 0)) place) ⌝ }
+    ensures { λ r. ⌜ Ended pos (now (buf .entry)) (headersOf held places ++ fieldBytes (end 0)) place r (now (buf .exit)) ⌝ }
 {
     put_marker(buf, pos, places, held, tagged(0, T_SEQUENCE_END), place)
 }

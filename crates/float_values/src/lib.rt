@@ -8,18 +8,17 @@ use event::fp64_bits;
 use low_bytes::put_eight;
 use low_bytes::put_four;
 use low_bytes::put_part;
-ghost use mathlib.Core.Path.{_≡_};
 ghost use Prim.Native.Nat.{_+_, _*_, _≤_};
 ghost use lib.ListN.{length};
 ghost use lib.Ieee.{binary32, binary64, toBits};
 ghost use Rattle.layout.specs.Field.{lowBytes, each};
-ghost use Rattle.putting.specs.Put.{put, reached};
-ghost use Rattle.emit.specs.Cursor.{placed, moved};
+ghost use Rattle.putting.specs.Put.{Wrote};
+ghost use Rattle.emit.specs.Cursor.{Emitted};
 
 // The elements of a float array of 32 bits, by value, where there is room for all.
 fn put_four_floats(buf: &mut [u8], pos: usize, items: &[f32]) -> usize
     requires { ⌜ pos + 4 * length (now items) ≤ length (now buf) ⌝ }
-    ensures { λ r. ⌜ (r ≡ reached (now (buf .entry)) pos (each (λ x. lowBytes 4 (toBits binary32 x)) (now (items .entry)))) × (now (buf .exit) ≡ put (now (buf .entry)) pos (each (λ x. lowBytes 4 (toBits binary32 x)) (now (items .entry)))) ⌝ }
+    ensures { λ r. ⌜ Wrote (now (buf .entry)) pos (each (λ x. lowBytes 4 (toBits binary32 x)) (now (items .entry))) (now (buf .exit)) r ⌝ }
 {
     let mut at = pos;
     let mut i: usize = 0;
@@ -34,7 +33,7 @@ fn put_four_floats(buf: &mut [u8], pos: usize, items: &[f32]) -> usize
 // Those of a float array of 64 bits, by value, where there is room for all.
 fn put_eight_floats(buf: &mut [u8], pos: usize, items: &[f64]) -> usize
     requires { ⌜ pos + 8 * length (now items) ≤ length (now buf) ⌝ }
-    ensures { λ r. ⌜ (r ≡ reached (now (buf .entry)) pos (each (λ x. lowBytes 8 (toBits binary64 x)) (now (items .entry)))) × (now (buf .exit) ≡ put (now (buf .entry)) pos (each (λ x. lowBytes 8 (toBits binary64 x)) (now (items .entry)))) ⌝ }
+    ensures { λ r. ⌜ Wrote (now (buf .entry)) pos (each (λ x. lowBytes 8 (toBits binary64 x)) (now (items .entry))) (now (buf .exit)) r ⌝ }
 {
     let mut at = pos;
     let mut i: usize = 0;
@@ -50,7 +49,7 @@ fn put_eight_floats(buf: &mut [u8], pos: usize, items: &[f64]) -> usize
 // which go as a block, and what goes of the next. A NaN's bits are the one pattern that the logic knows.
 pub fn put_f32s(cursor: Cursor, buf: &mut [u8], items: &[f32]) -> Cursor
     requires { ⌜ cursor .pos ≤ length (now buf) ⌝ }
-    ensures { λ r. ⌜ (r ≡ moved cursor (now (buf .entry)) (each (λ x. lowBytes 4 (toBits binary32 x)) (now (items .entry)))) × (now (buf .exit) ≡ placed cursor (now (buf .entry)) (each (λ x. lowBytes 4 (toBits binary32 x)) (now (items .entry)))) ⌝ }
+    ensures { λ r. ⌜ Emitted cursor (now (buf .entry)) (each (λ x. lowBytes 4 (toBits binary32 x)) (now (items .entry))) r (now (buf .exit)) ⌝ }
 {
     let pos = cursor.pos;
     let skip = cursor.skip;
@@ -76,7 +75,7 @@ pub fn put_f32s(cursor: Cursor, buf: &mut [u8], items: &[f32]) -> Cursor
 // Those of a float array of 64 bits, by value.
 pub fn put_f64s(cursor: Cursor, buf: &mut [u8], items: &[f64]) -> Cursor
     requires { ⌜ cursor .pos ≤ length (now buf) ⌝ }
-    ensures { λ r. ⌜ (r ≡ moved cursor (now (buf .entry)) (each (λ x. lowBytes 8 (toBits binary64 x)) (now (items .entry)))) × (now (buf .exit) ≡ placed cursor (now (buf .entry)) (each (λ x. lowBytes 8 (toBits binary64 x)) (now (items .entry)))) ⌝ }
+    ensures { λ r. ⌜ Emitted cursor (now (buf .entry)) (each (λ x. lowBytes 8 (toBits binary64 x)) (now (items .entry))) r (now (buf .exit)) ⌝ }
 {
     let pos = cursor.pos;
     let skip = cursor.skip;

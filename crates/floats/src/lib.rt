@@ -6,17 +6,16 @@ use emit::least;
 use low_bytes::put_eight;
 use low_bytes::put_four;
 use low_bytes::put_part;
-ghost use mathlib.Core.Path.{_≡_};
 ghost use Prim.Native.Nat.{_+_, _*_, _≤_};
 ghost use lib.ListN.{length};
 ghost use Rattle.layout.specs.Field.{lowBytes, each};
-ghost use Rattle.putting.specs.Put.{put, reached};
-ghost use Rattle.emit.specs.Cursor.{placed, moved};
+ghost use Rattle.putting.specs.Put.{Wrote};
+ghost use Rattle.emit.specs.Cursor.{Emitted};
 
 // The elements of a float array of 32 bits, by their bits, where there is room for all: no test at each byte.
 fn put_fours(buf: &mut [u8], pos: usize, items: &[u32]) -> usize
     requires { ⌜ pos + 4 * length (now items) ≤ length (now buf) ⌝ }
-    ensures { λ r. ⌜ (r ≡ reached (now (buf .entry)) pos (each (lowBytes 4) (now (items .entry)))) × (now (buf .exit) ≡ put (now (buf .entry)) pos (each (lowBytes 4) (now (items .entry)))) ⌝ }
+    ensures { λ r. ⌜ Wrote (now (buf .entry)) pos (each (lowBytes 4) (now (items .entry))) (now (buf .exit)) r ⌝ }
 {
     let mut at = pos;
     let mut i: usize = 0;
@@ -31,7 +30,7 @@ fn put_fours(buf: &mut [u8], pos: usize, items: &[u32]) -> usize
 // The elements of a float array of 64 bits, by their bits, where there is room for all.
 fn put_eights(buf: &mut [u8], pos: usize, items: &[u64]) -> usize
     requires { ⌜ pos + 8 * length (now items) ≤ length (now buf) ⌝ }
-    ensures { λ r. ⌜ (r ≡ reached (now (buf .entry)) pos (each (lowBytes 8) (now (items .entry)))) × (now (buf .exit) ≡ put (now (buf .entry)) pos (each (lowBytes 8) (now (items .entry)))) ⌝ }
+    ensures { λ r. ⌜ Wrote (now (buf .entry)) pos (each (lowBytes 8) (now (items .entry))) (now (buf .exit)) r ⌝ }
 {
     let mut at = pos;
     let mut i: usize = 0;
@@ -47,7 +46,7 @@ fn put_eights(buf: &mut [u8], pos: usize, items: &[u64]) -> usize
 // for, which go as a block, and what goes of the next.
 pub fn put_fp32s(cursor: Cursor, buf: &mut [u8], items: &[u32]) -> Cursor
     requires { ⌜ cursor .pos ≤ length (now buf) ⌝ }
-    ensures { λ r. ⌜ (r ≡ moved cursor (now (buf .entry)) (each (lowBytes 4) (now (items .entry)))) × (now (buf .exit) ≡ placed cursor (now (buf .entry)) (each (lowBytes 4) (now (items .entry)))) ⌝ }
+    ensures { λ r. ⌜ Emitted cursor (now (buf .entry)) (each (lowBytes 4) (now (items .entry))) r (now (buf .exit)) ⌝ }
 {
     let pos = cursor.pos;
     let skip = cursor.skip;
@@ -73,7 +72,7 @@ pub fn put_fp32s(cursor: Cursor, buf: &mut [u8], items: &[u32]) -> Cursor
 // The elements of a float array of 64 bits, by their bits, likewise.
 pub fn put_fp64s(cursor: Cursor, buf: &mut [u8], items: &[u64]) -> Cursor
     requires { ⌜ cursor .pos ≤ length (now buf) ⌝ }
-    ensures { λ r. ⌜ (r ≡ moved cursor (now (buf .entry)) (each (lowBytes 8) (now (items .entry)))) × (now (buf .exit) ≡ placed cursor (now (buf .entry)) (each (lowBytes 8) (now (items .entry)))) ⌝ }
+    ensures { λ r. ⌜ Emitted cursor (now (buf .entry)) (each (lowBytes 8) (now (items .entry))) r (now (buf .exit)) ⌝ }
 {
     let pos = cursor.pos;
     let skip = cursor.skip;

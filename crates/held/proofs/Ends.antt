@@ -9,20 +9,14 @@ use lib.ListN.{length, drop, length-drop}
 use borrow.Author.Tests.{ltb-true, le-ltb}
 use Rattle.layout.specs.Limits.{pick}
 use Rattle.emit.specs.declared.Cursor.{Cursor}
-use Rattle.putting.specs.Put.{put, reached}
-use Rattle.emit.specs.Cursor.{placed, moved}
+use Rattle.putting.specs.Put.{put, reached, Wrote}
+use Rattle.emit.specs.Cursor.{placed, moved, Emitted}
 use Rattle.putting.proofs.Writes.{put-none, reached-is}
-use Rattle.putting.proofs.Turns.{Whole}
-use Rattle.emit.proofs.Segments.{Emitted}
 use Rattle.outcomes.specs.declared.Outcome.{Outcome}
 use Rattle.outcomes.specs.declared.Outcome.the-variants.{Through, Full}
 use Rattle.outcomes.specs.Outcome.{reaches}
 use Rattle.outcomes.proofs.Outcomes.{reaches-through, reaches-full}
-use Rattle.held.specs.Headers.{startAt, bufferAfter}
-
--- output o, gone on with from a place, from pos on over b
-abbrev pub Ended : ℕ → List ℕ → List ℕ → ℕ → Outcome → List ℕ → Type 0
-Ended pos b o place r b′ = (r ≡ reaches pos (length b) (length o) place) × (b′ ≡ bufferAfter pos b o place)
+use Rattle.held.specs.Headers.{startAt, bufferAfter, Ended}
 
 -- held headers, a field's header and the varint after it, and the rest
 pub grouped : (held a b c : List ℕ) → held ++ (a ++ b) ++ c ≡ held ++ (a ++ (b ++ c))
@@ -64,7 +58,7 @@ module _ (pos : ℕ) (b o : List ℕ) (place : ℕ) (c′ : Cursor) (b′ : List
   goes-on out q h = (reaches-full pos (length b) (length o) place out (omega arith) (omega arith) q, left-any)
 
 -- all of it at once, where there is room
-pub at-once : (pos : ℕ) (b o : List ℕ) (place end : ℕ) (b′ : List ℕ) → place ≡ 0 → pos + length o ≤ length b → Whole b pos o b′ end → Ended pos b o place (Through end) b′
+pub at-once : (pos : ℕ) (b o : List ℕ) (place end : ℕ) (b′ : List ℕ) → place ≡ 0 → pos + length o ≤ length b → Wrote b pos o b′ end → Ended pos b o place (Through end) b′
 unfolding bufferAfter
 at-once pos b o place end b′ z h (e, f) =
     let r : reached b pos o ≡ pos + min (length o) (length b - pos) = reached-is b pos o in

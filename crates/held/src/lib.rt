@@ -8,7 +8,7 @@ ghost use mathlib.Core.Path.{_≡_};
 ghost use Prim.Native.Nat.{_+_, _-_, _*_, _≤_};
 ghost use lib.Dec.{leb};
 ghost use lib.ListN.{length};
-ghost use Rattle.emit.specs.Cursor.{placed, moved};
+ghost use Rattle.emit.specs.Cursor.{Emitted};
 ghost use Rattle.places.specs.Places.{lazyDepth};
 ghost use Rattle.at_ease.specs.AtOnce.{pairMost};
 ghost use Rattle.held.specs.Headers.{heldMost, headMost, headersOf, headOf, startAt};
@@ -46,7 +46,7 @@ pub fn put_held(
     place: usize,
 ) -> Cursor
     requires { ⌜ (held ≤ lazyDepth) × (pos ≤ length (now buf)) ⌝ }
-    ensures { λ r. ⌜ (r ≡ moved (startAt pos place) (now (buf .entry)) (headersOf held places)) × (now (buf .exit) ≡ placed (startAt pos place) (now (buf .entry)) (headersOf held places)) ⌝ }
+    ensures { λ r. ⌜ Emitted (startAt pos place) (now (buf .entry)) (headersOf held places) r (now (buf .exit)) ⌝ }
 {
     let n = held as usize;
     let mut cursor = Cursor { pos, skip: place };
@@ -97,7 +97,7 @@ pub fn put_head(
     place: usize,
 ) -> Cursor
     requires { ⌜ (held ≤ lazyDepth) × (pos ≤ length (now buf)) ⌝ }
-    ensures { λ r. ⌜ (r ≡ moved (startAt pos place) (now (buf .entry)) (headOf held places header second)) × (now (buf .exit) ≡ placed (startAt pos place) (now (buf .entry)) (headOf held places header second)) ⌝ }
+    ensures { λ r. ⌜ Emitted (startAt pos place) (now (buf .entry)) (headOf held places header second) r (now (buf .exit)) ⌝ }
 {
     let behind = put_held(buf, pos, places, held, place);
     let head = behind.put_varint(buf, header);

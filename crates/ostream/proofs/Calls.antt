@@ -17,8 +17,7 @@ use Rattle.outcomes.specs.declared.Outcome.{Outcome}
 use Rattle.outcomes.specs.declared.Outcome.the-variants.{Through, Full, Refused}
 use Rattle.outcomes.specs.Outcome.{reaches}
 use Rattle.checks.proofs.Checks.{passed, check-sound}
-use Rattle.held.specs.Headers.{headersOf, bufferAfter}
-use Rattle.held.proofs.Ends.{Ended}
+use Rattle.held.specs.Headers.{headersOf, bufferAfter, Ended}
 use Rattle.write_slowly.specs.Went.{Went, wentBy, goesBy, fieldFrom}
 use Rattle.ostream.specs.declared.OStream.{OStream}
 use Rattle.ostream.specs.declared.Answer.the-variants as Answers

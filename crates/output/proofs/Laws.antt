@@ -7,8 +7,7 @@ use lib.ListN.{length, drop, drop-of-length-le, length-append}
 use Rattle.layout.specs.Limits.{base, longest}
 use Rattle.emit.specs.declared.Cursor.{Cursor}
 use Rattle.putting.specs.Put.{put, reached}
-use Rattle.emit.specs.Cursor.{placed, moved}
-use Rattle.emit.proofs.Segments.{Emitted}
+use Rattle.emit.specs.Cursor.{placed, moved, Emitted}
 use Rattle.putting.proofs.Writes.{put-none, put-put, reached-is, reached-reached, length-put}
 use Rattle.output.specs.Output.{outputMost}
 

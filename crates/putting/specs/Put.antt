@@ -1,6 +1,7 @@
 -- A write of a list over a buffer: as many of its elements as there is room for, from a place on, and all else unaltered.
+use mathlib.Core.Path.{_≡_}
 use mathlib.Core.List.{List, _++_}
-use Prim.Native.Nat.{ℕ, _+_, _-_, min}
+use Prim.Native.Nat.{ℕ, _+_, _-_, _≤_, min}
 use lib.ListN.{length, take, drop}
 
 -- d with s written over it from `at` on
@@ -15,6 +16,14 @@ put d at s = over d at (take (length d - at) s)
 -- where that write ends
 unfoldable pub reached : List ℕ → ℕ → List ℕ → ℕ
 reached d at s = at + min (length s) (length d - at)
+
+-- both: d is b with o written over it from pos on, as far as there is room, and that ends at `end`
+abbrev pub Wrote : List ℕ → ℕ → List ℕ → List ℕ → ℕ → Type 0
+Wrote b pos o d end = (end ≡ reached b pos o) × (d ≡ put b pos o)
+
+-- both, and that there was room for all of o
+abbrev pub WroteAll : List ℕ → ℕ → List ℕ → List ℕ → ℕ → Type 0
+WroteAll b pos o d end = (end ≡ reached b pos o) × (d ≡ put b pos o) × (pos + length o ≤ length b)
 
 -- ---- an output that goes on from a place: the first `skip` elements of s are out already, and the rest goes from `at` on
 

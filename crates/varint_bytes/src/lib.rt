@@ -1,11 +1,10 @@
 // A varint into a lent buffer, byte by byte as far as there is room.
-ghost use mathlib.Core.Path.{_≡_};
 ghost use Rattle.layout.specs.Varint.{shortest};
-ghost use Rattle.putting.specs.Put.{put, reached};
+ghost use Rattle.putting.specs.Put.{Wrote};
 
 // The varint of v from pos on; where it ends.
 pub fn put_whole(buf: &mut [u8], pos: usize, v: u64) -> usize
-    ensures { λ r. ⌜ (r ≡ reached (now (buf .entry)) pos (shortest v)) × (now (buf .exit) ≡ put (now (buf .entry)) pos (shortest v)) ⌝ }
+    ensures { λ r. ⌜ Wrote (now (buf .entry)) pos (shortest v) (now (buf .exit)) r ⌝ }
 {
     let mut rest = v;
     let mut at = pos;

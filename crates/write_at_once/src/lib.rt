@@ -7,18 +7,16 @@ use emit::put_rest;
 use places::unused_zero;
 use types::LAZY_SEQ_DEPTH;
 use varint::VARINT_MAX;
-ghost use mathlib.Core.Path.{_≡_};
 ghost use mathlib.Core.List.{_++_};
-ghost use Prim.Native.Nat.{_+_, _≤_};
-ghost use mathlib.Core.Bool.{true, _&&_};
+ghost use Prim.Native.Nat.{_≤_};
+ghost use mathlib.Core.Bool.{_&&_};
 ghost use lib.ListN.{length};
 ghost use Rattle.layout.specs.Varint.{shortest};
-ghost use Rattle.layout.specs.Field.{each};
 ghost use Rattle.layout.specs.Zigzag.{zigzag};
 ghost use Rattle.layout.specs.Limits.{base};
-ghost use Rattle.elements.specs.OutAfter.{elementsMost};
+ghost use Rattle.elements.specs.OutAfter.{elementsMost, rowOf};
 ghost use Rattle.places.specs.Places.{clean};
-ghost use Rattle.at_ease.specs.AtOnce.{roomFor, reachedIf, putIf};
+ghost use Rattle.at_ease.specs.AtOnce.{roomFor, ArrayIf, WroteIf};
 
 // Two varints at once, where no place is in use and there is room for the longest; where they end. Else nothing, and pos. (Out of line, as
 // the three after it.)
@@ -29,7 +27,7 @@ pub fn put_pair(
     header: u64,
     second: u64,
 ) -> usize
-    ensures { λ r. ⌜ (r ≡ reachedIf (roomFor (length (now (buf .entry))) pos 0 && clean places) (now (buf .entry)) pos (shortest header ++ shortest second)) × (now (buf .exit) ≡ putIf (roomFor (length (now (buf .entry))) pos 0 && clean places) (now (buf .entry)) pos (shortest header ++ shortest second)) ⌝ }
+    ensures { λ r. ⌜ WroteIf (roomFor (length (now (buf .entry))) pos 0 && clean places) (now (buf .entry)) pos (shortest header ++ shortest second) (now (buf .exit)) r ⌝ }
 {
     if !has_room(buf.len(), pos, 0) {
         return pos;
@@ -50,7 +48,7 @@ pub fn put_field(
     second: u64,
     bytes: &[u8],
 ) -> usize
-    ensures { λ r. ⌜ (r ≡ reachedIf (roomFor (length (now (buf .entry))) pos (length (now (bytes .entry))) && clean places) (now (buf .entry)) pos (shortest header ++ (shortest second ++ now (bytes .entry)))) × (now (buf .exit) ≡ putIf (roomFor (length (now (buf .entry))) pos (length (now (bytes .entry))) && clean places) (now (buf .entry)) pos (shortest header ++ (shortest second ++ now (bytes .entry)))) ⌝ }
+    ensures { λ r. ⌜ WroteIf (roomFor (length (now (buf .entry))) pos (length (now (bytes .entry))) && clean places) (now (buf .entry)) pos (shortest header ++ (shortest second ++ now (bytes .entry))) (now (buf .exit)) r ⌝ }
 {
     if !has_room(buf.len(), pos, bytes.len()) {
         return pos;
@@ -72,7 +70,7 @@ pub fn put_unsigneds(
     items: &[u64],
 ) -> usize
     requires { ⌜ length (now items) ≤ base .count ⌝ }
-    ensures { λ r. ⌜ (r ≡ reachedIf (roomFor (length (now (buf .entry))) pos (elementsMost (length (now (items .entry)))) && clean places) (now (buf .entry)) pos (shortest header ++ (shortest (length (now (items .entry))) ++ each shortest (now (items .entry))))) × (now (buf .exit) ≡ putIf (roomFor (length (now (buf .entry))) pos (elementsMost (length (now (items .entry)))) && clean places) (now (buf .entry)) pos (shortest header ++ (shortest (length (now (items .entry))) ++ each shortest (now (items .entry))))) × ((roomFor (length (now (buf .entry))) pos (elementsMost (length (now (items .entry)))) && clean places) ≡ true → pos + length (shortest header ++ (shortest (length (now (items .entry))) ++ each shortest (now (items .entry)))) ≤ length (now (buf .entry))) ⌝ }
+    ensures { λ r. ⌜ ArrayIf (roomFor (length (now (buf .entry))) pos (elementsMost (length (now (items .entry)))) && clean places) (now (buf .entry)) pos (rowOf header shortest (now (items .entry))) (now (buf .exit)) r ⌝ }
 {
     if !has_room(buf.len(), pos, VARINT_MAX * items.len()) {
         return pos;
@@ -94,7 +92,7 @@ pub fn put_signeds(
     items: &[i64],
 ) -> usize
     requires { ⌜ length (now items) ≤ base .count ⌝ }
-    ensures { λ r. ⌜ (r ≡ reachedIf (roomFor (length (now (buf .entry))) pos (elementsMost (length (now (items .entry)))) && clean places) (now (buf .entry)) pos (shortest header ++ (shortest (length (now (items .entry))) ++ each (λ z. shortest (zigzag z)) (now (items .entry))))) × (now (buf .exit) ≡ putIf (roomFor (length (now (buf .entry))) pos (elementsMost (length (now (items .entry)))) && clean places) (now (buf .entry)) pos (shortest header ++ (shortest (length (now (items .entry))) ++ each (λ z. shortest (zigzag z)) (now (items .entry))))) × ((roomFor (length (now (buf .entry))) pos (elementsMost (length (now (items .entry)))) && clean places) ≡ true → pos + length (shortest header ++ (shortest (length (now (items .entry))) ++ each (λ z. shortest (zigzag z)) (now (items .entry)))) ≤ length (now (buf .entry))) ⌝ }
+    ensures { λ r. ⌜ ArrayIf (roomFor (length (now (buf .entry))) pos (elementsMost (length (now (items .entry)))) && clean places) (now (buf .entry)) pos (rowOf header (λ z. shortest (zigzag z)) (now (items .entry))) (now (buf .exit)) r ⌝ }
 {
     if !has_room(buf.len(), pos, VARINT_MAX * items.len()) {
         return pos;

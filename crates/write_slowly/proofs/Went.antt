@@ -14,9 +14,8 @@ use Rattle.refusals.specs.Tests.{idTooLarge, tooLong}
 use Rattle.outcomes.specs.Outcome.{reaches}
 use Rattle.checks.proofs.Checks.{check-passes, check-fails, check-sound, check-short}
 use Rattle.places.specs.Places.{lazyDepth, soundFor}
-use Rattle.held.specs.Headers.{headersOf}
+use Rattle.held.specs.Headers.{headersOf, Ended}
 use Rattle.places.proofs.Places.{both}
-use Rattle.held.proofs.Ends.{Ended}
 use Rattle.write_slowly.specs.Went.{wentBy, goesBy, judgementOf, fieldFrom}
 
 -- a sound state, as far as a field goes by it

@@ -6,10 +6,10 @@ use Prim.Native.Nat.{ℕ, _+_, _-_, _≤_, _<_}
 use native.Mathlib.Omega.{arith}
 use lib.ListN.{length, replicate}
 use borrow.Author.Tests.{leb-true, le-leb, not-true, not-false}
-use Rattle.putting.specs.Put.{reached, Wrote}
+use Rattle.putting.specs.Put.{reached, Puts}
 use Rattle.putting.proofs.Writes.{reached-is}
 use Rattle.places.specs.Places.{lazyDepth, every, clean}
-use Rattle.at_ease.specs.AtOnce.{pairMost, roomFor, WroteIf, ArrayIf}
+use Rattle.at_ease.specs.AtOnce.{pairMost, roomFor, PutsIf, ArrayIf}
 use Rattle.places.proofs.Places.{both}
 
 -- ---- the room
@@ -59,32 +59,32 @@ module _ (x : Bool) (size pos n : ℕ) (places : List ℕ) (e : x ≡ roomFor si
 
 -- ---- a write that is made where a test passes
 
-pub made : (t : Bool) (b : List ℕ) (pos : ℕ) (o d : List ℕ) (end : ℕ) → t ≡ true → Wrote b pos o d end → WroteIf t b pos o d end
+pub made : (t : Bool) (b : List ℕ) (pos : ℕ) (o d : List ℕ) (end : ℕ) → t ≡ true → Puts b pos o d end → PutsIf t b pos o d end
 made true b pos o d end e h = h
 made false b pos o d end e h = let z : _≡_ {A = ℕ} 0 1 = cc in absurd (omega arith)
 
-pub was-made : (t : Bool) (b : List ℕ) (pos : ℕ) (o d : List ℕ) (end : ℕ) → t ≡ true → WroteIf t b pos o d end → Wrote b pos o d end
+pub was-made : (t : Bool) (b : List ℕ) (pos : ℕ) (o d : List ℕ) (end : ℕ) → t ≡ true → PutsIf t b pos o d end → Puts b pos o d end
 was-made true b pos o d end e h = h
 was-made false b pos o d end e h = let z : _≡_ {A = ℕ} 0 1 = cc in absurd (omega arith)
 
-pub unmade : (t : Bool) (b : List ℕ) (pos : ℕ) (o : List ℕ) → t ≡ false → WroteIf t b pos o b pos
+pub unmade : (t : Bool) (b : List ℕ) (pos : ℕ) (o : List ℕ) → t ≡ false → PutsIf t b pos o b pos
 unmade true b pos o e = let z : _≡_ {A = ℕ} 0 1 = cc in absurd (omega arith)
 unmade false b pos o e = (refl, refl)
 
 -- and of an array
 
-pub made-array : (t : Bool) (b : List ℕ) (pos : ℕ) (o d : List ℕ) (end : ℕ) → t ≡ true → pos + length o ≤ length b → Wrote b pos o d end → ArrayIf t b pos o d end
+pub made-array : (t : Bool) (b : List ℕ) (pos : ℕ) (o d : List ℕ) (end : ℕ) → t ≡ true → pos + length o ≤ length b → Puts b pos o d end → ArrayIf t b pos o d end
 made-array t b pos o d end e h w = let u = made t b pos o d end e w in (u .0, u .1, λ x. h)
 
 pub unmade-array : (t : Bool) (b : List ℕ) (pos : ℕ) (o : List ℕ) → t ≡ false → ArrayIf t b pos o b pos
 unmade-array t b pos o e = let u = unmade t b pos o e in (u .0, u .1, λ g. let x : true ≡ false = sym g ∙ e in let z : _≡_ {A = ℕ} 0 1 = cc in absurd (omega arith))
 
 -- it has been made where it ends further on, and nothing is altered where it has not
-pub went : (t : Bool) (b : List ℕ) (pos : ℕ) (o d : List ℕ) (end : ℕ) → WroteIf t b pos o d end → pos < end → (t ≡ true) × Wrote b pos o d end
+pub went : (t : Bool) (b : List ℕ) (pos : ℕ) (o d : List ℕ) (end : ℕ) → PutsIf t b pos o d end → pos < end → (t ≡ true) × Puts b pos o d end
 went true b pos o d end h l = (refl, h)
 went false b pos o d end (e, f) l = let z : end ≡ pos = e in absurd (omega arith)
 
-pub stayed : (t : Bool) (b : List ℕ) (pos : ℕ) (o d : List ℕ) (end : ℕ) → WroteIf t b pos o d end → (t ≡ true → (0 < length o) × (pos < length b)) → end ≤ pos → d ≡ b
+pub stayed : (t : Bool) (b : List ℕ) (pos : ℕ) (o d : List ℕ) (end : ℕ) → PutsIf t b pos o d end → (t ≡ true → (0 < length o) × (pos < length b)) → end ≤ pos → d ≡ b
 stayed true b pos o d end (e, f) h l =
     let g = h refl in
     let h0 = g .0 in
@@ -95,7 +95,7 @@ stayed true b pos o d end (e, f) h l =
 stayed false b pos o d end (e, f) h l = f
 
 -- nothing is altered where it ends no further on, the output having a byte at least and room
-pub unmoved : (room rest : Bool) (b : List ℕ) (pos n : ℕ) (o d : List ℕ) (end : ℕ) → room ≡ roomFor (length b) pos n → WroteIf (room && rest) b pos o d end → 0 < length o → end ≤ pos → d ≡ b
+pub unmoved : (room rest : Bool) (b : List ℕ) (pos n : ℕ) (o d : List ℕ) (end : ℕ) → room ≡ roomFor (length b) pos n → PutsIf (room && rest) b pos o d end → 0 < length o → end ≤ pos → d ≡ b
 unmoved room rest b pos n o d end e w h l =
     stayed (room && rest) b pos o d end w (λ t. let r = has-room (length b) pos n (sym e ∙ both room rest t .0) in (h, omega arith)) l
 

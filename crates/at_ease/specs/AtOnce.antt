@@ -34,8 +34,8 @@ abbrev pub putIf : Bool → List ℕ → ℕ → List ℕ → List ℕ
 putIf t b pos o = pick t (put b pos o) b
 
 -- both: the write of o from pos on over b ends at `end` and leaves d
-abbrev pub WroteIf : Bool → List ℕ → ℕ → List ℕ → List ℕ → ℕ → Type 0
-WroteIf t b pos o d end = (end ≡ reachedIf t b pos o) × (d ≡ putIf t b pos o)
+abbrev pub PutsIf : Bool → List ℕ → ℕ → List ℕ → List ℕ → ℕ → Type 0
+PutsIf t b pos o d end = (end ≡ reachedIf t b pos o) × (d ≡ putIf t b pos o)
 
 -- both for an array, and that there was room for it
 abbrev pub ArrayIf : Bool → List ℕ → ℕ → List ℕ → List ℕ → ℕ → Type 0

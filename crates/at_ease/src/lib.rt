@@ -12,7 +12,7 @@ ghost use mathlib.Core.Bool.{_&&_};
 ghost use lib.Dec.{leb, ltb};
 ghost use lib.ListN.{length};
 ghost use Rattle.places.specs.Places.{clean};
-ghost use Rattle.at_ease.specs.AtOnce.{roomFor, easyAt, closesAt, WroteIf};
+ghost use Rattle.at_ease.specs.AtOnce.{roomFor, easyAt, closesAt, PutsIf};
 
 // Most bytes of two varints: a field's header, and the value, word or count after it.
 pub const PAIR_MAX: usize = 2 * VARINT_MAX;
@@ -65,7 +65,7 @@ pub fn has_room(size: usize, pos: usize, more: usize) -> bool
 
 // The one byte of a close.
 pub fn put_end(buf: &mut [u8], pos: usize, places: [u32; LAZY_SEQ_DEPTH]) -> usize
-    ensures { λ r. ⌜ WroteIf (ltb pos (length (now (buf .entry))) && clean places) (now (buf .entry)) pos (7 ∷ []) (now (buf .exit)) r ⌝ }
+    ensures { λ r. ⌜ PutsIf (ltb pos (length (now (buf .entry))) && clean places) (now (buf .entry)) pos (7 ∷ []) (now (buf .exit)) r ⌝ }
 {
     if buf.len() <= pos {
         return pos;

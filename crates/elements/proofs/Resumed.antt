@@ -17,7 +17,7 @@ use Rattle.layout.specs.Field.{each}
 use Rattle.varint.proofs.Shortest.{drop-shortest}
 use Rattle.varint.proofs.Digits.{pow128}
 use Rattle.emit.specs.declared.Cursor.{Cursor}
-use Rattle.putting.specs.Put.{reached, Wrote}
+use Rattle.putting.specs.Put.{reached, Puts}
 use Rattle.putting.proofs.Writes.{reached-is, reached-le}
 use Rattle.putting.proofs.Turns.{Left, start, none-left, no-room, followed, followed-by, same-size}
 use Rattle.emit.proofs.Segments.{some-left}
@@ -119,7 +119,7 @@ module _ {A : Type 0} (f : A → List ℕ) (l : List A) where
 
 module _ {A : Type 0} (f : A → List ℕ) (l : List A) (b : List ℕ) (pos : ℕ) (o d : List ℕ) (at i : ℕ) where
   left-next : (part : ℕ) (x : A) (s d′ : List ℕ) (end : ℕ) → Left b pos o d at (drop part (each f (drop i l))) → at ≤ length d → i < length l → part ≤ length (f (getD l i x)) → s ≡ drop part (f (getD l i x))
-      → Wrote d at s d′ end → Left b pos o d′ end (each f (drop (i + 1) l)) × (end ≤ length d′)
+      → Puts d at s d′ end → Left b pos o d′ end (each f (drop (i + 1) l)) × (end ≤ length d′)
   left-next part x s d′ end w h k j q g =
       let e : drop part (each f (drop i l)) ≡ s ++ each f (drop (i + 1) l) = ap (drop part) (each-at f l i x k) ∙ drop-append-le part (f (getD l i x)) (each f (drop (i + 1) l)) j ∙ ap (λ (u : List ℕ). u ++ each f (drop (i + 1) l)) (sym q) in
       let m = followed-by b pos o d at s (each f (drop (i + 1) l)) d′ end (subst (λ (u : List ℕ). Left b pos o d at u) e w) h g in
@@ -140,13 +140,13 @@ module _ {A : Type 0} (f : A → List ℕ) (l : List A) (b : List ℕ) (pos : �
   going-start from h = record { left = start b pos (each f (drop from l)); inside = h }
 
   module _ (o d : List ℕ) (at i : ℕ) (w : Going f l b pos o d at i) where
-    pub going-next : (x : A) (s d′ : List ℕ) (end : ℕ) → i < length l → s ≡ f (getD l i x) → Wrote d at s d′ end → Going f l b pos o d′ end (i + 1)
+    pub going-next : (x : A) (s d′ : List ℕ) (end : ℕ) → i < length l → s ≡ f (getD l i x) → Puts d at s d′ end → Going f l b pos o d′ end (i + 1)
     going-next x s d′ end h q g = let (m, t) = left-next f l b pos o d at i 0 x s d′ end (w .left) (w .inside) h (omega arith) q g in record { left = m; inside = t }
 
-    pub going-end : length l ≤ i → Wrote b pos o d at
+    pub going-end : length l ≤ i → Puts b pos o d at
     going-end h = none-left b pos o d at (each f (drop i l)) (w .left) (ap length (each-end f l i h))
 
-    pub going-full : length d ≤ at → Wrote b pos o d at
+    pub going-full : length d ≤ at → Puts b pos o d at
     going-full h = no-room b pos o d at (each f (drop i l)) (w .left) h
 
 -- ---- that loop from a place on, where the first `part` bytes of the i-th are out
@@ -171,7 +171,7 @@ module _ {A : Type 0} (f : A → List ℕ) (l : List A) (c : Cursor) (b : List �
       }
 
   module _ (d : List ℕ) (at i part : ℕ) (w : Resumed f l c b d at i part) where
-    pub resumed-next : ((x : A) → 1 ≤ length (f x)) → (x : A) (s d′ : List ℕ) (end : ℕ) → i < length l → s ≡ drop part (f (getD l i x)) → Wrote d at s d′ end → Resumed f l c b d′ end (i + 1) 0
+    pub resumed-next : ((x : A) → 1 ≤ length (f x)) → (x : A) (s d′ : List ℕ) (end : ℕ) → i < length l → s ≡ drop part (f (getD l i x)) → Puts d at s d′ end → Resumed f l c b d′ end (i + 1) 0
     resumed-next some x s d′ end h q g =
         let k = w .short x h in
         let (m, t) = left-next f l b (c .pos) _ d at i part x s d′ end (w .left) (w .inside) h (omega arith) q g in
@@ -183,7 +183,7 @@ module _ {A : Type 0} (f : A → List ℕ) (l : List A) (c : Cursor) (b : List �
     pub resumed-part : (n : ℕ) → ((x : A) → length (f x) ≡ n) → i < length l → part < n
     resumed-part n e h = let x : A = some-of l i h in let k = w .short x h in let j = e (getD l i x) in omega arith
 
-    whole : Wrote b (c .pos) (drop (c .skip) (each f l)) d at → (n : ℕ) → n ≡ c .skip - length (each f l) → Emitted c b (each f l) (record { pos = at; skip = n }) d
+    whole : Puts b (c .pos) (drop (c .skip) (each f l)) d at → (n : ℕ) → n ≡ c .skip - length (each f l) → Emitted c b (each f l) (record { pos = at; skip = n }) d
     whole (p, q) n e = some-left c b (each f l) _ at n d e refl p q
 
     pub resumed-end : length l ≤ i → Emitted c b (each f l) (record { pos = at; skip = part }) d
@@ -202,7 +202,7 @@ module _ {A : Type 0} (f : A → List ℕ) (l : List A) (c : Cursor) (b : List �
 
   module _ (d : List ℕ) (at i : ℕ) (w : Resumed f l c b d at i 0) where
     -- n elements more go at once
-    pub resumed-run : ((x : A) → 1 ≤ length (f x)) → (n : ℕ) (d′ : List ℕ) (end : ℕ) → Wrote d at (each f (take n (drop i l))) d′ end → Resumed f l c b d′ end (i + n) 0
+    pub resumed-run : ((x : A) → 1 ≤ length (f x)) → (n : ℕ) (d′ : List ℕ) (end : ℕ) → Puts d at (each f (take n (drop i l))) d′ end → Resumed f l c b d′ end (i + n) 0
     resumed-run some n d′ end g =
         let s : List ℕ = each f (take n (drop i l)) in
         let e : each f (drop i l) ≡ s ++ each f (drop (i + n) l) = halves f (drop i l) n ∙ ap (λ (u : List A). s ++ each f u) (drop-drop n i l) in
@@ -227,7 +227,7 @@ module _ {A : Type 0} (f : A → List ℕ) (l : List A) (c : Cursor) (b : List �
           let t : k * length (take n (drop i l)) ≡ n * k = ap (λ (y : ℕ). k * y) many ∙ mul-comm k n in
           omega arith
 
-      pub run-ends : i + n < length l → (d′ : List ℕ) (end : ℕ) → Wrote d at (each f (take n (drop i l))) d′ end → length d′ ≤ end + k
+      pub run-ends : i + n < length l → (d′ : List ℕ) (end : ℕ) → Puts d at (each f (take n (drop i l))) d′ end → length d′ ≤ end + k
       run-ends h d′ end g =
           let u : at ≤ length d = w .inside in
           let a = div-add-mod' (length d - at) k in
@@ -240,7 +240,7 @@ module _ {A : Type 0} (f : A → List ℕ) (l : List A) (c : Cursor) (b : List �
           omega arith
 
     -- one more, in which the buffer ends
-    pub resumed-last : ((x : A) → 1 ≤ length (f x)) → (k : ℕ) → ((x : A) → length (f x) ≡ k) → (x : A) (s d′ : List ℕ) (end : ℕ) → i < length l → s ≡ f (getD l i x) → length d ≤ at + k → Wrote d at s d′ end → Emitted c b (each f l) (record { pos = end; skip = 0 }) d′
+    pub resumed-last : ((x : A) → 1 ≤ length (f x)) → (k : ℕ) → ((x : A) → length (f x) ≡ k) → (x : A) (s d′ : List ℕ) (end : ℕ) → i < length l → s ≡ f (getD l i x) → length d ≤ at + k → Puts d at s d′ end → Emitted c b (each f l) (record { pos = end; skip = 0 }) d′
     resumed-last some k j x s d′ end h q m g = go (leb (length l) (i + 1)) refl
       where
         n : Resumed f l c b d′ end (i + 1) 0
@@ -257,7 +257,7 @@ module _ {A : Type 0} (f : A → List ℕ) (l : List A) (c : Cursor) (b : List �
             resumed-full d′ end (i + 1) 0 n (leb-false _ _ e) (omega arith)
 
   -- what is left goes by another loop
-  pub resumed-went : (d : List ℕ) (at i : ℕ) → Resumed f l c b d at i 0 → (d′ : List ℕ) (end : ℕ) → Wrote d at (each f (drop i l)) d′ end → Emitted c b (each f l) (record { pos = end; skip = 0 }) d′
+  pub resumed-went : (d : List ℕ) (at i : ℕ) → Resumed f l c b d at i 0 → (d′ : List ℕ) (end : ℕ) → Puts d at (each f (drop i l)) d′ end → Emitted c b (each f l) (record { pos = end; skip = 0 }) d′
   resumed-went d at i w d′ end g =
       let (p, q) = followed b (c .pos) _ d at (each f (drop i l)) d′ end (w .left) g in
       let o : 0 - length (each f (drop i l)) ≡ c .skip - length (each f l) = w .rest in

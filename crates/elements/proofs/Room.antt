@@ -9,7 +9,7 @@ use lib.ListN.{length, drop, getD, length-append}
 use Rattle.layout.specs.Field.{each}
 use Rattle.putting.proofs.Writes.{reached-is}
 use Rattle.putting.proofs.Turns.{Left, start, none-left, followed-by}
-use Rattle.putting.specs.Put.{Wrote}
+use Rattle.putting.specs.Put.{Puts}
 use Rattle.emit.proofs.Elements.{each-at, each-end}
 
 -- the elements of l from the i-th on are left to write from `at` on over d
@@ -34,7 +34,7 @@ module _ {A : Type 0} (f : A → List ℕ) (m : ℕ) (l : List A) (b : List ℕ)
     pub roomy-here : i < length l → at + m ≤ length d
     roomy-here h = let t = turn h in let z : length d ≡ length b = w .left .size in omega arith
 
-    pub roomy-next : (x : A) (s d′ : List ℕ) (end : ℕ) → i < length l → s ≡ f (getD l i x) → length s ≤ m → Wrote d at s d′ end → Roomy f m l b pos d′ end (i + 1)
+    pub roomy-next : (x : A) (s d′ : List ℕ) (end : ℕ) → i < length l → s ≡ f (getD l i x) → length s ≤ m → Puts d at s d′ end → Roomy f m l b pos d′ end (i + 1)
     roomy-next x s d′ end h q n g =
         let t = turn h in
         let y = roomy-here h in
@@ -49,7 +49,7 @@ module _ {A : Type 0} (f : A → List ℕ) (m : ℕ) (l : List A) (b : List ℕ)
           sums = omega arith;
         }
 
-    pub roomy-end : length l ≤ i → Wrote b pos (each f l) d at
+    pub roomy-end : length l ≤ i → Puts b pos (each f l) d at
     roomy-end h = none-left b pos (each f l) d at (each f (drop i l)) (w .left) (ap length (each-end f l i h))
 
     -- all of it was within the buffer

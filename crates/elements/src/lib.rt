@@ -15,7 +15,7 @@ ghost use Rattle.layout.specs.Varint.{shortest};
 ghost use Rattle.layout.specs.Field.{each};
 ghost use Rattle.layout.specs.Limits.{pick};
 ghost use Rattle.layout.specs.Zigzag.{zigzag};
-ghost use Rattle.putting.specs.Put.{Wrote, WroteAll};
+ghost use Rattle.putting.specs.Put.{Puts, PutsAll};
 ghost use Rattle.emit.specs.Cursor.{Emitted};
 ghost use Rattle.elements.specs.OutAfter.{OutAfter, elementsMost};
 
@@ -28,7 +28,7 @@ pub struct Out {
 // The varints of an unsigned array's elements where there is room for the longest of each, two at a turn.
 pub fn put_fittings(buf: &mut [u8], pos: usize, items: &[u64]) -> usize
     requires { ⌜ pos + elementsMost (length (now items)) ≤ length (now buf) ⌝ }
-    ensures { λ r. ⌜ WroteAll (now (buf .entry)) pos (each shortest (now (items .entry))) (now (buf .exit)) r ⌝ }
+    ensures { λ r. ⌜ PutsAll (now (buf .entry)) pos (each shortest (now (items .entry))) (now (buf .exit)) r ⌝ }
 {
     let mut at = pos;
     let mut i: usize = 0;
@@ -49,7 +49,7 @@ pub fn put_fittings(buf: &mut [u8], pos: usize, items: &[u64]) -> usize
 // The varints of a signed array's elements where there is room for the longest of each.
 pub fn put_fitting_zigzags(buf: &mut [u8], pos: usize, items: &[i64]) -> usize
     requires { ⌜ pos + elementsMost (length (now items)) ≤ length (now buf) ⌝ }
-    ensures { λ r. ⌜ WroteAll (now (buf .entry)) pos (each (λ z. shortest (zigzag z)) (now (items .entry))) (now (buf .exit)) r ⌝ }
+    ensures { λ r. ⌜ PutsAll (now (buf .entry)) pos (each (λ z. shortest (zigzag z)) (now (items .entry))) (now (buf .exit)) r ⌝ }
 {
     let mut at = pos;
     let mut i: usize = 0;
@@ -64,7 +64,7 @@ pub fn put_fitting_zigzags(buf: &mut [u8], pos: usize, items: &[i64]) -> usize
 // The varint of v from pos on, with a test for the buffer's end at each byte only where it is near.
 fn put_next(buf: &mut [u8], pos: usize, v: u64) -> usize
     requires { ⌜ pos ≤ length (now buf) ⌝ }
-    ensures { λ r. ⌜ Wrote (now (buf .entry)) pos (shortest v) (now (buf .exit)) r ⌝ }
+    ensures { λ r. ⌜ Puts (now (buf .entry)) pos (shortest v) (now (buf .exit)) r ⌝ }
 {
     if VARINT_MAX <= buf.len() - pos {
         return put_fitting(buf, pos, v);
@@ -136,7 +136,7 @@ pub fn counted(out: Out, n: usize, most: usize) -> usize
 // The varints of an unsigned array's elements from the place `from` on, until the buffer is full.
 fn varints_from(buf: &mut [u8], pos: usize, items: &[u64], from: usize) -> usize
     requires { ⌜ pos ≤ length (now buf) ⌝ }
-    ensures { λ r. ⌜ Wrote (now (buf .entry)) pos (each shortest (drop from (now (items .entry)))) (now (buf .exit)) r ⌝ }
+    ensures { λ r. ⌜ Puts (now (buf .entry)) pos (each shortest (drop from (now (items .entry)))) (now (buf .exit)) r ⌝ }
 {
     let mut at = pos;
     let mut i = from;
@@ -174,7 +174,7 @@ pub fn put_varints(cursor: Cursor, buf: &mut [u8], items: &[u64]) -> Cursor
 // The varints of a signed array's elements from the place `from` on, until the buffer is full.
 fn zigzags_from(buf: &mut [u8], pos: usize, items: &[i64], from: usize) -> usize
     requires { ⌜ pos ≤ length (now buf) ⌝ }
-    ensures { λ r. ⌜ Wrote (now (buf .entry)) pos (each (λ z. shortest (zigzag z)) (drop from (now (items .entry)))) (now (buf .exit)) r ⌝ }
+    ensures { λ r. ⌜ Puts (now (buf .entry)) pos (each (λ z. shortest (zigzag z)) (drop from (now (items .entry)))) (now (buf .exit)) r ⌝ }
 {
     let mut at = pos;
     let mut i = from;

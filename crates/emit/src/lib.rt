@@ -10,7 +10,7 @@ use varint_bytes::put_whole;
 ghost use Rattle.layout.specs.Limits.{base, longest};
 ghost use Rattle.layout.specs.Varint.{shortest};
 ghost use Rattle.layout.specs.Field.{lowBytes};
-ghost use Rattle.putting.specs.Put.{Wrote};
+ghost use Rattle.putting.specs.Put.{Puts};
 ghost use Rattle.emit.specs.Cursor.{Emitted};
 
 // Where the output's next byte stands in the buffer, and how many bytes still to come are out already.
@@ -22,7 +22,7 @@ pub struct Cursor {
 // The varint of v where there is room for the longest, with no test for the buffer's end at each byte; where it ends.
 pub fn put_fitting(buf: &mut [u8], pos: usize, v: u64) -> usize
     requires { ⌜ pos + longest base ≤ length (now buf) ⌝ }
-    ensures { λ r. ⌜ Wrote (now (buf .entry)) pos (shortest v) (now (buf .exit)) r ⌝ }
+    ensures { λ r. ⌜ Puts (now (buf .entry)) pos (shortest v) (now (buf .exit)) r ⌝ }
 {
     if v < 128 {
         buf[pos] = v as u8;
@@ -41,7 +41,7 @@ pub fn put_fitting(buf: &mut [u8], pos: usize, v: u64) -> usize
 // Such a varint from its third byte on.
 fn put_third(buf: &mut [u8], pos: usize, v: u64) -> usize
     requires { ⌜ pos + (longest base - 2) ≤ length (now buf) ⌝ }
-    ensures { λ r. ⌜ Wrote (now (buf .entry)) pos (shortest v) (now (buf .exit)) r ⌝ }
+    ensures { λ r. ⌜ Puts (now (buf .entry)) pos (shortest v) (now (buf .exit)) r ⌝ }
 {
     if v < 128 {
         buf[pos] = v as u8;
@@ -71,7 +71,7 @@ pub fn least(a: usize, b: usize) -> usize
 
 // The given bytes from their place `from` on, from pos on; where they end.
 pub fn put_rest(buf: &mut [u8], pos: usize, bytes: &[u8], from: usize) -> usize
-    ensures { λ r. ⌜ Wrote (now (buf .entry)) pos (drop from (now (bytes .entry))) (now (buf .exit)) r ⌝ }
+    ensures { λ r. ⌜ Puts (now (buf .entry)) pos (drop from (now (bytes .entry))) (now (buf .exit)) r ⌝ }
 {
     if buf.len() <= pos {
         return pos;

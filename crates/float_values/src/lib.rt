@@ -12,13 +12,13 @@ ghost use Prim.Native.Nat.{_+_, _*_, _≤_};
 ghost use lib.ListN.{length};
 ghost use lib.Ieee.{binary32, binary64, toBits};
 ghost use Rattle.layout.specs.Field.{lowBytes, each};
-ghost use Rattle.putting.specs.Put.{Wrote};
+ghost use Rattle.putting.specs.Put.{Puts};
 ghost use Rattle.emit.specs.Cursor.{Emitted};
 
 // The elements of a float array of 32 bits, by value, where there is room for all.
 fn put_four_floats(buf: &mut [u8], pos: usize, items: &[f32]) -> usize
     requires { ⌜ pos + 4 * length (now items) ≤ length (now buf) ⌝ }
-    ensures { λ r. ⌜ Wrote (now (buf .entry)) pos (each (λ x. lowBytes 4 (toBits binary32 x)) (now (items .entry))) (now (buf .exit)) r ⌝ }
+    ensures { λ r. ⌜ Puts (now (buf .entry)) pos (each (λ x. lowBytes 4 (toBits binary32 x)) (now (items .entry))) (now (buf .exit)) r ⌝ }
 {
     let mut at = pos;
     let mut i: usize = 0;
@@ -33,7 +33,7 @@ fn put_four_floats(buf: &mut [u8], pos: usize, items: &[f32]) -> usize
 // Those of a float array of 64 bits, by value, where there is room for all.
 fn put_eight_floats(buf: &mut [u8], pos: usize, items: &[f64]) -> usize
     requires { ⌜ pos + 8 * length (now items) ≤ length (now buf) ⌝ }
-    ensures { λ r. ⌜ Wrote (now (buf .entry)) pos (each (λ x. lowBytes 8 (toBits binary64 x)) (now (items .entry))) (now (buf .exit)) r ⌝ }
+    ensures { λ r. ⌜ Puts (now (buf .entry)) pos (each (λ x. lowBytes 8 (toBits binary64 x)) (now (items .entry))) (now (buf .exit)) r ⌝ }
 {
     let mut at = pos;
     let mut i: usize = 0;

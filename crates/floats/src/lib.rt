@@ -9,13 +9,13 @@ use low_bytes::put_part;
 ghost use Prim.Native.Nat.{_+_, _*_, _≤_};
 ghost use lib.ListN.{length};
 ghost use Rattle.layout.specs.Field.{lowBytes, each};
-ghost use Rattle.putting.specs.Put.{Wrote};
+ghost use Rattle.putting.specs.Put.{Puts};
 ghost use Rattle.emit.specs.Cursor.{Emitted};
 
 // The elements of a float array of 32 bits, by their bits, where there is room for all: no test at each byte.
 fn put_fours(buf: &mut [u8], pos: usize, items: &[u32]) -> usize
     requires { ⌜ pos + 4 * length (now items) ≤ length (now buf) ⌝ }
-    ensures { λ r. ⌜ Wrote (now (buf .entry)) pos (each (lowBytes 4) (now (items .entry))) (now (buf .exit)) r ⌝ }
+    ensures { λ r. ⌜ Puts (now (buf .entry)) pos (each (lowBytes 4) (now (items .entry))) (now (buf .exit)) r ⌝ }
 {
     let mut at = pos;
     let mut i: usize = 0;
@@ -30,7 +30,7 @@ fn put_fours(buf: &mut [u8], pos: usize, items: &[u32]) -> usize
 // The elements of a float array of 64 bits, by their bits, where there is room for all.
 fn put_eights(buf: &mut [u8], pos: usize, items: &[u64]) -> usize
     requires { ⌜ pos + 8 * length (now items) ≤ length (now buf) ⌝ }
-    ensures { λ r. ⌜ Wrote (now (buf .entry)) pos (each (lowBytes 8) (now (items .entry))) (now (buf .exit)) r ⌝ }
+    ensures { λ r. ⌜ Puts (now (buf .entry)) pos (each (lowBytes 8) (now (items .entry))) (now (buf .exit)) r ⌝ }
 {
     let mut at = pos;
     let mut i: usize = 0;

@@ -9,7 +9,7 @@ use lib.ListN.{length, drop, length-drop}
 use borrow.Author.Tests.{ltb-true, le-ltb}
 use Rattle.layout.specs.Limits.{pick}
 use Rattle.emit.specs.declared.Cursor.{Cursor}
-use Rattle.putting.specs.Put.{put, reached, Wrote}
+use Rattle.putting.specs.Put.{put, reached, Puts}
 use Rattle.emit.specs.Cursor.{placed, moved, Emitted}
 use Rattle.putting.proofs.Writes.{put-none, reached-is}
 use Rattle.outcomes.specs.declared.Outcome.{Outcome}
@@ -58,7 +58,7 @@ module _ (pos : ℕ) (b o : List ℕ) (place : ℕ) (c′ : Cursor) (b′ : List
   goes-on out q h = (reaches-full pos (length b) (length o) place out (omega arith) (omega arith) q, left-any)
 
 -- all of it at once, where there is room
-pub at-once : (pos : ℕ) (b o : List ℕ) (place end : ℕ) (b′ : List ℕ) → place ≡ 0 → pos + length o ≤ length b → Wrote b pos o b′ end → Ended pos b o place (Through end) b′
+pub at-once : (pos : ℕ) (b o : List ℕ) (place end : ℕ) (b′ : List ℕ) → place ≡ 0 → pos + length o ≤ length b → Puts b pos o b′ end → Ended pos b o place (Through end) b′
 unfolding bufferAfter
 at-once pos b o place end b′ z h (e, f) =
     let r : reached b pos o ≡ pos + min (length o) (length b - pos) = reached-is b pos o in

@@ -13,11 +13,10 @@ use Rattle.io.specs.Digits.{digits}
 use Rattle.layout.specs.Field.{Raw, fp32, fp64, kindNumber, subtypeNumber, each}
 use Rattle.layout.specs.Event.{Event, Unsigned, Signed, Float, Piece, Fixlen, Array, Begin, End}
 use Rattle.layout.specs.Message.{All, Bytes}
-use Rattle.putting.specs.Put.{over}
+use Rattle.putting.specs.Put.{over, Puts}
 use Rattle.putting.proofs.Writes.{put-is, reached-is}
 use Rattle.emit.proofs.Elements.{each-append}
 use Rattle.event_list.specs.Lines.{decimalIn, decimal, signed, hexadecimal, parts, byteLine, linesOf}
-use Rattle.lines.specs.Texts.{Puts}
 use Rattle.lines.proofs.Numbers.{one-digit, more-digits}
 
 pub lines-of-cuts : (id : ℕ) (r : Raw) (total o o′ : ℕ) (s t : List ℕ) → linesOf (Piece id r total o (s ++ t)) ≡ linesOf (Piece id r total o s) ++ linesOf (Piece id r total o′ t)

@@ -14,7 +14,7 @@ use Rattle.putting.proofs.Writes.{put-none, put-full, reached-is, length-put}
 use Rattle.emit.proofs.Elements.{each-append}
 use Rattle.putting.proofs.Turns.{start, followed, followed-by}
 use Rattle.event_list.specs.Lines.{decimal, byteLine}
-use Rattle.lines.specs.Texts.{Puts}
+use Rattle.putting.specs.Put.{Puts}
 
 pub says : (b : List ℕ) (at : ℕ) (s t b′ : List ℕ) (r : ℕ) → s ≡ t → Puts b at s b′ r → Puts b at t b′ r
 says b at s t b′ r e p = subst (λ (l : List ℕ). Puts b at l b′ r) e p

@@ -1,2 +1,2 @@
--- `Texts` serves the functions that put a line.
-pub mod Texts
+-- The verdict of the last line: `Verdict`.
+pub mod Verdict

@@ -1,12 +1,12 @@
 // The lines of the event list: what an event says and the verdict, put as text into a lent buffer as far as there is room.
-ghost use mathlib.Core.Path.{_≡_};
-ghost use Prim.Native.Nat.{min};
 ghost use lib.Seq.{slice};
 ghost use Rattle.layout.specs.Field.{each};
 ghost use Rattle.event.specs.Event.{eventOf};
 ghost use Rattle.event_list.specs.Lines.{decimal, hexadecimal, byteLine, linesOf, lastLine};
 ghost use Rattle.shown.specs.Spelled.{partText, lineText};
-ghost use Rattle.lines.specs.Texts.{Puts, verdictIn};
+ghost use Rattle.putting.specs.Put.{Puts};
+ghost use Rattle.lines.specs.Verdict.{verdictIn};
+use emit::least;
 use emit::put_rest;
 use event::Bounds;
 use event::Event;
@@ -103,12 +103,6 @@ fn put_bytes(out: &mut [u8], at: usize, bytes: &[u8]) -> usize
         i += 1;
     }
     next
-}
-
-fn least(a: usize, b: usize) -> usize
-    ensures { λ r. ⌜ r ≡ min a b ⌝ }
-{
-    if a < b { a } else { b }
 }
 
 // The lines of a piece: of as many of its bytes as the chunk has.

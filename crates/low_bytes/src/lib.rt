@@ -2,11 +2,11 @@
 ghost use Prim.Native.Nat.{_+_, _≤_, _<_};
 ghost use lib.ListN.{length, drop};
 ghost use Rattle.layout.specs.Field.{lowBytes};
-ghost use Rattle.putting.specs.Put.{Wrote};
+ghost use Rattle.putting.specs.Put.{Puts};
 
 // The n low bytes of x, low byte first, from pos on; where they end.
 fn put_low(buf: &mut [u8], pos: usize, x: u64, n: usize) -> usize
-    ensures { λ r. ⌜ Wrote (now (buf .entry)) pos (lowBytes n x) (now (buf .exit)) r ⌝ }
+    ensures { λ r. ⌜ Puts (now (buf .entry)) pos (lowBytes n x) (now (buf .exit)) r ⌝ }
 {
     let mut rest = x;
     let mut left = n;
@@ -23,7 +23,7 @@ fn put_low(buf: &mut [u8], pos: usize, x: u64, n: usize) -> usize
 // The four low bytes of x, low byte first, where there is room for them; where they end.
 pub fn put_four(buf: &mut [u8], pos: usize, x: u64) -> usize
     requires { ⌜ pos + 4 ≤ length (now buf) ⌝ }
-    ensures { λ r. ⌜ Wrote (now (buf .entry)) pos (lowBytes 4 x) (now (buf .exit)) r ⌝ }
+    ensures { λ r. ⌜ Puts (now (buf .entry)) pos (lowBytes 4 x) (now (buf .exit)) r ⌝ }
 {
     let b = x / 256;
     let c = b / 256;
@@ -38,7 +38,7 @@ pub fn put_four(buf: &mut [u8], pos: usize, x: u64) -> usize
 // The eight low bytes of x, low byte first, where there is room for them; where they end.
 pub fn put_eight(buf: &mut [u8], pos: usize, x: u64) -> usize
     requires { ⌜ pos + 8 ≤ length (now buf) ⌝ }
-    ensures { λ r. ⌜ Wrote (now (buf .entry)) pos (lowBytes 8 x) (now (buf .exit)) r ⌝ }
+    ensures { λ r. ⌜ Puts (now (buf .entry)) pos (lowBytes 8 x) (now (buf .exit)) r ⌝ }
 {
     let mid = put_four(buf, pos, x);
     put_four(buf, mid, x / 4294967296)
@@ -47,7 +47,7 @@ pub fn put_eight(buf: &mut [u8], pos: usize, x: u64) -> usize
 // The n low bytes of x from the place `part` on. A float's go at once where none of them is out and there is room for all.
 pub fn put_part(buf: &mut [u8], pos: usize, x: u64, n: usize, part: usize) -> usize
     requires { ⌜ (n ≤ 8) × (part < n) ⌝ }
-    ensures { λ r. ⌜ Wrote (now (buf .entry)) pos (drop part (lowBytes n x)) (now (buf .exit)) r ⌝ }
+    ensures { λ r. ⌜ Puts (now (buf .entry)) pos (drop part (lowBytes n x)) (now (buf .exit)) r ⌝ }
 {
     if part == 0 && pos < buf.len() && n <= buf.len() - pos {
         if n == 4 {

@@ -9,7 +9,7 @@ use lib.ListN.{length, take, drop}
 use borrow.Author.Tests.{leb-true, ltb-true, le-leb, le-ltb}
 use Rattle.layout.specs.Limits.{base}
 use Rattle.layout.specs.Varint.{shortest}
-use Rattle.putting.specs.Put.{Wrote}
+use Rattle.putting.specs.Put.{Puts}
 use Rattle.places.specs.Places.{clean}
 use Rattle.at_ease.specs.AtOnce.{pairMost, roomFor, easyAt, closesAt}
 use Rattle.held.proofs.Ends.{at-once}
@@ -101,7 +101,7 @@ spelled s e h n l q = ap (λ (x : ℕ). shortest x ++ l) q ∙ ap (λ (x : List 
 
 -- a call whose output goes at once
 pub goes-at-once : (k : Call) (s : OStream) (b o : List ℕ) (place end : ℕ) (b′ : List ℕ) (next : OStream) → judged (k .tests) ≡ accepted → o ≡ k .output → next ≡ k .done → place ≡ 0
-    → s .offset + length o ≤ length b → Wrote b (s .offset) o b′ end
+    → s .offset + length o ≤ length b → Puts b (s .offset) o b′ end
     → resultOf (record { answer = Done; stream = at next end }) b′ ≡ written k s b place
 goes-at-once k s b o place end b′ next j eo en z h w = settles k s b place _ o next _ b′ eo en j (at-once (s .offset) b o place end b′ z h w) refl
 

@@ -2,7 +2,7 @@
 ghost use mathlib.Core.Path.{_≡_};
 ghost use Prim.Native.Nat.{_+_, _≤_};
 ghost use lib.ListN.{length, drop};
-ghost use Rattle.putting.specs.Put.{put, reached, Wrote};
+ghost use Rattle.putting.specs.Put.{put, reached, Puts};
 ghost use Rattle.output.specs.Output.{outputBytes, outputMost};
 use emit::Cursor;
 use emit::put_fitting;
@@ -68,7 +68,7 @@ impl Output {
     // Its bytes from the place on, as far as there is room from pos on; where they end.
     pub fn put(self, buf: &mut [u8], pos: usize, place: usize) -> usize
         requires { ⌜ pos ≤ length (now buf) ⌝ }
-        ensures { λ r. ⌜ Wrote (now (buf .entry)) pos (drop place (outputBytes self)) (now (buf .exit)) r ⌝ }
+        ensures { λ r. ⌜ Puts (now (buf .entry)) pos (drop place (outputBytes self)) (now (buf .exit)) r ⌝ }
     {
         let cursor = Cursor { pos, skip: place };
         match self {

@@ -8,7 +8,7 @@ use lib.Dec.{leb}
 use lib.ListN.{length, drop, getD, set, length-set, length-drop}
 use lib.Seq.{drop-cons}
 use borrow.Author.Tests.{leb-true, leb-false}
-use Rattle.putting.specs.Put.{put, reached, Wrote}
+use Rattle.putting.specs.Put.{put, reached, Puts}
 use Rattle.putting.proofs.Writes.{put-none, put-full, put-cons, put-put, reached-is, reached-cons, reached-reached, length-put}
 
 -- o from pos on over b, where s is left to write from `at` on over d
@@ -29,22 +29,22 @@ module _ (b : List ℕ) (pos : ℕ) (o d : List ℕ) (at : ℕ) (s : List ℕ) (
         ends = reached-cons d at x t h ∙ ap (reached d at) (sym e) ∙ l .ends;
       }
 
-  pub no-room : length d ≤ at → Wrote b pos o d at
+  pub no-room : length d ≤ at → Puts b pos o d at
   no-room h = let e : at ≡ at + min (length s) (length d - at) = omega arith in (e ∙ sym (reached-is d at s) ∙ l .ends, sym (put-full d at s h) ∙ l .same)
 
-  pub none-left : length s ≡ 0 → Wrote b pos o d at
+  pub none-left : length s ≡ 0 → Puts b pos o d at
   none-left h = let e : at ≡ at + min (length s) (length d - at) = omega arith in (e ∙ sym (reached-is d at s) ∙ l .ends, sym (put-none d at s h) ∙ l .same)
 
 -- the last one
-pub ended : (b : List ℕ) (pos : ℕ) (o d : List ℕ) (at : ℕ) (s : List ℕ) (l : Left b pos o d at s) (x : ℕ) → s ≡ x ∷ [] → at < length d → Wrote b pos o (set d at x) (at + 1)
+pub ended : (b : List ℕ) (pos : ℕ) (o d : List ℕ) (at : ℕ) (s : List ℕ) (l : Left b pos o d at s) (x : ℕ) → s ≡ x ∷ [] → at < length d → Puts b pos o (set d at x) (at + 1)
 ended b pos o d at s l x e h = none-left b pos o (set d at x) (at + 1) [] (next b pos o d at s l x [] e h) refl
 
 -- what is left is written in one go
-pub followed : (b : List ℕ) (pos : ℕ) (o d : List ℕ) (at : ℕ) (s d′ : List ℕ) (end : ℕ) → Left b pos o d at s → Wrote d at s d′ end → Wrote b pos o d′ end
+pub followed : (b : List ℕ) (pos : ℕ) (o d : List ℕ) (at : ℕ) (s d′ : List ℕ) (end : ℕ) → Left b pos o d at s → Puts d at s d′ end → Puts b pos o d′ end
 followed b pos o d at s d′ end l (e, f) = (e ∙ l .ends, f ∙ l .same)
 
 -- the first part of what is left is written in one go
-pub followed-by : (b : List ℕ) (pos : ℕ) (o d : List ℕ) (at : ℕ) (s t d′ : List ℕ) (end : ℕ) → Left b pos o d at (s ++ t) → at ≤ length d → Wrote d at s d′ end → Left b pos o d′ end t
+pub followed-by : (b : List ℕ) (pos : ℕ) (o d : List ℕ) (at : ℕ) (s t d′ : List ℕ) (end : ℕ) → Left b pos o d at (s ++ t) → at ≤ length d → Puts d at s d′ end → Left b pos o d′ end t
 followed-by b pos o d at s t d′ end l h (e, f) =
     record {
       size = ap length f ∙ length-put d at s h ∙ l .size;
@@ -53,12 +53,12 @@ followed-by b pos o d at s t d′ end l h (e, f) =
     }
 
 -- a write of a list that is spelled otherwise
-pub whole-as : (b : List ℕ) (pos : ℕ) (s t d : List ℕ) (end : ℕ) → s ≡ t → Wrote b pos s d end → Wrote b pos t d end
+pub whole-as : (b : List ℕ) (pos : ℕ) (s t d : List ℕ) (end : ℕ) → s ≡ t → Puts b pos s d end → Puts b pos t d end
 whole-as b pos s t d end e (p, q) = (p ∙ ap (reached b pos) e, q ∙ ap (put b pos) e)
 
 -- two writes in a row
-module _ (b : List ℕ) (pos : ℕ) (s b1 : List ℕ) (mid : ℕ) (h : pos ≤ length b) (w : Wrote b pos s b1 mid) where
-  pub in-a-row : (t b2 : List ℕ) (end : ℕ) → Wrote b1 mid t b2 end → Wrote b pos (s ++ t) b2 end
+module _ (b : List ℕ) (pos : ℕ) (s b1 : List ℕ) (mid : ℕ) (h : pos ≤ length b) (w : Puts b pos s b1 mid) where
+  pub in-a-row : (t b2 : List ℕ) (end : ℕ) → Puts b1 mid t b2 end → Puts b pos (s ++ t) b2 end
   in-a-row t b2 end g = followed b pos (s ++ t) b1 mid t b2 end (followed-by b pos (s ++ t) b pos s t b1 mid (start b pos (s ++ t)) h w) g
 
   pub same-size : length b1 ≡ length b
@@ -78,10 +78,10 @@ copied b pos o d l from k h hd hl =
 
 -- its end, where the room or the list is used up
 pub copied-all : (b : List ℕ) (pos : ℕ) (o d l : List ℕ) (from k : ℕ) → Left b pos o d (pos + k) (drop (from + k) l) → k ≡ min (length l - from) (length b - pos) → pos ≤ length b → from ≤ length l
-    → Wrote b pos o d (pos + k)
+    → Puts b pos o d (pos + k)
 copied-all b pos o d l from k h e hb hl = go (leb (length l - from) (length b - pos)) refl
   where
-    go : (t : Bool) → leb (length l - from) (length b - pos) ≡ t → Wrote b pos o d (pos + k)
+    go : (t : Bool) → leb (length l - from) (length b - pos) ≡ t → Puts b pos o d (pos + k)
     go true q =
         let g : length l - from ≤ length b - pos = leb-true _ _ q in
         none-left b pos o d (pos + k) (drop (from + k) l) h (omega (arith, length-drop (from + k) l))

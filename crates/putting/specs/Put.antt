@@ -18,12 +18,12 @@ unfoldable pub reached : List ℕ → ℕ → List ℕ → ℕ
 reached d at s = at + min (length s) (length d - at)
 
 -- both: d is b with o written over it from pos on, as far as there is room, and that ends at `end`
-abbrev pub Wrote : List ℕ → ℕ → List ℕ → List ℕ → ℕ → Type 0
-Wrote b pos o d end = (end ≡ reached b pos o) × (d ≡ put b pos o)
+abbrev pub Puts : List ℕ → ℕ → List ℕ → List ℕ → ℕ → Type 0
+Puts b pos o d end = (end ≡ reached b pos o) × (d ≡ put b pos o)
 
 -- both, and that there was room for all of o
-abbrev pub WroteAll : List ℕ → ℕ → List ℕ → List ℕ → ℕ → Type 0
-WroteAll b pos o d end = (end ≡ reached b pos o) × (d ≡ put b pos o) × (pos + length o ≤ length b)
+abbrev pub PutsAll : List ℕ → ℕ → List ℕ → List ℕ → ℕ → Type 0
+PutsAll b pos o d end = (end ≡ reached b pos o) × (d ≡ put b pos o) × (pos + length o ≤ length b)
 
 -- ---- an output that goes on from a place: the first `skip` elements of s are out already, and the rest goes from `at` on
 

@@ -2,7 +2,7 @@
 // its shortest form already goes as it came, until the buffer is full, the chunk is spent or the message is broken.
 ghost use mathlib.Core.Path.{_≡_};
 ghost use mathlib.Core.Bool.{true};
-ghost use Prim.Native.Nat.{_+_, _<_, _≤_, min};
+ghost use Prim.Native.Nat.{_+_, _<_, _≤_};
 ghost use lib.ListN.{length};
 ghost use Rattle.layout.specs.Limits.{base};
 ghost use Rattle.copying.specs.Owed.{dueIn};
@@ -10,6 +10,7 @@ ghost use Rattle.istream.specs.Stream.{stateOf, soundStream};
 ghost use Rattle.phase.proofs.Phases.{Live};
 ghost use Rattle.turns.specs.Turns.{eventTurn, eventBuf, heardTurn, heardBuf, cutOff, pause, InPayload, Turned, Ran, later};
 use as_is::as_is;
+use emit::least;
 use emit::put_rest;
 use istream::Fed;
 use istream::IStream;
@@ -44,12 +45,6 @@ pub struct Stop {
 enum Turn {
     On(IStream, usize, usize),
     Stop(Stop),
-}
-
-fn least(a: usize, b: usize) -> usize
-    ensures { λ r. ⌜ r ≡ min a b ⌝ }
-{
-    if a < b { a } else { b }
 }
 
 // How many elements of an array are due, the one under way included.

@@ -8,21 +8,21 @@ use lib.ListN.{length, length-append}
 use Rattle.layout.specs.Limits.{base, longest}
 use Rattle.layout.specs.Varint.{shortest}
 use Rattle.varint.proofs.Shortest.{length-longest}
-use Rattle.putting.specs.Put.{put, reached, Wrote}
+use Rattle.putting.specs.Put.{put, reached, Puts}
 use Rattle.putting.proofs.Writes.{reached-is}
 use Rattle.putting.proofs.Turns.{in-a-row, same-size}
 use Rattle.at_ease.specs.AtOnce.{pairMost, roomFor, ArrayIf}
 use Rattle.at_ease.proofs.AtOnce.{has-room, made-array}
 
 -- a varint ends where it should, where there is room for the longest
-module _ (b : List ℕ) (pos v : ℕ) (d : List ℕ) (end n : ℕ) (h : pos + longest base + n ≤ length b) (f : v < 2 ^ base .bits) (w : Wrote b pos (shortest v) d end) where
+module _ (b : List ℕ) (pos v : ℕ) (d : List ℕ) (end n : ℕ) (h : pos + longest base + n ≤ length b) (f : v < 2 ^ base .bits) (w : Puts b pos (shortest v) d end) where
   ends : (end ≡ pos + length (shortest v)) × (length d ≡ length b)
   ends = let r = w .0 ∙ reached-is b pos (shortest v) in let l = length-longest base v f in (omega arith, same-size b pos (shortest v) d end (omega arith) w)
 
   fits : end + n ≤ length d
   fits = let (p, q) = ends in let l = length-longest base v f in omega arith
 
-module _ (b : List ℕ) (pos n header : ℕ) (b1 : List ℕ) (mid : ℕ) (r : roomFor (length b) pos n ≡ true) (f : header < 2 ^ base .bits) (w : Wrote b pos (shortest header) b1 mid) where
+module _ (b : List ℕ) (pos n header : ℕ) (b1 : List ℕ) (mid : ℕ) (r : roomFor (length b) pos n ≡ true) (f : header < 2 ^ base .bits) (w : Puts b pos (shortest header) b1 mid) where
   room : pos + pairMost + n ≤ length b
   room = has-room (length b) pos n r
 
@@ -32,14 +32,14 @@ module _ (b : List ℕ) (pos n header : ℕ) (b1 : List ℕ) (mid : ℕ) (r : ro
   pub second-fits : mid + longest base ≤ length b1
   second-fits = let h = second in omega arith
 
-  pub pair-made : (s b2 : List ℕ) (end : ℕ) → Wrote b1 mid s b2 end → Wrote b pos (shortest header ++ s) b2 end
+  pub pair-made : (s b2 : List ℕ) (end : ℕ) → Puts b1 mid s b2 end → Puts b pos (shortest header ++ s) b2 end
   pair-made s b2 end g = let h = room in in-a-row b pos (shortest header) b1 mid (omega arith) w s b2 end g
 
-  module _ (v : ℕ) (b2 : List ℕ) (at : ℕ) (g : v < 2 ^ base .bits) (m : Wrote b1 mid (shortest v) b2 at) where
+  module _ (v : ℕ) (b2 : List ℕ) (at : ℕ) (g : v < 2 ^ base .bits) (m : Puts b1 mid (shortest v) b2 at) where
     pub rest-fits : at + n ≤ length b2
     rest-fits = fits b1 mid v b2 at n second g m
 
-    pub row-made : (u b3 : List ℕ) (end : ℕ) → Wrote b2 at u b3 end → Wrote b pos (shortest header ++ (shortest v ++ u)) b3 end
+    pub row-made : (u b3 : List ℕ) (end : ℕ) → Puts b2 at u b3 end → Puts b pos (shortest header ++ (shortest v ++ u)) b3 end
     row-made u b3 end k = let h = second in pair-made (shortest v ++ u) b3 end (in-a-row b1 mid (shortest v) b2 at (omega arith) m u b3 end k)
 
     row-fits : (u : List ℕ) → at + length u ≤ length b2 → pos + length (shortest header ++ (shortest v ++ u)) ≤ length b

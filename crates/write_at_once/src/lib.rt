@@ -16,7 +16,7 @@ ghost use Rattle.layout.specs.Zigzag.{zigzag};
 ghost use Rattle.layout.specs.Limits.{base};
 ghost use Rattle.elements.specs.OutAfter.{elementsMost, rowOf};
 ghost use Rattle.places.specs.Places.{clean};
-ghost use Rattle.at_ease.specs.AtOnce.{roomFor, ArrayIf, WroteIf};
+ghost use Rattle.at_ease.specs.AtOnce.{roomFor, ArrayIf, PutsIf};
 
 // Two varints at once, where no place is in use and there is room for the longest; where they end. Else nothing, and pos. (Out of line, as
 // the three after it.)
@@ -27,7 +27,7 @@ pub fn put_pair(
     header: u64,
     second: u64,
 ) -> usize
-    ensures { λ r. ⌜ WroteIf (roomFor (length (now (buf .entry))) pos 0 && clean places) (now (buf .entry)) pos (shortest header ++ shortest second) (now (buf .exit)) r ⌝ }
+    ensures { λ r. ⌜ PutsIf (roomFor (length (now (buf .entry))) pos 0 && clean places) (now (buf .entry)) pos (shortest header ++ shortest second) (now (buf .exit)) r ⌝ }
 {
     if !has_room(buf.len(), pos, 0) {
         return pos;
@@ -48,7 +48,7 @@ pub fn put_field(
     second: u64,
     bytes: &[u8],
 ) -> usize
-    ensures { λ r. ⌜ WroteIf (roomFor (length (now (buf .entry))) pos (length (now (bytes .entry))) && clean places) (now (buf .entry)) pos (shortest header ++ (shortest second ++ now (bytes .entry))) (now (buf .exit)) r ⌝ }
+    ensures { λ r. ⌜ PutsIf (roomFor (length (now (buf .entry))) pos (length (now (bytes .entry))) && clean places) (now (buf .entry)) pos (shortest header ++ (shortest second ++ now (bytes .entry))) (now (buf .exit)) r ⌝ }
 {
     if !has_room(buf.len(), pos, bytes.len()) {
         return pos;

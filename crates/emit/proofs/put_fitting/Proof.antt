@@ -4,7 +4,7 @@ use lib.ListN.{length-set}
 use borrow.Author.Needs.{needs}
 use Rattle.layout.specs.Varint.{shortest}
 use Rattle.putting.proofs.Turns.{followed, same-size}
-use Rattle.putting.specs.Put.{Wrote}
+use Rattle.putting.specs.Put.{Puts}
 use Rattle.varint_bytes.proofs.Digits.{one-byte, two-bytes, after-two}
 use Rattle.emit.proofs.put_fitting.Statement.{statement}
 use Rattle.emit.proofs.put_fitting.Tie as tie
@@ -18,7 +18,7 @@ returns c = let h = c .before .before .pre in one-byte _ _ _ (omega arith) (c .i
 returns-2 : tie.Need-returns-2
 returns-2 c = let h = c .before .before .before .pre in two-bytes _ _ _ (omega arith) (c .before .if1 .left) (c .if2 .taken)
 
-done : (c : tie.After-slice-known2) → Wrote (c .before .before .before .before .before .before .before .args .buf .now) (c .before .before .before .before .before .before .before .args .pos) (shortest (c .before .before .before .before .before .before .before .args .v)) (c .before .before .put-third .last .0) (c .before .before .put-third .result)
+done : (c : tie.After-slice-known2) → Puts (c .before .before .before .before .before .before .before .args .buf .now) (c .before .before .before .before .before .before .before .args .pos) (shortest (c .before .before .before .before .before .before .before .args .v)) (c .before .before .put-third .last .0) (c .before .before .put-third .result)
 done c = let h = c .before .before .before .before .before .before .before .pre in followed _ _ _ _ _ _ _ _ (after-two _ _ _ (omega arith) (c .before .before .before .before .before .if1 .left) (c .before .before .before .before .if2 .left)) (c .before .before .put-third .ensures)
 
 pub put-fitting-spec : {M : Type 1} → statement M

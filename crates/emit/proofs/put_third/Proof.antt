@@ -4,7 +4,7 @@ use lib.ListN.{length-set}
 use borrow.Author.Needs.{needs}
 use Rattle.layout.specs.Varint.{shortest}
 use Rattle.putting.proofs.Turns.{followed, same-size}
-use Rattle.putting.specs.Put.{Wrote}
+use Rattle.putting.specs.Put.{Puts}
 use Rattle.varint_bytes.proofs.Digits.{one-byte, two-bytes, after-two, last-digit}
 use Rattle.emit.proofs.put_third.Statement.{statement}
 use Rattle.emit.proofs.put_third.Tie as tie
@@ -21,7 +21,7 @@ returns-2 c = let h = c .before .before .before .pre in two-bytes _ _ _ (omega a
 returns-3 : tie.Need-returns-3
 returns-3 c = let h = c .before .before .before .before .pre in last-digit _ _ _ _ _ _ (after-two _ _ _ (omega arith) (c .before .before .if1 .left) (c .before .if2 .left)) (omega arith) (c .if3 .taken) _ (omega arith)
 
-done : (c : tie.After-slice-known2) → Wrote (c .before .before .before .before .before .before .before .before .args .buf .now) (c .before .before .before .before .before .before .before .before .args .pos) (shortest (c .before .before .before .before .before .before .before .before .args .v)) (c .before .before .put-whole .last .0) (c .before .before .put-whole .result)
+done : (c : tie.After-slice-known2) → Puts (c .before .before .before .before .before .before .before .before .args .buf .now) (c .before .before .before .before .before .before .before .before .args .pos) (shortest (c .before .before .before .before .before .before .before .before .args .v)) (c .before .before .put-whole .last .0) (c .before .before .put-whole .result)
 done c = let h = c .before .before .before .before .before .before .before .before .pre in followed _ _ _ _ _ _ _ _ (after-two _ _ _ (omega arith) (c .before .before .before .before .before .before .if1 .left) (c .before .before .before .before .before .if2 .left)) (c .before .before .put-whole .ensures)
 
 pub put-third-spec : {M : Type 1} → statement M

@@ -12,7 +12,7 @@ use Rattle.lines.proofs.put_piece.Statement.{statement}
 use Rattle.lines.proofs.put_piece.Tie as tie
 use Rattle.lines.proofs.put_piece.Reads as reads
 use Rattle.lines.proofs.put_piece.Lts as lts
-use Rattle.lines.proofs.least.Reads as least-reads
+use Rattle.emit.proofs.least.Reads as least-reads
 use Rattle.lines.proofs.put_bytes.Reads as put-bytes-reads
 
 within : (f t from to : ℕ) (l : List ℕ) → from ≡ min f to → to ≡ min t (length l) → slice from to l ≡ slice f t l

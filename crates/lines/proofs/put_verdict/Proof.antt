@@ -1,7 +1,7 @@
 -- `lines::put_verdict`.
 use mathlib.Core.Path.{sym, ap}
 use Rattle.event_list.specs.Lines.{lastLine}
-use Rattle.lines.specs.Texts.{verdictIn}
+use Rattle.lines.specs.Verdict.{verdictIn}
 use Rattle.lines.specs.declared.Verdict.{Verdict}
 use Rattle.lines.proofs.Texts.{says}
 use borrow.Author.Needs.{needs}

@@ -14,7 +14,7 @@ use Rattle.turns.proofs.one_turn.Lts as lts
 use Rattle.as_is.proofs.as_is.Reads as as-is-reads
 use Rattle.turns.proofs.due.Reads as due-reads
 use Rattle.turns.proofs.heard.Reads as heard-reads
-use Rattle.turns.proofs.least.Reads as least-reads
+use Rattle.emit.proofs.least.Reads as least-reads
 use Rattle.turns.proofs.piece.Reads as piece-reads
 use Rattle.emit.proofs.put_rest.Reads as put-rest-reads
 use Rattle.istream.proofs.IStream.feed.Reads as feed-reads

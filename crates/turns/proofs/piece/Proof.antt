@@ -12,7 +12,7 @@ use Rattle.turns.proofs.piece.Lts as lts
 use Rattle.emit.proofs.put_rest.Reads as put-rest-reads
 use Rattle.phase.proofs.idle.Reads as idle-reads
 use Rattle.turns.proofs.cut.Reads as cut-reads
-use Rattle.turns.proofs.least.Reads as least-reads
+use Rattle.emit.proofs.least.Reads as least-reads
 use Rattle.turns.proofs.stopped.Reads as stopped-reads
 
 sub-least-2 : tie.Need-sub-least-2

@@ -8,9 +8,10 @@ use lib.Seq.{slice}
 use lib.Dec.{T}
 use lib.Ieee.{Format, binary32, binary64, ofBits, toBits, nanBits, top}
 use lib.Ieee.Bits.{nanBits-is, toBits-ofBits}
-use Rattle.layout.specs.Field.{Subtype, Kind, fp32, fp64, string, blob, float, raw, unsigneds, signeds, floats}
+use Rattle.layout.specs.Field.{Subtype, Kind, fp32, fp64, string, blob, unsigneds, signeds, floats}
 use Rattle.layout.specs.Event.{Event, Unsigned, Signed, Float, Piece, Fixlen, Array, Begin, End}
-use Rattle.types.specs.Types.{subtype, fixlenType, kind, arrayKind}
+use Rattle.types.specs.Types.{kind, arrayKind}
+use Rattle.types.proofs.Subtypes.{subtype-back}
 use Rattle.event.specs.Event.{eventOf, declared, fp32Of, fp64Of}
 
 -- bits of the width, and a piece's bytes where the chunk has them
@@ -36,12 +37,6 @@ kept32 c id n h false e = simp e (ap (Float id fp32) (bits-kept binary32 n h e))
 kept64 : (c : List ℕ) (id n : ℕ) → n < 2 ^ 64 → (b : Bool) → nanBits binary64 n ≡ b → eventOf c (fp64Of id n) ≡ Float id fp64 n
 kept64 c id n h true e = simp e
 kept64 c id n h false e = simp e (ap (Float id fp64) (bits-kept binary64 n h e))
-
-pub subtype-back : (s : Subtype) → subtype (fixlenType s) ≡ s
-subtype-back (float fp32) = refl
-subtype-back (float fp64) = refl
-subtype-back (raw string) = refl
-subtype-back (raw blob) = refl
 
 pub kind-back : (k : Kind) → kind (arrayKind k) ≡ k
 kind-back unsigneds = refl

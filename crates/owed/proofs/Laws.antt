@@ -2,7 +2,7 @@
 use Prim.Native.Nat.{ℕ, zero, suc, _+_}
 use mathlib.Core.Path.{_≡_, refl, sym, ap, _∙_}
 use mathlib.Core.Bool.{Bool, true, false, _&&_}
-use mathlib.Core.List.{List, [], _∷_}
+use mathlib.Core.List.{[], _∷_}
 use native.Mathlib.Omega.{arith}
 use lib.ListN.{length, drop}
 use lib.Dec.{leb, ltb, eqb}
@@ -12,17 +12,9 @@ use Rattle.layout.specs.Limits.{base}
 use Rattle.layout.specs.Field.{fp32, fp64, string, blob, unsigneds, signeds, floats, bytesOf, float, raw}
 use Rattle.layout.specs.Event as layout
 use Rattle.laws.specs.Events.{eventBytes}
-use lib.IntN.{ℤ}
-use Rattle.types.specs.Types.{kind, arrayKind}
-use Rattle.types.specs.declared.ArrayKind.{ArrayKind}
-use Rattle.types.specs.declared.FixlenType.{FixlenType}
-use Rattle.types.specs.declared.FixlenType.the-variants as Fix
 use Rattle.types.specs.declared.FloatType.the-variants as Floats
 use Rattle.types.specs.declared.RawType.the-variants as Raws
 use Rattle.types.specs.declared.ArrayKind.the-variants as Kinds
-use Rattle.event.specs.declared.Event as given
-use Rattle.event.specs.declared.Event.the-variants as events
-use Rattle.event.specs.Event.{eventOf}
 use Rattle.copying.specs.Owed as copying
 use Rattle.copying.specs.Owed.{rest, level, legal, agrees}
 use Rattle.output.specs.Output.{outputBytes}
@@ -52,42 +44,6 @@ owed-back (Array id Kinds.Fp32 n) place = refl
 owed-back (Array id Kinds.Fp64 n) place = refl
 owed-back (Begin id) place = refl
 owed-back End place = refl
-
-pub kind-there : (k : ArrayKind) → arrayKind (kind k) ≡ k
-kind-there Kinds.Unsigned = refl
-kind-there Kinds.Signed = refl
-kind-there Kinds.Fp32 = refl
-kind-there Kinds.Fp64 = refl
-
--- an element, where one is due
-pub unsigned-due : (left id n : ℕ) → (left ≡ 0 → ⊥) → Element n ≡ owe left (layout.Unsigned id n)
-unsigned-due zero id n h = absurd (h refl)
-unsigned-due (suc left) id n h = refl
-
-pub signed-due : (left id : ℕ) (z : ℤ) → (left ≡ 0 → ⊥) → SignedElement z ≡ owe left (layout.Signed id z)
-signed-due zero id z h = absurd (h refl)
-signed-due (suc left) id z h = refl
-
-pub announced-any : (left id : ℕ) (t : FixlenType) (n : ℕ) → owe 0 (eventOf [] (events.Fixlen id t n)) ≡ owe left (eventOf [] (events.Fixlen id t n))
-announced-any left id Fix.Fp32 n = refl
-announced-any left id Fix.Fp64 n = refl
-announced-any left id Fix.Str n = refl
-announced-any left id Fix.Blob n = refl
-
--- what is owed of an event does not depend on the chunk that it came from
-pub owe-any : (due : ℕ) (c : List ℕ) (e : given.Event) → owe due (eventOf [] e) ≡ owe due (eventOf c e)
-owe-any due c (events.Unsigned id n) = refl
-owe-any due c (events.Signed id z) = refl
-owe-any due c (events.Fp32 id x) = refl
-owe-any due c (events.Fp32Nan id n) = refl
-owe-any due c (events.Fp64 id x) = refl
-owe-any due c (events.Fp64Nan id n) = refl
-owe-any due c (events.Str id b) = refl
-owe-any due c (events.Blob id b) = refl
-owe-any due c (events.Fixlen id s n) = refl
-owe-any due c (events.Array id k n) = refl
-owe-any due c (events.Begin id) = refl
-owe-any due c events.End = refl
 
 -- ---- bytes
 

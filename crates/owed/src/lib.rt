@@ -1,22 +1,15 @@
-// The event that a copier has read and not yet written whole: what is owed of an event, the output that it is written as, and which may
-// be owed.
+// The event that a copier has read and not yet written whole: the output that it is written as, and which may be owed.
 ghost use mathlib.Core.Path.{_≡_};
 ghost use mathlib.Core.Bool.{_&&_};
-ghost use mathlib.Core.List.{[]};
 ghost use lib.Dec.{leb};
 ghost use Prim.Native.Nat.{_+_, _*_};
 ghost use Rattle.layout.specs.Limits.{base};
 ghost use Rattle.copying.specs.Owed.{agrees};
-ghost use Rattle.event.specs.Event.{eventOf};
-ghost use Rattle.owed.specs.Owed.{owedOf, owe, arrayOutput, outputOf, levelOf, legalOf, placeIsIn};
-use event::Event;
-use event::fp32_bits;
-use event::fp64_bits;
+ghost use Rattle.owed.specs.Owed.{owedOf, arrayOutput, outputOf, levelOf, legalOf, placeIsIn};
 use output::Output;
 use types::ARRAY_MAX;
 use types::ArrayKind;
 use types::FIXLEN_MAX;
-use types::FixlenType;
 use types::FloatType;
 use types::ID_MAX;
 use types::RawType;
@@ -65,58 +58,6 @@ fn array_output(id: u32, kind: ArrayKind, count: u32) -> Output
         ArrayKind::Signed => Output::Two(tagged(id, T_VARINTARRAY_SIGNED), n),
         ArrayKind::Fp32 => Output::Three(tagged(id, T_FIXLENARRAY), n, 32),
         ArrayKind::Fp64 => Output::Three(tagged(id, T_FIXLENARRAY), n, 65),
-    }
-}
-
-// What is owed of an event that came while so many elements of an array were due, the one that it is included.
-pub fn owe(left: u32, event: Event) -> Owed
-    ensures { λ r. ⌜ r ≡ owe left (eventOf [] event) ⌝ }
-{
-    match event {
-        Event::Unsigned(id, v) => unsigned(left, id, v),
-        Event::Signed(id, v) => signed(left, id, v),
-        Event::Fp32(_, x) => Owed::Fp32(fp32_bits(x)),
-        Event::Fp32Nan(_, bits) => Owed::Fp32(bits),
-        Event::Fp64(_, x) => Owed::Fp64(fp64_bits(x)),
-        Event::Fp64Nan(_, bits) => Owed::Fp64(bits),
-        Event::Str(_, _) => Owed::Nothing,
-        Event::Blob(_, _) => Owed::Nothing,
-        Event::Fixlen(id, t, total) => announced(id, t, total),
-        Event::Array(id, kind, count) => Owed::Array(id, kind, count),
-        Event::Begin(id) => Owed::Begin(id),
-        Event::End => Owed::End,
-    }
-}
-
-fn unsigned(left: u32, id: u32, v: u64) -> Owed
-    ensures { λ r. ⌜ r ≡ owe left (eventOf [] (Event.Unsigned id v)) ⌝ }
-{
-    if left == 0 {
-        Owed::Unsigned(id, v)
-    } else {
-        Owed::Element(v)
-    }
-}
-
-fn signed(left: u32, id: u32, v: i64) -> Owed
-    ensures { λ r. ⌜ r ≡ owe left (eventOf [] (Event.Signed id v)) ⌝ }
-{
-    if left == 0 {
-        Owed::Signed(id, v)
-    } else {
-        Owed::SignedElement(v)
-    }
-}
-
-// Of a fixed-length field's announcement.
-fn announced(id: u32, t: FixlenType, total: u32) -> Owed
-    ensures { λ r. ⌜ r ≡ owe 0 (eventOf [] (Event.Fixlen id t total)) ⌝ }
-{
-    match t {
-        FixlenType::Fp32 => Owed::Float(id, FloatType::Fp32),
-        FixlenType::Fp64 => Owed::Float(id, FloatType::Fp64),
-        FixlenType::Str => Owed::Payload(id, RawType::Str, total),
-        FixlenType::Blob => Owed::Payload(id, RawType::Blob, total),
     }
 }
 

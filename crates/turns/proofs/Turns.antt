@@ -40,7 +40,8 @@ use Rattle.as_is.specs.Ahead.{Ahead}
 use Rattle.owed.specs.declared.Owed.{Owed}
 use Rattle.owed.specs.Owed.{owe, outputOf}
 use Rattle.output.specs.Output.{outputBytes}
-use Rattle.owed.proofs.Laws.{owe-any, spelled-event}
+use Rattle.owed.proofs.Laws.{spelled-event}
+use Rattle.owing.proofs.Laws.{owe-any}
 use Rattle.owed.specs.declared.Owed.the-variants.{Nothing}
 use Rattle.turns.specs.declared.Stop.{Stop}
 use Rattle.turns.specs.declared.Turn.the-variants as turns

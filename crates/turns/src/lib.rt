@@ -17,7 +17,7 @@ use istream::IStream;
 use istream::Status;
 use output::OUTPUT_MAX;
 use owed::Owed;
-use owed::owe;
+use owing::owe;
 use phase::Phase;
 use phase::idle;
 use types::Error;

@@ -5,7 +5,7 @@ use Rattle.turns.proofs.heard.Statement.{statement}
 use Rattle.turns.proofs.heard.Tie as tie
 use Rattle.turns.proofs.heard.Reads as reads
 use Rattle.turns.proofs.heard.Lts as lts
-use Rattle.owed.proofs.owe.Reads as owe-reads
+use Rattle.owing.proofs.owe.Reads as owe-reads
 use Rattle.turns.proofs.stopped.Reads as stopped-reads
 use Rattle.turns.proofs.written.Reads as written-reads
 

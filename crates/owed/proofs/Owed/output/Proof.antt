@@ -6,7 +6,7 @@ use Rattle.output.specs.declared.Output.the-variants.{Two}
 use mir.Val.{toZ, ofZ}
 use mir.Syntax.{w64}
 use mathlib.Core.Path.{_≡_, ap}
-use Rattle.event.proofs.Laws.{subtype-back}
+use Rattle.types.proofs.Subtypes.{subtype-back}
 use borrow.Author.Needs.{needs}
 use Rattle.owed.proofs.Owed.output.Statement.{statement}
 use Rattle.owed.proofs.Owed.output.Tie as tie

@@ -1,4 +1,4 @@
--- `owed::owe`: what is owed, event by event.
+-- `owing::owe`: what is owed, event by event.
 use lib.IntN.{ℤ}
 use Rattle.layout.specs.Event as layout
 use mir.Val.{toZ, ofZ}
@@ -7,18 +7,18 @@ use mathlib.Core.Path.{_≡_, sym, ap, _∙_}
 use mathlib.Core.List.{[]}
 use Rattle.event.specs.declared.Event.{Event}
 use Rattle.event.specs.Event.{eventOf}
 use Rattle.owed.specs.Owed.{owe}
-use Rattle.owed.proofs.Laws.{announced-any, kind-there}
+use Rattle.owing.proofs.Laws.{announced-any, kind-there}
 use borrow.Author.Needs.{needs}
-use Rattle.owed.proofs.owe.Statement.{statement}
-use Rattle.owed.proofs.owe.Tie as tie
-use Rattle.owed.proofs.owe.Reads as reads
-use Rattle.owed.proofs.owe.Lts as lts
+use Rattle.owing.proofs.owe.Statement.{statement}
+use Rattle.owing.proofs.owe.Tie as tie
+use Rattle.owing.proofs.owe.Reads as reads
+use Rattle.owing.proofs.owe.Lts as lts
 use Rattle.event.proofs.fp32_bits.Reads as fp32-bits-reads
 use Rattle.event.proofs.fp64_bits.Reads as fp64-bits-reads
-use Rattle.owed.proofs.announced.Reads as announced-reads
-use Rattle.owed.proofs.signed.Reads as signed-reads
-use Rattle.owed.proofs.unsigned.Reads as unsigned-reads
+use Rattle.owing.proofs.announced.Reads as announced-reads
+use Rattle.owing.proofs.signed.Reads as signed-reads
+use Rattle.owing.proofs.unsigned.Reads as unsigned-reads
 
 returns : tie.Need-returns
 returns c = simp (c .before .before .event .given .1, c .unsigned .ensures)

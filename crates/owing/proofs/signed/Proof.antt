@@ -1,13 +1,13 @@
--- `owed::signed`: an element where one is due.
+-- `owing::signed`: an element where one is due.
 use mir.Val.{toZ, ofZ}
 use mir.Syntax.{w64}
 use mathlib.Core.Path.{_≡_}
 use borrow.Author.Needs.{needs}
-use Rattle.owed.proofs.Laws.{signed-due}
-use Rattle.owed.proofs.signed.Statement.{statement}
-use Rattle.owed.proofs.signed.Tie as tie
-use Rattle.owed.proofs.signed.Reads as reads
-use Rattle.owed.proofs.signed.Lts as lts
+use Rattle.owing.proofs.Laws.{signed-due}
+use Rattle.owing.proofs.signed.Statement.{statement}
+use Rattle.owing.proofs.signed.Tie as tie
+use Rattle.owing.proofs.signed.Reads as reads
+use Rattle.owing.proofs.signed.Lts as lts
 
 returns : tie.Need-returns
 returns c = let f : toZ w64 (ofZ w64 (c .before .args .v)) ≡ c .before .args .v = search needs in simp (c .if1 .taken, f)

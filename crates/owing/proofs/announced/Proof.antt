@@ -1,9 +1,9 @@
--- `owed::announced`: by subtype.
+-- `owing::announced`: by subtype.
 use borrow.Author.Needs.{needs}
-use Rattle.owed.proofs.announced.Statement.{statement}
-use Rattle.owed.proofs.announced.Tie as tie
-use Rattle.owed.proofs.announced.Reads as reads
-use Rattle.owed.proofs.announced.Lts as lts
+use Rattle.owing.proofs.announced.Statement.{statement}
+use Rattle.owing.proofs.announced.Tie as tie
+use Rattle.owing.proofs.announced.Reads as reads
+use Rattle.owing.proofs.announced.Lts as lts
 
 returns : tie.Need-returns
 returns c = simp (c .enum-told .given .1)

@@ -1,0 +1,2 @@
+-- Laws about what is owed of an event.
+pub mod Laws

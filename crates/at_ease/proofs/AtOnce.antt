@@ -1,15 +1,16 @@
 -- Writing at once: the room, two tests in a row, and a write that is made only where they pass.
-use mathlib.Core.Path.{_≡_, refl, sym, ap, _∙_}
+use mathlib.Core.Path.{_≡_, refl, sym, ap, _∙_, subst}
 use mathlib.Core.List.{List}
 use mathlib.Core.Bool.{Bool, true, false, not, _&&_}
 use Prim.Native.Nat.{ℕ, _+_, _-_, _≤_, _<_}
 use native.Mathlib.Omega.{arith}
+use lib.Dec.{leb}
 use lib.ListN.{length, replicate}
 use borrow.Author.Tests.{leb-true, le-leb, not-true, not-false}
 use Rattle.putting.specs.Put.{reached, Puts}
 use Rattle.putting.proofs.Writes.{reached-is}
 use Rattle.places.specs.Places.{lazyDepth, every, clean}
-use Rattle.at_ease.specs.AtOnce.{pairMost, roomFor, PutsIf, ArrayIf}
+use Rattle.at_ease.specs.AtOnce.{pairMost, roomFor, easyAt, easyWith, PutsIf, PutsWhole}
 use Rattle.places.proofs.Places.{both}
 
 -- ---- the room
@@ -71,33 +72,43 @@ pub unmade : (t : Bool) (b : List ℕ) (pos : ℕ) (o : List ℕ) → t ≡ fals
 unmade true b pos o e = let z : _≡_ {A = ℕ} 0 1 = cc in absurd (omega arith)
 unmade false b pos o e = (refl, refl)
 
--- and of an array
+-- and of an output with a byte at least and room for all of it
 
-pub made-array : (t : Bool) (b : List ℕ) (pos : ℕ) (o d : List ℕ) (end : ℕ) → t ≡ true → pos + length o ≤ length b → Puts b pos o d end → ArrayIf t b pos o d end
-made-array t b pos o d end e h w = let u = made t b pos o d end e w in (u .0, u .1, λ x. h)
+pub made-whole : (t : Bool) (b : List ℕ) (pos : ℕ) (o d : List ℕ) (end : ℕ) → t ≡ true → 0 < length o → pos + length o ≤ length b → Puts b pos o d end → PutsWhole t b pos o d end
+made-whole t b pos o d end e z h w = let u = made t b pos o d end e w in (u .0, u .1, λ x. (z, h))
 
-pub unmade-array : (t : Bool) (b : List ℕ) (pos : ℕ) (o : List ℕ) → t ≡ false → ArrayIf t b pos o b pos
-unmade-array t b pos o e = let u = unmade t b pos o e in (u .0, u .1, λ g. let x : true ≡ false = sym g ∙ e in let z : _≡_ {A = ℕ} 0 1 = cc in absurd (omega arith))
+pub unmade-whole : (t : Bool) (b : List ℕ) (pos : ℕ) (o : List ℕ) → t ≡ false → PutsWhole t b pos o b pos
+unmade-whole t b pos o e = let u = unmade t b pos o e in (u .0, u .1, λ g. let x : true ≡ false = sym g ∙ e in let z : _≡_ {A = ℕ} 0 1 = cc in absurd (omega arith))
+
+-- where there is room for two varints and n bytes, and the output is no longer
+pub whole : (rest : Bool) (b : List ℕ) (pos n : ℕ) (o d : List ℕ) (end : ℕ) → 0 < length o → length o ≤ pairMost + n → PutsIf (roomFor (length b) pos n && rest) b pos o d end → PutsWhole (roomFor (length b) pos n && rest) b pos o d end
+whole rest b pos n o d end z l w = (w .0, w .1, λ t. let r = has-room (length b) pos n (both _ _ t .0) in (z, omega arith))
+
+-- behind a test more, which the code makes first
+module _ (x e t : Bool) (b : List ℕ) (pos : ℕ) (o : List ℕ) (q : x ≡ e) where
+  pub refused : not x ≡ true → PutsWhole (e && t) b pos o b pos
+  refused f = unmade-whole (e && t) b pos o (no-first e t (sym q ∙ not-true x f))
+
+  pub behind : (d : List ℕ) (end : ℕ) → not x ≡ false → PutsWhole t b pos o d end → PutsWhole (e && t) b pos o d end
+  behind d end f w = subst (λ (y : Bool). PutsWhole (y && t) b pos o d end) (sym (not-false x f) ∙ q) w
+
+-- what the test of a length says of it
+pub within : (x : Bool) (depth held id n most : ℕ) → x ≡ easyWith depth held id n most → not x ≡ false → n ≤ most
+within x depth held id n most q f = leb-true n most (both (easyAt depth held id) (leb n most) (sym q ∙ not-false x f) .1)
 
 -- it has been made where it ends further on, and nothing is altered where it has not
-pub went : (t : Bool) (b : List ℕ) (pos : ℕ) (o d : List ℕ) (end : ℕ) → PutsIf t b pos o d end → pos < end → (t ≡ true) × Puts b pos o d end
-went true b pos o d end h l = (refl, h)
-went false b pos o d end (e, f) l = let z : end ≡ pos = e in absurd (omega arith)
+pub went : (t : Bool) (b : List ℕ) (pos : ℕ) (o d : List ℕ) (end : ℕ) → PutsWhole t b pos o d end → pos < end → (t ≡ true) × Puts b pos o d end × (pos + length o ≤ length b)
+went true b pos o d end (e, f, h) l = (refl, (e, f), h refl .1)
+went false b pos o d end (e, f, h) l = let z : end ≡ pos = e in absurd (omega arith)
 
-pub stayed : (t : Bool) (b : List ℕ) (pos : ℕ) (o d : List ℕ) (end : ℕ) → PutsIf t b pos o d end → (t ≡ true → (0 < length o) × (pos < length b)) → end ≤ pos → d ≡ b
-stayed true b pos o d end (e, f) h l =
-    let g = h refl in
-    let h0 = g .0 in
-    let h1 = g .1 in
+pub stayed : (t : Bool) (b : List ℕ) (pos : ℕ) (o d : List ℕ) (end : ℕ) → PutsWhole t b pos o d end → end ≤ pos → d ≡ b
+stayed true b pos o d end (e, f, h) l =
+    let h0 = h refl .0 in
+    let h1 = h refl .1 in
     let r = reached-is b pos o in
     let z : end ≡ reached b pos o = e in
     absurd (omega arith)
-stayed false b pos o d end (e, f) h l = f
-
--- nothing is altered where it ends no further on, the output having a byte at least and room
-pub unmoved : (room rest : Bool) (b : List ℕ) (pos n : ℕ) (o d : List ℕ) (end : ℕ) → room ≡ roomFor (length b) pos n → PutsIf (room && rest) b pos o d end → 0 < length o → end ≤ pos → d ≡ b
-unmoved room rest b pos n o d end e w h l =
-    stayed (room && rest) b pos o d end w (λ t. let r = has-room (length b) pos n (sym e ∙ both room rest t .0) in (h, omega arith)) l
+stayed false b pos o d end (e, f, h) l = f
 
 pub clean-zeros : clean (replicate lazyDepth 0) ≡ true
 unfolding every

@@ -3,11 +3,12 @@
 use mathlib.Core.Path.{_≡_}
 use mathlib.Core.Bool.{Bool, true, _&&_}
 use mathlib.Core.List.{List}
-use Prim.Native.Nat.{ℕ, _+_, _-_, _*_, _≤_}
+use Prim.Native.Nat.{ℕ, _+_, _-_, _*_, _≤_, _<_}
 use lib.Dec.{leb, ltb}
 use lib.ListN.{length}
 use Rattle.layout.specs.Limits.{base, longest, pick}
 use Rattle.putting.specs.Put.{put, reached}
+use Rattle.places.specs.Places.{clean}
 
 -- the most bytes of a field's header and the varint after it
 abbrev pub pairMost : ℕ
@@ -17,9 +18,17 @@ pairMost = 2 * longest base
 unfoldable pub roomFor : ℕ → ℕ → ℕ → Bool
 roomFor size pos n = leb pairMost size && (leb pos (size - pairMost) && leb n (size - pairMost - pos))
 
+-- and whether no place is in use
+abbrev pub roomyAt : ℕ → ℕ → List ℕ → ℕ → Bool
+roomyAt size pos places n = roomFor size pos n && clean places
+
 -- whether no id is held, and nothing but the places, the room and a length stands against a field
 unfoldable pub easyAt : ℕ → ℕ → ℕ → Bool
 easyAt depth held id = leb id (base .id) && (leb held 0 && leb depth (base .depth))
+
+-- and against one with a payload or an array of n, of which `most` is the limit
+abbrev pub easyWith : ℕ → ℕ → ℕ → ℕ → ℕ → Bool
+easyWith depth held id n most = easyAt depth held id && leb n most
 
 -- whether no id is held, a sequence is open, and nothing but the places and the room stands against a close
 unfoldable pub closesAt : ℕ → ℕ → Bool
@@ -37,6 +46,10 @@ putIf t b pos o = pick t (put b pos o) b
 abbrev pub PutsIf : Bool → List ℕ → ℕ → List ℕ → List ℕ → ℕ → Type 0
 PutsIf t b pos o d end = (end ≡ reachedIf t b pos o) × (d ≡ putIf t b pos o)
 
--- both for an array, and that there was room for it
-abbrev pub ArrayIf : Bool → List ℕ → ℕ → List ℕ → List ℕ → ℕ → Type 0
-ArrayIf t b pos o d end = (end ≡ reachedIf t b pos o) × (d ≡ putIf t b pos o) × (t ≡ true → pos + length o ≤ length b)
+-- both, and that the output has a byte at least and there is room for all of it where it is made
+abbrev pub PutsWhole : Bool → List ℕ → ℕ → List ℕ → List ℕ → ℕ → Type 0
+PutsWhole t b pos o d end = (end ≡ reachedIf t b pos o) × (d ≡ putIf t b pos o) × (t ≡ true → (0 < length o) × (pos + length o ≤ length b))
+
+-- the whole of a field's output o, where nothing stands against the field, no place is in use and there is room for two varints and n bytes
+abbrev pub PutsEasily : Bool → List ℕ → ℕ → List ℕ → ℕ → List ℕ → List ℕ → ℕ → Type 0
+PutsEasily easy b pos places n o d end = PutsWhole (easy && roomyAt (length b) pos places n) b pos o d end

@@ -9,10 +9,10 @@ use varint::VARINT_MAX;
 ghost use mathlib.Core.Path.{_≡_};
 ghost use mathlib.Core.List.{[], _∷_};
 ghost use mathlib.Core.Bool.{_&&_};
-ghost use lib.Dec.{leb, ltb};
+ghost use lib.Dec.{ltb};
 ghost use lib.ListN.{length};
 ghost use Rattle.places.specs.Places.{clean};
-ghost use Rattle.at_ease.specs.AtOnce.{roomFor, easyAt, closesAt, PutsIf};
+ghost use Rattle.at_ease.specs.AtOnce.{roomFor, easyAt, easyWith, closesAt, PutsIf};
 
 // Most bytes of two varints: a field's header, and the value, word or count after it.
 pub const PAIR_MAX: usize = 2 * VARINT_MAX;
@@ -32,7 +32,7 @@ pub fn at_ease(depth: u16, held: u16, id: u32) -> bool
 
 // And against one with a payload or an array of `len`, of which `most` is the limit.
 pub fn at_ease_with(depth: u16, held: u16, id: u32, len: usize, most: u32) -> bool
-    ensures { λ r. ⌜ r ≡ (easyAt depth held id && leb len most) ⌝ }
+    ensures { λ r. ⌜ r ≡ easyWith depth held id len most ⌝ }
 {
     if !at_ease(depth, held, id) {
         return false;

@@ -5,7 +5,7 @@ use lib.ListN.{length}
 use Rattle.layout.specs.Limits.{Limits}
 use Rattle.layout.specs.Varint.{shortest}
 use Rattle.layout.specs.Zigzag.{zigzag}
-use Rattle.layout.specs.Field.{Field, bytesOf, header, word, lowBytes, each}
+use Rattle.layout.specs.Field.{Field, Subtype, bytesOf, header, word, lowBytes, each}
 use Rattle.layout.specs.Field.{float, raw, T-unsigned, T-signed, T-fixlen, T-unsigneds, T-signeds, T-floats, T-begin, T-end}
 use Rattle.layout.specs.Field.{unsigned, signed, payload, unsignedArray, signedArray, floatArray, begin, end}
 use Rattle.layout.specs.Message.{fieldsOf}
@@ -22,6 +22,10 @@ fieldBytes (floatArray id w xs) =
     header id T-floats ++ (shortest (length xs) ++ (word (bytesOf w) (float w) ++ each (lowBytes (bytesOf w)) xs))
 fieldBytes (begin id) = header id T-begin
 fieldBytes (end id) = header 0 T-end
+
+-- A fixed-length field's bytes: "a float subtype is written at any data length", so that the bytes are given, not the float.
+unfoldable pub fixlenBytes : ℕ → Subtype → List ℕ → List ℕ
+fixlenBytes id t bytes = header id T-fixlen ++ (word (length bytes) t ++ bytes)
 
 unfoldable pub encode : List Field → List ℕ
 encode xs = each fieldBytes xs

@@ -1,19 +1,17 @@
 -- Writing at once: what the tests of a field that holds nothing say of the state, and a call that is made so.
 use mathlib.Core.Path.{_≡_, refl, sym, ap, _∙_}
 use mathlib.Core.List.{List, [], _∷_, _++_}
-use mathlib.Core.Bool.{true, _&&_}
+use mathlib.Core.Bool.{Bool, true, _&&_}
 use Prim.Native.Nat.{ℕ, _+_, _≤_, _<_}
 use native.Mathlib.Omega.{arith}
 use lib.Dec.{leb, eqb}
 use lib.ListN.{length, take, drop}
 use borrow.Author.Tests.{leb-true, ltb-true, le-leb, le-ltb}
 use Rattle.layout.specs.Limits.{base}
-use Rattle.layout.specs.Varint.{shortest}
-use Rattle.putting.specs.Put.{Puts}
 use Rattle.places.specs.Places.{clean}
-use Rattle.at_ease.specs.AtOnce.{pairMost, roomFor, easyAt, closesAt}
+use Rattle.at_ease.specs.AtOnce.{pairMost, roomyAt, easyAt, easyWith, closesAt, PutsWhole}
 use Rattle.held.proofs.Ends.{at-once}
-use Rattle.at_ease.proofs.AtOnce.{has-room}
+use Rattle.at_ease.proofs.AtOnce.{has-room, went}
 use Rattle.ostream.specs.declared.OStream.{OStream}
 use Rattle.ostream.specs.declared.Answer.the-variants.{Done}
 use Rattle.ostream.specs.declared.Written.{Written}
@@ -55,14 +53,14 @@ is-easy s id e =
     nothing n h = omega arith
 
 -- with a payload or an array of n
-pub easy-with : (s : OStream) (id n most : ℕ) → (easyAt (s .depth) (s .npending) id && leb n most) ≡ true → Easy s id × (n ≤ most)
+pub easy-with : (s : OStream) (id n most : ℕ) → easyWith (s .depth) (s .npending) id n most ≡ true → Easy s id × (n ≤ most)
 easy-with s id n most e = let a = both _ _ e in (is-easy s id (a .0), leb-true _ _ (a .1))
 
 pub closes-easy : (s : OStream) → closesAt (s .depth) (s .npending) ≡ true → (0 < s .depth) × Easy s 0
 unfolding closesAt
 closes-easy s e = let a = both _ _ e in (ltb-true _ _ (a .0), is-easy s 0 (a .1))
 
-pub is-ready : (s : OStream) (size id n : ℕ) → Easy s id → (roomFor size (s .offset) n && clean (s .pending)) ≡ true → Ready s size id n
+pub is-ready : (s : OStream) (size id n : ℕ) → Easy s id → roomyAt size (s .offset) (s .pending) n ≡ true → Ready s size id n
 is-ready s size id n y e =
     let a = both _ _ e in
     let r : s .offset + pairMost + n ≤ size = has-room size (s .offset) n (a .0) in
@@ -95,15 +93,20 @@ module _ (s : OStream) (size id n : ℕ) (y : Ready s size id n) where
 pub ready-array : (s : OStream) (size id k n : ℕ) → Ready s size id n → k ≤ base .count → judged (unsound s size ∷ idTooLarge id ∷ arrayTooLong k ∷ []) ≡ accepted
 ready-array s size id k n y h = simp (y .sound, le-ltb _ _ (y .legal), le-ltb _ _ h)
 
--- the output of a state that holds nothing, with the header as it was made
-pub spelled : (s : OStream) → s .npending ≡ 0 → (h n : ℕ) (l : List ℕ) → h ≡ n → shortest h ++ l ≡ heldBytes s ++ (shortest n ++ l)
-spelled s e h n l q = ap (λ (x : ℕ). shortest x ++ l) q ∙ ap (λ (x : List ℕ). x ++ (shortest n ++ l)) (sym (none-held s e))
+-- an output, behind the headers of a state that holds nothing
+pub spelled : (s : OStream) → s .npending ≡ 0 → (l : List ℕ) → l ≡ heldBytes s ++ l
+spelled s e l = ap (λ (x : List ℕ). x ++ l) (sym (none-held s e))
+
+-- what must hold where the tests before a write at once pass: that the call is accepted, that the output is its own, and the state it leaves
+abbrev pub Serves : Bool → Call → List ℕ → OStream → Type 0
+Serves t k o next = t ≡ true → (judged (k .tests) ≡ accepted) × (o ≡ k .output) × (next ≡ k .done)
 
 -- a call whose output goes at once
-pub goes-at-once : (k : Call) (s : OStream) (b o : List ℕ) (place end : ℕ) (b′ : List ℕ) (next : OStream) → judged (k .tests) ≡ accepted → o ≡ k .output → next ≡ k .done → place ≡ 0
-    → s .offset + length o ≤ length b → Puts b (s .offset) o b′ end
-    → resultOf (record { answer = Done; stream = at next end }) b′ ≡ written k s b place
-goes-at-once k s b o place end b′ next j eo en z h w = settles k s b place _ o next _ b′ eo en j (at-once (s .offset) b o place end b′ z h w) refl
+pub goes-at-once : (k : Call) (s : OStream) (b o : List ℕ) (place end : ℕ) (b′ : List ℕ) (next : OStream) (t : Bool) → PutsWhole t b (s .offset) o b′ end → s .offset < end → place ≡ 0 → Serves t k o next → resultOf (record { answer = Done; stream = at next end }) b′ ≡ written k s b place
+goes-at-once k s b o place end b′ next t w h z serves =
+    let g = went t b (s .offset) o b′ end w h in
+    let q = serves (g .0) in
+    settles k s b place _ o next _ b′ (q .1) (q .2) (q .0) (at-once (s .offset) b o place end b′ z (g .2) (g .1)) refl
 
 -- a call that is left to another of the same statement, with the state rebuilt and the buffer unaltered
 pub by-slow-form : (k : OStream → ℕ → Call) (s s′ : OStream) (b b0 : List ℕ) (place : ℕ) (r r′ : Written) (b′ : List ℕ) → s′ ≡ s → b0 ≡ b → r′ ≡ r

@@ -17,7 +17,7 @@ use Rattle.ostream.specs.declared.OStream.{OStream}
 use Rattle.ostream.specs.Stream.{soundStream, lazyDepth, heldBytes, committed, holding, dropped}
 use Rattle.ostream.specs.Emission.{Test, Call}
 pub use Rattle.refusals.specs.Tests.{stringSubtype, idTooLarge, payloadTooLong, arrayTooLong}
-unfoldable pub use Rattle.write_slowly.specs.Went.{fixlenBytes}
+unfoldable pub use Rattle.layout.specs.Copy.{fixlenBytes}
 
 -- ---- the refusals that look at the state; the others, and their order, are `Tests` and `Orders` of `refusals`
 

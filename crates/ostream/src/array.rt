@@ -2,13 +2,8 @@
 use crate::Answer;
 use crate::OStream;
 use crate::Written;
-use at_ease::at_ease_with;
-use held::tagged;
-use types::ARRAY_MAX;
-use types::T_VARINTARRAY_SIGNED;
-use types::T_VARINTARRAY_UNSIGNED;
-use write_at_once::put_signeds;
-use write_at_once::put_unsigneds;
+use write_at_once::signeds_at_once;
+use write_at_once::unsigneds_at_once;
 use write_slowly::fp32_array;
 use write_slowly::fp32_bits_array;
 use write_slowly::fp64_array;
@@ -39,22 +34,22 @@ impl OStream {
                 .write_array_unsigned_slowly(buf, id, items, place)
                 .rebuilt();
         }
-        if at_ease_with(self.depth, self.npending, id, items.len(), ARRAY_MAX) {
-            let places = self.pending;
-            let end = put_unsigneds(
-                buf,
-                self.offset,
-                places,
-                tagged(id, T_VARINTARRAY_UNSIGNED),
-                items,
-            );
-            if self.offset < end {
-                self.offset = end;
-                return Written {
-                    answer: Answer::Done,
-                    stream: self,
-                };
-            }
+        let places = self.pending;
+        let end = unsigneds_at_once(
+            buf,
+            self.offset,
+            self.depth,
+            self.npending,
+            places,
+            id,
+            items,
+        );
+        if self.offset < end {
+            self.offset = end;
+            return Written {
+                answer: Answer::Done,
+                stream: self,
+            };
         }
         self.rebuilt()
             .write_array_unsigned_slowly(buf, id, items, place)
@@ -101,22 +96,22 @@ impl OStream {
                 .write_array_signed_slowly(buf, id, items, place)
                 .rebuilt();
         }
-        if at_ease_with(self.depth, self.npending, id, items.len(), ARRAY_MAX) {
-            let places = self.pending;
-            let end = put_signeds(
-                buf,
-                self.offset,
-                places,
-                tagged(id, T_VARINTARRAY_SIGNED),
-                items,
-            );
-            if self.offset < end {
-                self.offset = end;
-                return Written {
-                    answer: Answer::Done,
-                    stream: self,
-                };
-            }
+        let places = self.pending;
+        let end = signeds_at_once(
+            buf,
+            self.offset,
+            self.depth,
+            self.npending,
+            places,
+            id,
+            items,
+        );
+        if self.offset < end {
+            self.offset = end;
+            return Written {
+                answer: Answer::Done,
+                stream: self,
+            };
         }
         self.rebuilt()
             .write_array_signed_slowly(buf, id, items, place)

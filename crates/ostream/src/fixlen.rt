@@ -2,17 +2,13 @@
 use crate::Answer;
 use crate::OStream;
 use crate::Written;
-use at_ease::at_ease_with;
 use checks::check_fixlen;
 use event::fp32_bits;
 use event::fp64_bits;
 use fields::le32;
 use fields::le64;
-use held::tagged;
-use types::FIXLEN_MAX;
 use types::FixlenType;
-use types::T_FIXLEN;
-use write_at_once::put_field;
+use write_at_once::field_at_once;
 use write_slowly::fixlen_field;
 ghost use mathlib.Core.Path.{_≡_};
 ghost use lib.ListN.{length};
@@ -38,17 +34,23 @@ impl OStream {
                 .write_fixlen_slowly(buf, id, bytes, subtype, place)
                 .rebuilt();
         }
-        if at_ease_with(self.depth, self.npending, id, bytes.len(), FIXLEN_MAX) {
-            let places = self.pending;
-            let word = tagged(bytes.len() as u32, subtype.raw());
-            let end = put_field(buf, self.offset, places, tagged(id, T_FIXLEN), word, bytes);
-            if self.offset < end {
-                self.offset = end;
-                return Written {
-                    answer: Answer::Done,
-                    stream: self,
-                };
-            }
+        let places = self.pending;
+        let end = field_at_once(
+            buf,
+            self.offset,
+            self.depth,
+            self.npending,
+            places,
+            id,
+            subtype,
+            bytes,
+        );
+        if self.offset < end {
+            self.offset = end;
+            return Written {
+                answer: Answer::Done,
+                stream: self,
+            };
         }
         self.rebuilt()
             .write_fixlen_slowly(buf, id, bytes, subtype, place)

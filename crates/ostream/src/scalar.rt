@@ -2,12 +2,10 @@
 use crate::Answer;
 use crate::OStream;
 use crate::Written;
-use at_ease::at_ease;
-use held::tagged;
 use types::T_VARINT_SIGNED;
 use types::T_VARINT_UNSIGNED;
 use varint::zigzag_encode;
-use write_at_once::put_pair;
+use write_at_once::pair_at_once;
 use write_slowly::varint_field;
 ghost use mathlib.Core.Path.{_≡_};
 ghost use lib.ListN.{length};
@@ -38,16 +36,23 @@ impl OStream {
                 .write_varint_field_slowly(buf, id, wire, value, place)
                 .rebuilt();
         }
-        if at_ease(self.depth, self.npending, id) {
-            let places = self.pending;
-            let end = put_pair(buf, self.offset, places, tagged(id, wire), value);
-            if self.offset < end {
-                self.offset = end;
-                return Written {
-                    answer: Answer::Done,
-                    stream: self,
-                };
-            }
+        let places = self.pending;
+        let end = pair_at_once(
+            buf,
+            self.offset,
+            self.depth,
+            self.npending,
+            places,
+            id,
+            wire,
+            value,
+        );
+        if self.offset < end {
+            self.offset = end;
+            return Written {
+                answer: Answer::Done,
+                stream: self,
+            };
         }
         self.rebuilt()
             .write_varint_field_slowly(buf, id, wire, value, place)

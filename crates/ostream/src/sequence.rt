@@ -2,8 +2,6 @@
 use crate::Answer;
 use crate::OStream;
 use crate::Written;
-use at_ease::closes_at_ease;
-use at_ease::put_end;
 use checks::check_begin;
 use checks::check_end;
 use fields::put_close;
@@ -15,6 +13,7 @@ use types::ID_MAX;
 use types::LAZY_SEQ_DEPTH;
 use types::MAX_DEPTH;
 use types::T_SEQUENCE_START;
+use write_at_once::close_at_once;
 ghost use mathlib.Core.Path.{_≡_};
 ghost use Prim.Native.Nat.{_≤_, _<_};
 ghost use mathlib.Core.Bool.{true};
@@ -107,17 +106,15 @@ impl OStream {
         if 0 < place {
             return self.rebuilt().end_slowly(buf, place).rebuilt();
         }
-        if closes_at_ease(self.depth, self.npending) {
-            let places = self.pending;
-            let end = put_end(buf, self.offset, places);
-            if self.offset < end {
-                self.offset = end;
-                self.depth = self.depth - 1;
-                return Written {
-                    answer: Answer::Done,
-                    stream: self,
-                };
-            }
+        let places = self.pending;
+        let end = close_at_once(buf, self.offset, self.depth, self.npending, places);
+        if self.offset < end {
+            self.offset = end;
+            self.depth = self.depth - 1;
+            return Written {
+                answer: Answer::Done,
+                stream: self,
+            };
         }
         self.rebuilt().end_slowly(buf, place).rebuilt()
     }

@@ -3,7 +3,6 @@ use mathlib.Core.Bool.{Bool}
 use mathlib.Core.List.{List, _∷_, _++_}
 use Prim.Native.Nat.{ℕ}
 use lib.ListN.{length}
-use Rattle.layout.specs.Field.{Subtype, header, word, T-fixlen}
 use Rattle.outcomes.specs.declared.Outcome.{Outcome}
 use Rattle.outcomes.specs.declared.Outcome.the-variants.{Refused}
 use Rattle.refusals.specs.Judged.{Test, Judgement, accepted, refusedWith, judged}
@@ -25,10 +24,6 @@ wentBy r b = record { outcome = r; buf = b }
 unfoldable pub goesBy : Judgement → ℕ → List ℕ → List ℕ → ℕ → Went
 goesBy accepted pos b o place = record { outcome = reaches pos (length b) (length o) place; buf = bufferAfter pos b o place }
 goesBy (refusedWith e) pos b o place = record { outcome = Refused e; buf = b }
-
--- A fixed-length field's bytes: "a float subtype is written at any data length", so that the bytes are given, not the float.
-unfoldable pub fixlenBytes : ℕ → Subtype → List ℕ → List ℕ
-fixlenBytes id t bytes = header id T-fixlen ++ (word (length bytes) t ++ bytes)
 
 -- the tests of a field: the state, the id, and those of its length, where it has one
 abbrev pub tests : Bool → ℕ → List Test → List Test

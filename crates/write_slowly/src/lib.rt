@@ -26,11 +26,11 @@ ghost use lib.ListN.{length};
 ghost use lib.Ieee.{binary32, binary64, toBits};
 ghost use Rattle.layout.specs.Varint.{shortest};
 ghost use Rattle.layout.specs.Field.{fp32, fp64, unsignedArray, signedArray, floatArray};
-ghost use Rattle.layout.specs.Copy.{fieldBytes};
+ghost use Rattle.layout.specs.Copy.{fieldBytes, fixlenBytes};
 ghost use Rattle.types.specs.Types.{subtype};
 ghost use Rattle.checks.specs.Check.{checkOf};
 ghost use Rattle.refusals.specs.Tests.{payloadTooLong, arrayTooLong};
-ghost use Rattle.write_slowly.specs.Went.{wentBy, fixlenBytes, judgementOf, fieldFrom};
+ghost use Rattle.write_slowly.specs.Went.{wentBy, judgementOf, fieldFrom};
 
 // The refusals of a field with a payload, in order: the state, the id, the length.
 fn check_payload(

@@ -9,7 +9,7 @@ use Rattle.layout.specs.Varint.{shortest}
 use Rattle.types.specs.Types.{subtype}
 use Rattle.held.specs.Headers.{headersOf}
 use Rattle.refusals.specs.Tests.{payloadTooLong}
-use Rattle.write_slowly.specs.Went.{fixlenBytes}
+use Rattle.layout.specs.Copy.{fixlenBytes}
 use Rattle.write_slowly.proofs.Went.{sized-goes, refuses, goes}
 use borrow.Author.Needs.{needs}
 use Rattle.write_slowly.proofs.fixlen_field.Statement.{statement}

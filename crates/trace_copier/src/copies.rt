@@ -18,6 +18,7 @@ use trace::reader::float_type;
 use trace::reader::raw_type;
 use trace::reader::reader;
 use trace::reader::verdict;
+use trace_writer::writer::counted;
 use trace_writer::writer::writer;
 use types::ArrayKind;
 
@@ -59,88 +60,98 @@ fn copier(desk: &[u64]) -> Copier {
     }
 }
 
-fn of(owed: u64, id: u32, kind: u8, value: u64) -> [u64; 4] {
-    [owed, id as u64, kind as u64, value]
+// The words 18 to 22.
+fn of(owed: u64, id: u32, kind: u8, value: u64, place: u8) -> [u64; 5] {
+    [owed, id as u64, kind as u64, value, place as u64]
 }
 
-fn numbers(o: Owed) -> [u64; 4] {
+fn numbers(o: Owed, place: u8) -> [u64; 5] {
     match o {
-        Owed::Nothing => of(0, 0, 0, 0),
-        Owed::Unsigned(id, v) => of(1, id, 0, v),
-        Owed::Signed(id, v) => of(2, id, 0, bits(v)),
-        Owed::Element(v) => of(3, 0, 0, v),
-        Owed::SignedElement(v) => of(4, 0, 0, bits(v)),
-        Owed::Fp32(n) => of(5, 0, 0, n as u64),
-        Owed::Fp64(n) => of(6, 0, 0, n),
-        Owed::Float(id, t) => of(7, id, t.fixlen().raw(), 0),
-        Owed::Payload(id, r, n) => of(8, id, r.fixlen().raw(), n as u64),
-        Owed::Array(id, k, n) => of(9, id, k.raw(), n as u64),
-        Owed::Begin(id) => of(10, id, 0, 0),
-        Owed::End => of(11, 0, 0, 0),
+        Owed::Nothing => of(0, 0, 0, 0, place),
+        Owed::Unsigned(id, v) => of(1, id, 0, v, place),
+        Owed::Signed(id, v) => of(2, id, 0, bits(v), place),
+        Owed::Element(v) => of(3, 0, 0, v, place),
+        Owed::SignedElement(v) => of(4, 0, 0, bits(v), place),
+        Owed::Fp32(n) => of(5, 0, 0, n as u64, place),
+        Owed::Fp64(n) => of(6, 0, 0, n, place),
+        Owed::Float(id, t) => of(7, id, t.fixlen().raw(), 0, place),
+        Owed::Payload(id, r, n) => of(8, id, r.fixlen().raw(), n as u64, place),
+        Owed::Array(id, k, n) => of(9, id, k.raw(), n as u64, place),
+        Owed::Begin(id) => of(10, id, 0, 0, place),
+        Owed::End => of(11, 0, 0, 0, place),
     }
 }
 
 fn store(k: Copier, desk: &mut [u64]) {
-    let r = k.reader;
-    let w = k.writer;
     let o = k.owed;
-    let n = numbers(o);
-    trace::reader::store(r, desk);
-    trace_writer::writer::store(w, desk);
-    lay(desk, 18, &[n[0], n[1], n[2], n[3], k.place as u64]);
+    trace::reader::store(k.reader, desk);
+    trace_writer::writer::store(k.writer, desk);
+    lay(desk, 18, &numbers(o, k.place));
 }
 
-// What a call tells: the answer and a refusal's number.
-fn said(a: Answer) -> [u64; 2] {
-    match a {
-        Answer::Full => [1, 0],
-        Answer::Status(s) => [verdict(s), 0],
-        Answer::Refused(e) => [18, e.number() as u64],
-    }
+// What a call leaves: the copier, and the words 23 to 27.
+struct Left {
+    copier: Copier,
+    told: [u64; 5],
 }
 
-fn begun(a: Opening) -> [u64; 2] {
-    match a {
-        Opening::Open => [0, 0],
-        Opening::Refused(e) => [3, e.number() as u64],
-    }
-}
-
-fn tell(said: [u64; 2], n: usize, desk: &mut [u64]) {
-    lay(desk, 23, &[said[0], n as u64, 0, 0, said[1]]);
-}
-
-fn opened(o: Opened, desk: &mut [u64]) {
+fn opened(o: Opened) -> Left {
     let a = o.answer;
-    let left = o.copier;
-    store(left, desk);
-    tell(begun(a), 0, desk);
+    let copier = o.copier;
+    let told = match a {
+        Opening::Open => [0u64; 5],
+        Opening::Refused(e) => [3, 0, 0, 0, e.number() as u64],
+    };
+    Left { copier, told }
 }
 
-fn copied(f: Copied, desk: &mut [u64]) {
+fn copied(f: Copied) -> Left {
     let a = f.answer;
-    let left = f.copier;
-    store(left, desk);
-    tell(said(a), f.used, desk);
+    let copier = f.copier;
+    let used = f.used as u64;
+    let told = match a {
+        Answer::Full => [1, used, 0, 0, 0],
+        Answer::Status(s) => [verdict(s), used, 0, 0, 0],
+        Answer::Refused(e) => [18, used, 0, 0, e.number() as u64],
+    };
+    Left { copier, told }
 }
 
-fn sent(d: Drained, desk: &mut [u64]) {
+// The words 25 to 27 stay as they are.
+fn sent(d: Drained, desk: &[u64]) -> Left {
     let a = d.answer;
-    let left = d.copier;
-    store(left, desk);
-    lay(desk, 23, &trace_writer::writer::counted(a));
+    let copier = d.copier;
+    let n = counted(a);
+    Left {
+        copier,
+        told: [n[0], n[1], word(desk, 25), word(desk, 26), word(desk, 27)],
+    }
 }
 
-// Of a buffer change `data` is the new buffer.
-#[no_mangle]
-pub extern "C" fn trace_copy(desk: &mut [u64], data: &[u8], buf: &mut [u8]) -> i64 {
-    let k = copier(desk);
+// The calls that write nothing. Of a buffer change `data` is the new buffer.
+fn idle(k: Copier, desk: &[u64], data: &[u8], buf: &[u8]) -> Left {
     let offset = word(desk, 28) as usize;
     match word(desk, 24) {
-        24 => opened(Copier::new(buf, offset), desk),
-        25 => copied(k.feed(data, buf), desk),
+        24 => opened(Copier::new(buf, offset)),
         26 => sent(k.flush(buf), desk),
         _ => sent(k.buffer_set(buf, data, offset), desk),
     }
+}
+
+fn called(desk: &[u64], data: &[u8], buf: &mut [u8]) -> Left {
+    let k = copier(desk);
+    if word(desk, 24) == 25 {
+        copied(k.feed(data, buf))
+    } else {
+        idle(k, desk, data, buf)
+    }
+}
+
+#[no_mangle]
+pub extern "C" fn trace_copy(desk: &mut [u64], data: &[u8], buf: &mut [u8]) -> i64 {
+    let left = called(desk, data, buf);
+    let told = left.told;
+    store(left.copier, desk);
+    lay(desk, 23, &told);
     0
 }

@@ -1,6 +1,7 @@
 // The words of a script's row: the call that it names, what it sets on the desk, and whether a call left what it says. The README.md of the
 // crate `vectors` says what a row has.
 use check::same;
+use script::after;
 use script::end_of;
 use script::unhex;
 use script::word;
@@ -68,6 +69,18 @@ pub fn set(text: &[u8], start: [u64; 32]) -> [u64; 32] {
     desk
 }
 
+// The bytes of a word in hexadecimal, and how many.
+pub struct Bytes {
+    pub bytes: [u8; 256],
+    pub len: usize,
+}
+
+pub fn bytes_of(hex: &[u8]) -> Bytes {
+    let mut bytes = [0u8; 256];
+    let len = unhex(hex, &mut bytes);
+    Bytes { bytes, len }
+}
+
 // A row's numbers and its answer are its own: these words begin at zero.
 pub fn cleared(mut desk: [u64; 32]) -> [u64; 32] {
     let mut i: usize = 23;
@@ -80,7 +93,7 @@ pub fn cleared(mut desk: [u64; 32]) -> [u64; 32] {
 
 // ---- what a call left
 
-pub fn same_words(a: [u64; 32], b: [u64; 32]) -> bool {
+fn same_words(a: [u64; 32], b: [u64; 32]) -> bool {
     let mut i: usize = 0;
     while i < 32 {
         if a[i] != b[i] {
@@ -92,7 +105,7 @@ pub fn same_words(a: [u64; 32], b: [u64; 32]) -> bool {
 }
 
 // Words that a row doesn't name are as they were at the call; with `~`, they are free.
-pub fn unnamed(told: &[u8], before: [u64; 32], after: [u64; 32]) -> [u64; 32] {
+fn unnamed(told: &[u8], before: [u64; 32], after: [u64; 32]) -> [u64; 32] {
     if end_of(told, 0, b'~') < told.len() {
         return after;
     }
@@ -100,8 +113,21 @@ pub fn unnamed(told: &[u8], before: [u64; 32], after: [u64; 32]) -> [u64; 32] {
 }
 
 // The buffer begins with these bytes, and is behind them as it was.
-pub fn same_bytes(hex: &[u8], before: [u8; 256], after: [u8; 256]) -> bool {
+fn same_bytes(hex: &[u8], before: [u8; 256], after: [u8; 256]) -> bool {
     let mut want = before;
     unhex(hex, &mut want);
     same(&want, &after)
+}
+
+// Whether desk and buffer are what the row tells.
+pub fn right(told: &[u8], was: [u64; 32], is: [u64; 32], old: [u8; 256], new: [u8; 256]) -> bool {
+    same_words(is, set(told, unnamed(told, was, is))) && same_bytes(after(told, b'>'), old, new)
+}
+
+// Whether a part is the one that the row tells.
+pub fn same_part(told: &[u8], part: Bytes) -> bool {
+    let want = bytes_of(after(told, b'>'));
+    let told = want.bytes;
+    let got = part.bytes;
+    want.len == part.len && same(&told, &got)
 }

@@ -1,5 +1,4 @@
 // A call by its number, over the first bytes of a buffer.
-use desk::lay;
 use trace::gatherer::trace_gather;
 use trace::reader::trace_read;
 use trace_arrays::array;
@@ -13,22 +12,15 @@ fn at_most(n: usize, most: usize) -> usize
     if n < most { n } else { most }
 }
 
-// Those that find their number on the desk.
-fn numbered(code: u32, desk: &mut [u64], data: &[u8], buf: &mut [u8]) -> i64 {
-    lay(desk, 24, &[code as u64]);
-    if code < 21 {
-        trace_write(desk, data, buf)
-    } else {
-        trace_copy(desk, data, buf)
-    }
-}
-
 fn made(code: u32, desk: &mut [u64], data: &[u8], buf: &mut [u8]) -> i64 {
+    if 23 < code {
+        return trace_copy(desk, data, buf);
+    }
     match code {
         9 | 10 | 18 | 19 => array(code, desk, data, buf),
         21 => trace_read(desk, data),
         22 => trace_gather(desk, buf, data),
-        _ => numbered(code, desk, data, buf),
+        _ => trace_write(desk, data, buf),
     }
 }
 

@@ -3,21 +3,20 @@
 mod calls;
 
 use calls::call;
-use check::same;
 use libc::STDIN_FILENO;
 use libc::STDOUT_FILENO;
+use rows::Bytes;
 use rows::UNKNOWN;
+use rows::bytes_of;
 use rows::cleared;
 use rows::code;
-use rows::same_bytes;
-use rows::same_words;
+use rows::right;
+use rows::same_part;
 use rows::set;
-use rows::unnamed;
 use script::after;
 use script::end_of;
 use script::first;
 use script::say;
-use script::unhex;
 use script::word;
 use std::num::wrapping_add_u64;
 use trace::gatherer::trace_part;
@@ -54,24 +53,18 @@ fn counted(mut run: Run, right: bool, row: &[u8]) -> Run {
     run
 }
 
-// The call, with the bytes behind `<`.
+// The call, with the bytes behind `<`. A writer's and a copier's find their number on the desk; no other looks there, and each leaves its
+// answer's count in that word.
 fn called(mut run: Run, code: u32, given: &[u8]) -> Run {
+    let bytes = bytes_of(after(given, b'<'));
+    let data = bytes.bytes;
     let mut buf = run.buf;
     let mut desk = run.desk;
-    let mut data = [0u8; 256];
-    let n = unhex(after(given, b'<'), &mut data);
-    call(code, &mut desk, first(&data, n), &mut buf, run.size);
+    desk[24] = code as u64;
+    call(code, &mut desk, first(&data, bytes.len), &mut buf, run.size);
     run.buf = buf;
     run.desk = desk;
     run
-}
-
-fn right(told: &[u8], before: Run, left: Run) -> bool {
-    let old = before.buf;
-    let new = left.buf;
-    let was = before.desk;
-    let is = left.desk;
-    same_words(is, set(told, unnamed(told, was, is))) && same_bytes(after(told, b'>'), old, new)
 }
 
 fn made(mut run: Run, code: u32, row: &[u8]) -> Run {
@@ -82,27 +75,45 @@ fn made(mut run: Run, code: u32, row: &[u8]) -> Run {
     let before = set(given, cleared(start));
     run.desk = before;
     let left = called(run, code, given);
-    counted(left, right(&row[mid..], run, left), row)
+    let old = run.buf;
+    let new = left.buf;
+    let is = left.desk;
+    counted(left, right(&row[mid..], before, is, old, new), row)
 }
 
-// The gatherer's second call, on the answer of the row before or of its own words: the part that it returns.
-fn parted(run: Run, row: &[u8]) -> Run {
-    let mut want = [0u8; 256];
-    let mut data = [0u8; 256];
-    let mut out = [0u8; 256];
+// The part that the gatherer's second call returns.
+fn part(run: Run, desk: [u64; 32], bytes: Bytes) -> Bytes {
+    let mut part = [0u8; 256];
     let buf = run.buf;
+    let data = bytes.bytes;
+    let len = trace_part(
+        &desk,
+        first(&buf, run.size),
+        first(&data, bytes.len),
+        &mut part,
+    );
+    Bytes {
+        bytes: part,
+        len: len as usize,
+    }
+}
+
+// That call is on the answer of the row before or of its own words.
+fn parted(run: Run, row: &[u8]) -> Run {
     let name = end_of(row, 0, b' ');
     let start = run.desk;
     let desk = set(&row[name..], start);
-    let n = unhex(after(row, b'<'), &mut data);
-    let k = unhex(after(row, b'>'), &mut want);
-    let got = trace_part(&desk, first(&buf, run.size), first(&data, n), &mut out);
-    counted(run, got == k as u64 && same(&want, &out), row)
+    counted(
+        run,
+        same_part(row, part(run, desk, bytes_of(after(row, b'<')))),
+        row,
+    )
 }
 
 fn lent(mut run: Run, hex: &[u8]) -> Run {
-    let mut buf = [0u8; 256];
-    run.size = unhex(hex, &mut buf);
+    let bytes = bytes_of(hex);
+    let buf = bytes.bytes;
+    run.size = bytes.len;
     run.buf = buf;
     run
 }

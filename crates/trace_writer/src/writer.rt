@@ -34,29 +34,32 @@ pub fn writer(desk: &[u64]) -> OStream {
     }
 }
 
-fn words(p: [u32; 8]) -> [u64; 8] {
-    let mut w = [0u64; 8];
+// The words of a writer, from 7 on.
+fn words(s: OStream) -> [u64; 11] {
+    let held = s.pending;
+    let mut w = [
+        s.offset as u64,
+        s.depth as u64,
+        s.npending as u64,
+        0,
+        0,
+        0,
+        0,
+        0,
+        0,
+        0,
+        0,
+    ];
     let mut i: usize = 0;
     while i < 8 {
-        w[i] = wide(p[i]);
+        w[3 + i] = held[i] as u64;
         i += 1;
     }
     w
 }
 
-fn wide(n: u32) -> u64 {
-    n as u64
-}
-
 pub fn store(s: OStream, desk: &mut [u64]) {
-    lay(
-        desk,
-        7,
-        &[s.offset as u64, s.depth as u64, s.npending as u64],
-    );
-    let p = s.pending;
-    let w = words(p);
-    lay(desk, 10, &w);
+    lay(desk, 7, &words(s));
 }
 
 // A call's numbers.
@@ -84,14 +87,6 @@ pub fn asked(desk: &[u64]) -> Call {
 
 // ---- what a call tells
 
-fn said(a: Answer) -> [u64; 2] {
-    match a {
-        Answer::Done => [0, 0],
-        Answer::Full(n) => [1, n as u64],
-        Answer::Refused(e) => [3, e.number() as u64],
-    }
-}
-
 pub fn counted(c: Count) -> [u64; 2] {
     match c {
         Count::Bytes(n) => [4, n as u64],
@@ -99,19 +94,36 @@ pub fn counted(c: Count) -> [u64; 2] {
     }
 }
 
-pub fn written(desk: &mut [u64], w: Written) -> i64 {
-    let a = w.answer;
-    let left = w.stream;
-    store(left, desk);
-    lay(desk, 23, &said(a));
-    0
+// What a call leaves on the desk: the writer, and the answer.
+pub struct Left {
+    pub writer: OStream,
+    pub answer: [u64; 2],
 }
 
-fn sent(desk: &mut [u64], c: Counted) -> i64 {
+pub fn told(w: Written) -> Left {
+    let a = w.answer;
+    let writer = w.stream;
+    let answer = match a {
+        Answer::Done => [0, 0],
+        Answer::Full(n) => [1, n as u64],
+        Answer::Refused(e) => [3, e.number() as u64],
+    };
+    Left { writer, answer }
+}
+
+fn sent(c: Counted) -> Left {
     let a = c.answer;
-    let left = c.stream;
-    store(left, desk);
-    lay(desk, 23, &counted(a));
+    let writer = c.stream;
+    Left {
+        writer,
+        answer: counted(a),
+    }
+}
+
+pub fn leave(t: Left, desk: &mut [u64]) -> i64 {
+    let a = t.answer;
+    store(t.writer, desk);
+    lay(desk, 23, &a);
     0
 }
 
@@ -127,20 +139,18 @@ fn subtype(n: u64) -> FixlenType {
 }
 
 // Floats go by the calls for floats, and where one is a NaN, whose bits no float carries, by those for bits.
-fn fp32(c: Call, bits: u32, buf: &mut [u8]) -> Written {
-    let e = event::fp32(c.id, bits);
-    let Event::Fp32(_, x) = e else {
-        return c.writer.write_fp32_bits(buf, c.id, bits, c.place);
+fn float(c: Call, buf: &mut [u8]) -> Written {
+    let e = if c.code == 5 {
+        event::fp32(c.id, narrow(c.value))
+    } else {
+        event::fp64(c.id, c.value)
     };
-    c.writer.write_fp32(buf, c.id, x, c.place)
-}
-
-fn fp64(c: Call, buf: &mut [u8]) -> Written {
-    let e = event::fp64(c.id, c.value);
-    let Event::Fp64(_, x) = e else {
-        return c.writer.write_fp64_bits(buf, c.id, c.value, c.place);
-    };
-    c.writer.write_fp64(buf, c.id, x, c.place)
+    match e {
+        Event::Fp32(_, x) => c.writer.write_fp32(buf, c.id, x, c.place),
+        Event::Fp32Nan(_, bits) => c.writer.write_fp32_bits(buf, c.id, bits, c.place),
+        Event::Fp64(_, x) => c.writer.write_fp64(buf, c.id, x, c.place),
+        _ => c.writer.write_fp64_bits(buf, c.id, c.value, c.place),
+    }
 }
 
 fn number(c: Call, buf: &mut [u8]) -> Written {
@@ -149,27 +159,21 @@ fn number(c: Call, buf: &mut [u8]) -> Written {
         1 => c.writer.write_unsigned(buf, c.id, c.value, c.place),
         2 => c.writer.write_signed(buf, c.id, signed(c.value), c.place),
         3 => c.writer.write_boolean(buf, c.id, c.value != 0, c.place),
-        5 => fp32(c, narrow(c.value), buf),
-        _ => fp64(c, buf),
+        13 => c.writer.write_sequence_begin_lazy(buf, c.id, c.place),
+        14 => c.writer.write_sequence_end(buf, c.place),
+        15 => c.writer.write_sequence_end_keep(buf, c.place),
+        _ => float(c, buf),
     }
 }
 
-fn bytes(c: Call, data: &[u8], buf: &mut [u8]) -> Written {
+fn write(c: Call, data: &[u8], buf: &mut [u8]) -> Written {
     let code = c.code;
     match code {
         4 => c.writer
             .write_fixlen(buf, c.id, data, subtype(c.kind), c.place),
         7 => c.writer.write_str(buf, c.id, data, c.place),
-        _ => c.writer.write_blob(buf, c.id, data, c.place),
-    }
-}
-
-fn sequence(c: Call, buf: &mut [u8]) -> Written {
-    let code = c.code;
-    match code {
-        13 => c.writer.write_sequence_begin_lazy(buf, c.id, c.place),
-        14 => c.writer.write_sequence_end(buf, c.place),
-        _ => c.writer.write_sequence_end_keep(buf, c.place),
+        8 => c.writer.write_blob(buf, c.id, data, c.place),
+        _ => number(c, buf),
     }
 }
 
@@ -182,24 +186,20 @@ fn open(c: Call, buf: &[u8]) -> Written {
     }
 }
 
-fn write(c: Call, data: &[u8], buf: &mut [u8]) -> Written {
+// Of a buffer change `data` is the new buffer, and kind 1 says that the old one is drained.
+fn called(c: Call, data: &[u8], buf: &mut [u8]) -> Left {
     let code = c.code;
     match code {
-        4 | 7 | 8 => bytes(c, data, buf),
-        13 | 14 | 15 => sequence(c, buf),
-        20 => open(c, buf),
-        _ => number(c, buf),
+        16 => sent(c.writer.flush(buf)),
+        17 => sent(c.writer.buffer_set(buf, data, c.offset, c.kind != 0)),
+        20 => told(open(c, buf)),
+        _ => told(write(c, data, buf)),
     }
 }
 
-// Of a buffer change `data` is the new buffer, and kind 1 says that the old one is drained.
 #[no_mangle]
 pub extern "C" fn trace_write(desk: &mut [u64], data: &[u8], buf: &mut [u8]) -> i64 {
     let c = asked(desk);
-    let code = c.code;
-    match code {
-        16 => sent(desk, c.writer.flush(buf)),
-        17 => sent(desk, c.writer.buffer_set(buf, data, c.offset, c.kind != 0)),
-        _ => written(desk, write(c, data, buf)),
-    }
+    let t = called(c, data, buf);
+    leave(t, desk)
 }

@@ -51,9 +51,9 @@ pub fn length(r: u64, most: usize) -> usize {
     if n < most as u64 { n as usize } else { most }
 }
 
-// A number between two texts: whether all of it went out.
-pub fn say(fd: i32, before: &[u8], n: u64, after: &[u8]) -> bool {
-    io::write_all(fd, before) && io::print_decimal(fd, n) && io::write_all(fd, after)
+// A number and the text after it: whether all of it went out.
+pub fn say(fd: i32, n: u64, after: &[u8]) -> bool {
+    io::print_decimal(fd, n) && io::write_all(fd, after)
 }
 
 // The chunk is spent: another one of a message of `len` bytes, also an empty one, or the end. A drain comes at the end, and now and then
@@ -63,12 +63,12 @@ pub fn chunk(mut c: Cut, len: usize) -> Cut {
     let left = if c.from <= len { len - c.from } else { 0 };
     let n = length(random, left);
     if c.asked {
-        say(STDERR_FILENO, b"", n as u64, b" ");
+        say(STDERR_FILENO, n as u64, b" ");
     }
     c.random = random;
     c.to = wrapping_add_usize(c.from, n);
-    c.over = left == 0 && (random >> 8) % 4 == 0;
-    c.drain = c.over || (random >> 5) % 4 == 0;
+    c.over = (left == 0) & ((random >> 8) % 4 == 0);
+    c.drain = c.over | ((random >> 5) % 4 == 0);
     c
 }
 

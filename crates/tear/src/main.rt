@@ -18,14 +18,16 @@ fn size(random: u64) -> usize {
     std::num::wrapping_add_usize(draw::length(random, 4095), 1)
 }
 
-// A copy through a buffer of a length drawn.
+// Whether a copy through a buffer of a length drawn is the one expected, all of it.
 fn one_copy(ticket: &[u8], manifest: &[u8], random: u64, asked: bool) -> bool {
     let mut buf = io::buffer();
     let n = size(random);
     if buf.len() < n {
         return false;
     }
-    torn::copies(ticket, manifest, &mut buf[0..n], draw::next(random), asked)
+    let cut = draw::start(draw::next(random), 0, asked);
+    let c = torn::copy(ticket, manifest, &mut buf[0..n], cut, u64::MAX);
+    c.same & (c.sent == manifest.len())
 }
 
 // One run, its cuts shown where asked: a copy, and the message and the copy read back.
@@ -51,10 +53,9 @@ fn runs(n: u64, ticket: &[u8], manifest: &[u8], sum: Sum) -> u64 {
 }
 
 fn conclude(n: u64, len: usize) {
-    let said = say(STDOUT_FILENO, b"", n, b" runs, each a copy of the same ")
+    let said = say(STDOUT_FILENO, n, b" runs, each a copy of the same ")
         && say(
             STDOUT_FILENO,
-            b"",
             len as u64,
             b" bytes;\nmessage and copy, read back in other cuts, gave the same events each time.\n",
         );
@@ -66,13 +67,9 @@ fn conclude(n: u64, len: usize) {
 // A run that differs, with its cuts.
 fn show(run: u64, ticket: &[u8], manifest: &[u8], sum: Sum) {
     let from = seed(run);
-    say(STDERR_FILENO, b"tear: run ", run, b" differs: buffer ");
-    say(
-        STDERR_FILENO,
-        b"",
-        size(draw::next(from)) as u64,
-        b", chunks ",
-    );
+    io::write_all(STDERR_FILENO, b"tear: run ");
+    say(STDERR_FILENO, run, b" differs: buffer ");
+    say(STDERR_FILENO, size(draw::next(from)) as u64, b", chunks ");
     one_run(ticket, manifest, sum, from, true);
     io::write_all(STDERR_FILENO, b"\n");
 }
@@ -88,25 +85,23 @@ fn try_all(n: u64, ticket: &[u8], manifest: &[u8]) {
     }
 }
 
+fn complain_at(what: &[u8], byte: usize) {
+    io::write_all(STDERR_FILENO, what);
+    say(STDERR_FILENO, byte as u64, b"\n");
+}
+
+// First the copy in one piece, in one call: its verdict, how much of the message was used, and the copy's length. Whether it is the same
+// says nothing, there being no other copy yet. (From a seed of 0 nothing but 0 is drawn: after the chunk it is over, and drained.)
 fn tear(n: u64, ticket: &[u8]) {
     let mut manifest = io::large_buffer();
-    let copy = torn::whole(ticket, &mut manifest);
+    let cut = draw::start(0, ticket.len(), false);
+    let copy = torn::copy(ticket, ticket, &mut manifest, cut, 1);
     if copy.broken {
-        say(
-            STDERR_FILENO,
-            b"tear: broken at byte ",
-            copy.from as u64,
-            b"\n",
-        );
+        complain_at(b"tear: broken at byte ", copy.from);
     } else if copy.complete {
         try_all(n, ticket, draw::part(&manifest, 0, copy.sent));
     } else {
-        say(
-            STDERR_FILENO,
-            b"tear: incomplete, it ends after byte ",
-            ticket.len() as u64,
-            b"\n",
-        );
+        complain_at(b"tear: incomplete, it ends after byte ", ticket.len());
     }
 }
 
@@ -136,7 +131,7 @@ fn runs_asked() -> u64 {
 
 fn main() {
     let mut ticket = io::large_buffer();
-    let mut spare = io::buffer();
+    let mut spare = [0u8; 1];
     let n = io::read_full(STDIN_FILENO, &mut ticket);
     let more = libc::read(STDIN_FILENO, &mut spare);
     if more < 0 {

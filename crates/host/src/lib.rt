@@ -1,6 +1,5 @@
 // What a C host calls: the verdict on a message given whole, as a number, and its plain copy. `include/sofab.h` declares both for C.
 ghost use mathlib.Core.Path.{_≡_};
-ghost use mathlib.Core.Bool.{true};
 ghost use Rattle.layout.specs.Limits.{base};
 ghost use Rattle.layout.specs.Message.{complete, verdictOf};
 ghost use Rattle.layout.specs.Copy.{plainCopy};
@@ -31,16 +30,6 @@ fn copy(ticket: &[u8], out: &mut [u8]) -> i64
     done.copier.writer.offset as i64
 }
 
-// Whether a message is whole fields in their shortest form, every sequence closed: then it is complete, and its own plain copy.
-fn is_own(ticket: &[u8]) -> bool
-    ensures { λ r. ⌜ (r ≡ true → (verdictOf base (now (ticket .entry)) ≡ complete) × (plainCopy base (now (ticket .entry)) ≡ now (ticket .entry))) ⌝ }
-{
-    let run = own::fields(ticket, 0);
-    let n = run.len;
-    let d = run.depth;
-    if n == ticket.len() { d == 0 } else { false }
-}
-
 // The message itself as the copy.
 fn block(ticket: &[u8], out: &mut [u8]) -> i64
     ensures { λ r. ⌜ resultOf r (now (out .exit)) ≡ filled (now (ticket .entry)) (now (out .entry)) ⌝ }
@@ -57,7 +46,7 @@ fn block(ticket: &[u8], out: &mut [u8]) -> i64
 pub extern "C" fn sofab_copy(ticket: &[u8], out: &mut [u8]) -> i64
     ensures { λ r. ⌜ resultOf r (now (out .exit)) ≡ copied (verdictOf base (now (ticket .entry))) (plainCopy base (now (ticket .entry))) (now (out .entry)) ⌝ }
 {
-    if is_own(ticket) {
+    if own_copy::is_own(ticket) {
         return block(ticket, out);
     }
     let n = codes::refusal(whole::verdict_of(ticket));

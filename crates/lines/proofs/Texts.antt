@@ -16,9 +16,6 @@ use Rattle.putting.proofs.Turns.{start, followed, followed-by}
 use Rattle.event_list.specs.Lines.{decimal, byteLine}
 use Rattle.putting.specs.Put.{Puts}
 
-pub says : (b : List ℕ) (at : ℕ) (s t b′ : List ℕ) (r : ℕ) → s ≡ t → Puts b at s b′ r → Puts b at t b′ r
-says b at s t b′ r e p = subst (λ (l : List ℕ). Puts b at l b′ r) e p
-
 pub nothing : (b : List ℕ) (at : ℕ) → Puts b at [] b at
 nothing b at = let e : at ≡ at + min 0 (length b - at) = omega arith in (e ∙ sym (reached-is b at []), sym (put-none b at [] refl))
 

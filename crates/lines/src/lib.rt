@@ -1,11 +1,10 @@
-// The lines of the event list: what an event says and the verdict, put as text into a lent buffer as far as there is room.
+// The lines of the event list: what an event says, put as text into a lent buffer as far as there is room.
 ghost use lib.Seq.{slice};
 ghost use Rattle.layout.specs.Field.{each};
 ghost use Rattle.event.specs.Event.{eventOf};
-ghost use Rattle.event_list.specs.Lines.{decimal, hexadecimal, byteLine, linesOf, lastLine};
+ghost use Rattle.event_list.specs.Lines.{decimal, hexadecimal, byteLine, linesOf};
 ghost use Rattle.shown.specs.Spelled.{partText, lineText};
 ghost use Rattle.putting.specs.Put.{Puts};
-ghost use Rattle.lines.specs.Verdict.{verdictIn};
 use emit::least;
 use emit::put_rest;
 use event::Bounds;
@@ -14,12 +13,6 @@ use shown::Line;
 use shown::Part;
 use shown::Shown;
 use shown::shown_of;
-
-pub enum Verdict {
-    Complete,
-    Incomplete,
-    Invalid,
-}
 
 fn put_decimal(out: &mut [u8], at: usize, n: u64) -> usize
     ensures { λ r. ⌜ Puts (now (out .entry)) at (decimal n) (now (out .exit)) r ⌝ }
@@ -122,16 +115,5 @@ pub fn put_event(out: &mut [u8], at: usize, chunk: &[u8], e: Event) -> usize
     match s {
         Shown::Line(l) => put_line(out, at, l),
         Shown::Piece(b) => put_piece(out, at, chunk, b),
-    }
-}
-
-// The last line, from `at` on; where it ends.
-pub fn put_verdict(out: &mut [u8], at: usize, v: Verdict) -> usize
-    ensures { λ r. ⌜ Puts (now (out .entry)) at (lastLine (verdictIn v)) (now (out .exit)) r ⌝ }
-{
-    match v {
-        Verdict::Complete => put_rest(out, at, b"complete\n", 0),
-        Verdict::Incomplete => put_rest(out, at, b"incomplete\n", 0),
-        Verdict::Invalid => put_rest(out, at, b"invalid\n", 0),
     }
 }

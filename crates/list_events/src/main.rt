@@ -3,7 +3,7 @@
 use libc::STDERR_FILENO;
 use libc::STDIN_FILENO;
 use libc::STDOUT_FILENO;
-use lines::Verdict;
+use last_line::Verdict;
 use listing::Listing;
 
 // How far the list has come: more input may follow, the input is at its end or the message is broken, or a read or a write failed.
@@ -127,7 +127,7 @@ fn conclude(l: Listing, out: &mut [u8]) -> bool {
     if !flush(out, l.at) {
         return false;
     }
-    let end = lines::put_verdict(out, 0, verdict);
+    let end = last_line::put_verdict(out, 0, verdict);
     flush(out, end)
 }
 

@@ -7,7 +7,7 @@ ghost use lib.ListN.{length};
 use istream::Answer;
 use istream::IStream;
 use istream::Status;
-use lines::Verdict;
+use last_line::Verdict;
 use lines::put_event;
 
 // No line is longer, nor that of a payload byte (`lines-short` of `lines`).

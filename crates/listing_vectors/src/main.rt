@@ -23,7 +23,7 @@ fn first<'a>(s: &'a [u8], n: usize) -> &'a [u8] {
 
 fn print(l: Listing, out: &mut [u8]) -> bool {
     let verdict = l.verdict;
-    let end = lines::put_verdict(out, l.at, verdict);
+    let end = last_line::put_verdict(out, l.at, verdict);
     io::write_all(STDOUT_FILENO, first(out, end))
 }
 

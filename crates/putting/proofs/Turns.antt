@@ -95,3 +95,8 @@ copy-start b pos l from =
     let p : pos ≡ pos + 0 = omega arith in
     let q : from ≡ from + 0 = omega arith in
     subst (λ (at : ℕ). Left b pos (drop from l) b at (drop (from + 0) l)) p (subst (λ (k : ℕ). Left b pos (drop from l) b pos (drop k l)) q (start b pos (drop from l)))
+
+-- ---- by another name for what is put
+
+pub says : (b : List ℕ) (at : ℕ) (s t b′ : List ℕ) (r : ℕ) → s ≡ t → Puts b at s b′ r → Puts b at t b′ r
+says b at s t b′ r e p = subst (λ (l : List ℕ). Puts b at l b′ r) e p

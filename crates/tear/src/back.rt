@@ -1,6 +1,6 @@
 // One reading of a torn message: a sum over the lines of its events, as `list_events` prints them, and whether it is complete.
 use crate::draw;
-use lines::Verdict;
+use last_line::Verdict;
 use listing::Listing;
 use std::num::wrapping_add_u64;
 

@@ -2,7 +2,7 @@
 use Rattle.lines.proofs.Numbers.{hexadecimal-is}
 use mathlib.Core.Path.{_∙_}
 use lib.Dec.{lit≤}
-use Rattle.lines.proofs.Texts.{says}
+use Rattle.putting.proofs.Turns.{says}
 use borrow.Author.Needs.{needs}
 use Rattle.lines.proofs.put_bits64.Statement.{statement}
 use Rattle.lines.proofs.put_bits64.Tie as tie

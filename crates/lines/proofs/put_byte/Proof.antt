@@ -1,6 +1,7 @@
 -- `lines::put_byte`.
 use mathlib.Core.Path.{sym}
-use Rattle.lines.proofs.Texts.{says, joined, byte-line}
+use Rattle.putting.proofs.Turns.{says}
+use Rattle.lines.proofs.Texts.{joined, byte-line}
 use borrow.Author.Needs.{needs}
 use Rattle.lines.proofs.put_byte.Statement.{statement}
 use Rattle.lines.proofs.put_byte.Tie as tie

@@ -9,7 +9,8 @@ use borrow.Author.Tests.{ltb-true, ltb-false}
 use Rattle.layout.specs.Field.{each}
 use Rattle.event_list.specs.Lines.{byteLine}
 use Rattle.putting.specs.Put.{Puts}
-use Rattle.lines.proofs.Texts.{says, joined, nothing, length-kept, each-none, each-more}
+use Rattle.putting.proofs.Turns.{says}
+use Rattle.lines.proofs.Texts.{joined, nothing, length-kept, each-none, each-more}
 use Rattle.lines.proofs.put_bytes.Statement.{statement}
 use Rattle.lines.proofs.put_bytes.Tie as tie
 use Rattle.lines.proofs.put_bytes.Reads as reads

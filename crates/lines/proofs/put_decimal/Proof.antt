@@ -1,7 +1,7 @@
 -- `lines::put_decimal`.
 use Rattle.lines.proofs.Numbers.{decimal-is}
 use mathlib.Core.Path.{_∙_}
-use Rattle.lines.proofs.Texts.{says}
+use Rattle.putting.proofs.Turns.{says}
 use borrow.Author.Needs.{needs}
 use Rattle.lines.proofs.put_decimal.Statement.{statement}
 use Rattle.lines.proofs.put_decimal.Tie as tie

@@ -1,7 +1,7 @@
 -- `lines::put_event`.
 use mathlib.Core.Path.{sym, ap, _∙_}
 use Rattle.shown.specs.Spelled.{shownText}
-use Rattle.lines.proofs.Texts.{says}
+use Rattle.putting.proofs.Turns.{says}
 use borrow.Author.Needs.{needs}
 use Rattle.lines.proofs.put_event.Statement.{statement}
 use Rattle.lines.proofs.put_event.Tie as tie

@@ -1,7 +1,8 @@
 -- `lines::put_part`.
 use mathlib.Core.Path.{sym, ap}
 use Rattle.shown.specs.Spelled.{partText}
-use Rattle.lines.proofs.Texts.{says, joined, nothing}
+use Rattle.putting.proofs.Turns.{says}
+use Rattle.lines.proofs.Texts.{joined, nothing}
 use borrow.Author.Needs.{needs}
 use Rattle.lines.proofs.put_part.Statement.{statement}
 use Rattle.lines.proofs.put_part.Tie as tie

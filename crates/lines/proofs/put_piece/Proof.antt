@@ -6,7 +6,8 @@ use lib.ListN.{length}
 use lib.Seq.{slice}
 use Rattle.layout.specs.Field.{each}
 use Rattle.event_list.specs.Lines.{byteLine}
-use Rattle.lines.proofs.Texts.{says, clipped, part-is}
+use Rattle.putting.proofs.Turns.{says}
+use Rattle.lines.proofs.Texts.{clipped, part-is}
 use borrow.Author.Needs.{needs}
 use Rattle.lines.proofs.put_piece.Statement.{statement}
 use Rattle.lines.proofs.put_piece.Tie as tie

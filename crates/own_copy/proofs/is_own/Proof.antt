@@ -1,12 +1,12 @@
--- `host::is_own` meets its contract: whole fields in their shortest form to the end, at depth 0 there.
+-- `own_copy::is_own` meets its contract: whole fields in their shortest form to the end, at depth 0 there.
 use mathlib.Core.Path.{_≡_}
 use native.Mathlib.Omega.{arith}
 use Prim.Native.Nat.{ℕ}
 use borrow.Author.Tests.{eqb-true}
-use Rattle.host.proofs.Own.{own-whole}
+use Rattle.own_copy.proofs.Own.{own-whole}
 use borrow.Author.Needs.{needs}
-use Rattle.host.proofs.is_own.Statement.{statement}
-use Rattle.host.proofs.is_own.Tie as tie
+use Rattle.own_copy.proofs.is_own.Statement.{statement}
+use Rattle.own_copy.proofs.is_own.Tie as tie
 
 returns : tie.Need-returns
 returns c = λ e. own-whole _ (c .before .fields .result .len) (c .before .fields .result .depth) (c .before .fields .ensures .1) (c .if1 .taken) (eqb-true _ _ e)

@@ -1,14 +1,14 @@
--- `lines::put_verdict`.
+-- `last_line::put_verdict`.
 use mathlib.Core.Path.{sym, ap}
 use Rattle.event_list.specs.Lines.{lastLine}
-use Rattle.lines.specs.Verdict.{verdictIn}
-use Rattle.lines.specs.declared.Verdict.{Verdict}
-use Rattle.lines.proofs.Texts.{says}
+use Rattle.last_line.specs.Verdict.{verdictIn}
+use Rattle.last_line.specs.declared.Verdict.{Verdict}
+use Rattle.putting.proofs.Turns.{says}
 use borrow.Author.Needs.{needs}
-use Rattle.lines.proofs.put_verdict.Statement.{statement}
-use Rattle.lines.proofs.put_verdict.Tie as tie
-use Rattle.lines.proofs.put_verdict.Reads as reads
-use Rattle.lines.proofs.put_verdict.Lts as lts
+use Rattle.last_line.proofs.put_verdict.Statement.{statement}
+use Rattle.last_line.proofs.put_verdict.Tie as tie
+use Rattle.last_line.proofs.put_verdict.Reads as reads
+use Rattle.last_line.proofs.put_verdict.Lts as lts
 use Rattle.emit.proofs.put_rest.Reads as put-rest-reads
 
 returns : tie.Need-returns

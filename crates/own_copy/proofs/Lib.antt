@@ -1,0 +1,2 @@
+-- The law behind `is_own`.
+pub mod Own

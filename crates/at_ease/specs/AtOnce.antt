@@ -8,7 +8,7 @@ use lib.Dec.{leb, ltb}
 use lib.ListN.{length}
 use Rattle.layout.specs.Limits.{base, longest, pick}
 use Rattle.putting.specs.Put.{put, reached}
-use Rattle.places.specs.Places.{clean}
+use Rattle.places.specs.Places.{lazyDepth, clean, soundFor}
 
 -- the most bytes of a field's header and the varint after it
 abbrev pub pairMost : ℕ
@@ -34,6 +34,11 @@ easyWith depth held id n most = easyAt depth held id && leb n most
 unfoldable pub closesAt : ℕ → ℕ → Bool
 unfolding easyAt
 closesAt depth held = ltb 0 depth && easyAt depth held 0
+
+-- whether a sequence can be opened and held back
+unfoldable pub holdsAt : ℕ → ℕ → ℕ → List ℕ → ℕ → ℕ → Bool
+holdsAt offset depth held places size id =
+    ltb held lazyDepth && (ltb depth (base .depth) && (leb id (base .id) && soundFor offset depth held places size))
 
 -- a write that is made where a test passes, and otherwise not: where it ends, and what it leaves
 abbrev pub reachedIf : Bool → List ℕ → ℕ → List ℕ → ℕ

@@ -1,5 +1,6 @@
 // Whether a field can be written at once, no byte of it tested for by itself: nothing is held, and there is room for the longest that it can
-// be. And a close, which is one byte.
+// be. And a close, which is one byte, and an open, which is held back.
+use places::sound_for;
 use places::unused_zero;
 use types::ID_MAX;
 use types::LAZY_SEQ_DEPTH;
@@ -12,7 +13,7 @@ ghost use mathlib.Core.Bool.{_&&_};
 ghost use lib.Dec.{ltb};
 ghost use lib.ListN.{length};
 ghost use Rattle.places.specs.Places.{clean};
-ghost use Rattle.at_ease.specs.AtOnce.{roomFor, easyAt, easyWith, closesAt, PutsIf};
+ghost use Rattle.at_ease.specs.AtOnce.{roomFor, easyAt, easyWith, closesAt, holdsAt, PutsIf};
 
 // Most bytes of two varints: a field's header, and the value, word or count after it.
 pub const PAIR_MAX: usize = 2 * VARINT_MAX;
@@ -48,6 +49,29 @@ pub fn closes_at_ease(depth: u16, held: u16) -> bool
         return false;
     }
     at_ease(depth, held, 0)
+}
+
+// Whether a sequence can be opened and held back, from a state with these numbers.
+pub fn can_hold(
+    offset: usize,
+    depth: u16,
+    held: u16,
+    places: [u32; LAZY_SEQ_DEPTH],
+    size: usize,
+    id: u32,
+) -> bool
+    ensures { λ r. ⌜ r ≡ holdsAt offset depth held places size id ⌝ }
+{
+    if (LAZY_SEQ_DEPTH as u16) <= held {
+        return false;
+    }
+    if (MAX_DEPTH as u16) <= depth {
+        return false;
+    }
+    if ID_MAX < id {
+        return false;
+    }
+    sound_for(offset, depth, held, places, size)
 }
 
 // Whether there is room from pos on for two varints, however long, and `more` bytes.

@@ -1,9 +1,9 @@
 // Lists the events of the message on standard input, a line each, and last its verdict.
 // Where a read or a write fails there is no verdict: the list ends without one, and a line on standard error says why.
+use last_line::Verdict;
 use libc::STDERR_FILENO;
 use libc::STDIN_FILENO;
 use libc::STDOUT_FILENO;
-use last_line::Verdict;
 use listing::Listing;
 
 // How far the list has come: more input may follow, the input is at its end or the message is broken, or a read or a write failed.

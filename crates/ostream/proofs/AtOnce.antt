@@ -9,14 +9,13 @@ use lib.ListN.{length, take, drop}
 use borrow.Author.Tests.{leb-true, ltb-true, le-leb, le-ltb}
 use Rattle.layout.specs.Limits.{base}
 use Rattle.places.specs.Places.{clean}
-use Rattle.at_ease.specs.AtOnce.{pairMost, roomyAt, easyAt, easyWith, closesAt, PutsWhole}
+use Rattle.at_ease.specs.AtOnce.{pairMost, roomyAt, easyAt, easyWith, closesAt, holdsAt, PutsWhole}
 use Rattle.held.proofs.Ends.{at-once}
 use Rattle.at_ease.proofs.AtOnce.{has-room, went}
 use Rattle.ostream.specs.declared.OStream.{OStream}
 use Rattle.ostream.specs.declared.Answer.the-variants.{Done}
 use Rattle.ostream.specs.declared.Written.{Written}
 use Rattle.ostream.specs.Stream.{every, soundStream, lazyDepth, heldBytes, at}
-use Rattle.ostream.specs.Private.{holds}
 use Rattle.ostream.specs.Calls.{unsound, idTooLarge, arrayTooLong, fieldTests}
 use Rattle.ostream.specs.Emission.{Call, accepted, judged, resultOf, written}
 use Rattle.ostream.proofs.Calls.{both, none-held, settles}
@@ -73,8 +72,8 @@ pub record Holds (s : OStream) (size id : ℕ) : Type 0 where
   pub legal : id ≤ base .id
   pub sound : soundStream s size ≡ true
 
-pub can-hold : (s : OStream) (size id : ℕ) → holds s size id ≡ true → Holds s size id
-unfolding holds
+pub can-hold : (s : OStream) (size id : ℕ) → holdsAt (s .offset) (s .depth) (s .npending) (s .pending) size id ≡ true → Holds s size id
+unfolding holdsAt soundStream
 can-hold s size id e =
     let a = both _ _ e in
     let b = both _ _ (a .1) in

@@ -1,8 +1,7 @@
 -- What private functions come to: no public call cites these.
-use mathlib.Core.Bool.{Bool, _&&_}
 use Prim.Native.Nat.{ℕ, _≤_}
-use lib.Dec.{leb, ltb}
-use Rattle.layout.specs.Limits.{base, pick}
+use lib.Dec.{ltb}
+use Rattle.layout.specs.Limits.{pick}
 use Rattle.types.specs.Types.{refusal}
 use Rattle.outcomes.specs.declared.Outcome.{Outcome}
 use Rattle.outcomes.specs.declared.Outcome.the-variants.{Through, Full, Refused}
@@ -13,12 +12,8 @@ use Rattle.ostream.specs.declared.Answer.the-variants as Answers
 use Rattle.ostream.specs.declared.Written.{Written}
 use Rattle.ostream.specs.declared.Count.the-variants as Counts
 use Rattle.ostream.specs.declared.Counted.{Counted}
-use Rattle.ostream.specs.Stream.{lazyDepth, soundStream, at}
+use Rattle.ostream.specs.Stream.{lazyDepth, at}
 use Rattle.ostream.specs.Emission.{refused}
-
--- whether a sequence can be opened and held back
-unfoldable pub holds : OStream → ℕ → ℕ → Bool
-holds s size id = ltb (s .npending) lazyDepth && (ltb (s .depth) (base .depth) && (leb id (base .id) && soundStream s size))
 
 -- what the answer asks of the state: once all is out the places in use are cleared, of which there are eight
 abbrev pub Clears : OStream → Outcome → Type 0

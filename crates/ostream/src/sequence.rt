@@ -2,6 +2,7 @@
 use crate::Answer;
 use crate::OStream;
 use crate::Written;
+use at_ease::can_hold;
 use checks::check_begin;
 use checks::check_end;
 use fields::put_close;
@@ -9,9 +10,7 @@ use fields::put_marker;
 use held::tagged;
 use places::add_id;
 use places::drop_id;
-use types::ID_MAX;
 use types::LAZY_SEQ_DEPTH;
-use types::MAX_DEPTH;
 use types::T_SEQUENCE_START;
 use write_at_once::close_at_once;
 ghost use mathlib.Core.Path.{_≡_};
@@ -20,27 +19,10 @@ ghost use mathlib.Core.Bool.{true};
 ghost use lib.ListN.{length};
 ghost use Rattle.layout.specs.Limits.{base};
 ghost use Rattle.ostream.specs.Stream.{lazyDepth, soundStream, holding, dropped};
-ghost use Rattle.ostream.specs.Private.{holds};
 ghost use Rattle.ostream.specs.Emission.{resultOf, written};
 ghost use Rattle.ostream.specs.Calls.{beginCall, endCall, endKeepCall};
 
 impl OStream {
-    // Whether a sequence can be opened and held back.
-    fn can_hold(self, size: usize, id: u32) -> bool
-        ensures { λ r. ⌜ r ≡ holds self size id ⌝ }
-    {
-        if (LAZY_SEQ_DEPTH as u16) <= self.npending {
-            return false;
-        }
-        if (MAX_DEPTH as u16) <= self.depth {
-            return false;
-        }
-        if ID_MAX < id {
-            return false;
-        }
-        self.sound(size)
-    }
-
     // The state with one more sequence held back. (Its callers have tested both, by `can_hold` or by the refusals of an open.)
     fn hold(mut self, id: u32) -> OStream
         requires { ⌜ (self .npending < lazyDepth) × (self .depth < base .depth) ⌝ }
@@ -71,7 +53,17 @@ impl OStream {
     pub fn write_sequence_begin_lazy(mut self, buf: &mut [u8], id: u32, place: usize) -> Written
         ensures { λ r. ⌜ resultOf r (now (buf .exit)) ≡ written (beginCall self (length (now (buf .entry))) id) self (now (buf .entry)) place ⌝ }
     {
-        if place == 0 && self.can_hold(buf.len(), id) {
+        let places = self.pending;
+        if place == 0
+            && can_hold(
+                self.offset,
+                self.depth,
+                self.npending,
+                places,
+                buf.len(),
+                id,
+            )
+        {
             return Written {
                 answer: Answer::Done,
                 stream: self.hold(id),

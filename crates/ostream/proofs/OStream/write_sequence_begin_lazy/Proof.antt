@@ -15,10 +15,10 @@ use Rattle.ostream.proofs.OStream.write_sequence_begin_lazy.Tie as tie
 use Rattle.ostream.proofs.OStream.write_sequence_begin_lazy.Reads as reads
 use Rattle.ostream.proofs.OStream.write_sequence_begin_lazy.Lts as lts
 use Rattle.ostream.proofs.OStream.begin_slowly.Reads as begin-slowly-reads
-use Rattle.ostream.proofs.OStream.can_hold.Reads as can-hold-reads
+use Rattle.at_ease.proofs.can_hold.Reads as can-hold-reads
 use Rattle.ostream.proofs.OStream.hold.Reads as hold-reads
 
-held : (c : tie.Then2) → Holds (c .before .before .before .before .args .self) (length (c .before .before .before .before .args .buf .now)) (c .before .before .before .before .args .id)
+held : (c : tie.Then2) → Holds (c .before .before .before .before .before .args .self) (length (c .before .before .before .before .before .args .buf .now)) (c .before .before .before .before .before .args .id)
 held c = can-hold _ _ _ (sym (c .before .can-hold .ensures) ∙ c .if2 .taken)
 
 hold-requires : tie.Need-hold-requires
@@ -27,7 +27,7 @@ hold-requires c κs = let h = held c in (h .few, h .shallow)
 returns : tie.Need-returns
 unfolding holding
 returns c =
-    let a = c .before .before .before .before .before .args in
+    let a = c .before .before .before .before .before .before .args in
     let h = held (c .before) in
     let n = h .few in
     let i = is-sound (a .self) (length (a .buf .now)) (h .sound) .inside in

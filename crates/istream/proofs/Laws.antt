@@ -11,7 +11,7 @@ use Rattle.layout.specs.Limits.{Limits, pick}
 use Rattle.layout.specs.Field.{Raw, bytesOf}
 use Rattle.machine.specs.Machine as machine
 use Rattle.machine.specs.Machine.{inHeader, inUnsigned, inSigned, inWord, inUnsignedCount, inSignedCount, inFloatCount, inArrayWord, inFloat, inPayload, idle, on, bad}
-use Rattle.machine.specs.Calls.{State, reading, owing, broke, fresh, Called, call, scan, scanned}
+use Rattle.machine.specs.Calls.{State, reading, owing, broke, fresh, Called, call, scan, scanned, verdictSo}
 use Rattle.types.specs.declared.RawType.{RawType}
 use Rattle.types.specs.declared.RawType.the-variants as Raws
 use Rattle.types.specs.Types.{rawSort}
@@ -22,19 +22,21 @@ use Rattle.phase.specs.declared.Phase.{Phase}
 use Rattle.phase.specs.declared.Phase.the-variants.{Header, Unsigned, Signed, Word, UnsignedCount, SignedCount, FloatCount, ArrayWord, Float, Payload, Empty, Broken}
 use Rattle.istream.specs.declared.IStream.{IStream}
 use Rattle.call_end.specs.declared.Answer.the-variants as Answers
+use Rattle.call_end.specs.declared.Status.{Status}
 use Rattle.phase.specs.Phases.{stateAt, soundPhase}
-use Rattle.read_at_once.specs.declared.Once.the-variants.{Done}
-use Rattle.read_at_once.specs.AtOnce.{StopsAt, RightFrom}
+use Rattle.read_at_once.specs.declared.Once.the-variants.{Done, Spent}
+use Rattle.read_at_once.specs.AtOnce.{StopsAt, spentAt, RightFrom}
 use Rattle.call_end.specs.declared.CallEnd.{CallEnd}
 use Rattle.call_end.specs.CallEnd.{endIn, refused}
 use Rattle.read_slowly.specs.Slowly.{endFrom, endOf}
-use Rattle.istream.specs.Stream.{stateOf, streamIn, soundStream, answerIn, fedIn, ifSound, still, fedFrom, fedOf}
+use Rattle.istream.specs.Stream.{stateOf, streamIn, soundStream, statusIn, answerIn, fedIn, ifSound, still, fedFrom, fedOf}
 use Rattle.istream.specs.Private.{fedAt, fedBy}
 use Rattle.phase.specs.Sound.{SoundState, AtBytes, Kept}
 use Rattle.phase.proofs.Phases.{width-back, Live, both, join, phase-is, varint-is}
 use Rattle.phase.proofs.Keeps.{step-keeps}
 use Rattle.phase.proofs.Scans.{scan-end, scan-byte}
 use Rattle.istream.proofs.Tests.{sound-in}
+use Rattle.istream.proofs.Calls.{stream-back}
 
 -- ---- the test of a state, and what it says
 
@@ -112,7 +114,7 @@ broken-live L (owing d id r) c x = tt
 broken-live L broke c x = let f = x .answered in let z : _≡_ {A = ℕ} 0 1 = cc in absurd (omega arith)
 
 -- what is read at once
-pub from-once : (L : Limits) (s : IStream) (c : List ℕ) (p : Phase) (k : Carried) (e : Given.Event) (n : ℕ) → s .carried .depth ≤ L .depth → RightFrom L (s .phase) (Done p k e n) (call L (stateOf s) c)
+pub from-once : (L : Limits) (s : IStream) (c : List ℕ) (p : Phase) (k : Carried) (e : Given.Event) (n : ℕ) → s .carried .depth ≤ L .depth → RightFrom L (s .carried .depth) (s .phase) (Done p k e n) c
     → fedAt n (Answers.Event e) p k ≡ fedOf L s c
 unfolding fedIn
 from-once L s c p k e n b (t, x) =
@@ -121,6 +123,25 @@ from-once L s c p k e n b (t, x) =
   where
     answers : Answers.Event e ≡ answerIn (call L (stateOf s) c .read) (call L (stateOf s) c .answer)
     answers = ap Answers.Event (x .raised) ∙ sym (ap (answerIn (call L (stateOf s) c .read)) (x .answered))
+
+-- nor gives it a verdict
+spent-live : (L : Limits) (st : State) (c : List ℕ) → call L st c ≡ spentAt st → Live st
+unfolding call
+spent-live L (reading d p) c x = tt
+spent-live L (owing d id r) c x = tt
+spent-live L broke c x = let f = ap (λ (y : Called). y .answer) x in let z : _≡_ {A = ℕ} 0 1 = cc in absurd (omega arith)
+
+-- a chunk that is spent
+pub from-spent : (L : Limits) (s : IStream) (c : List ℕ) (v : Status) (p : Phase) → s .carried .depth ≤ L .depth → v ≡ statusIn (verdictSo (stateOf s)) → p ≡ s .phase → RightFrom L (s .carried .depth) (s .phase) Spent c
+    → fedAt 0 (Answers.Status v) p (s .carried) ≡ fedOf L s c
+unfolding fedIn
+from-spent L s c v p b e f (t, x) =
+    let l = spent-live L (stateOf s) c x in
+    let back = sym (stream-back (s .carried .depth) (s .phase) l) in
+    ap (λ (q : Phase). fedAt 0 (Answers.Status v) q (s .carried)) f
+    ∙ (λ i. record { read = 0; answer = Answers.Status (e i); stream = back i })
+    ∙ ap fedIn (sym x)
+    ∙ fed-sound L s (stateOf s) c refl l (sym (sound-in L s (s .phase) b refl) ∙ t)
 
 -- ---- a call keeps a state sound
 

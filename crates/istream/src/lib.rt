@@ -159,10 +159,14 @@ impl IStream {
         }
         let other = self.phase;
         let q = at_once(carried, other, chunk);
-        let Once::Done(p, k, e, n) = q else {
-            return feed_out_of_line(self, chunk);
-        };
-        answered(n, Answer::Event(e), p, k)
+        match q {
+            Once::Done(p, k, e, n) => answered(n, Answer::Event(e), p, k),
+            Once::Spent => {
+                let status = verdict(other, carried);
+                answered(0, Answer::Status(status), rebuilt(other), carried)
+            }
+            Once::Other => feed_out_of_line(self, chunk),
+        }
     }
 }
 

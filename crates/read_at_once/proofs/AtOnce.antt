@@ -16,7 +16,7 @@ use Rattle.layout.specs.Zigzag.{unzigzag}
 use Rattle.layout.specs.Event as layout
 use Rattle.machine.specs.Machine as machine
 use Rattle.machine.specs.Machine.{inHeader, inUnsigned, inSigned, inWord, idle, nextOr, firstOr, on, bad, within, step, atWire, atHeader, atSubtype, atWord, atUnsigned, atSigned}
-use Rattle.machine.specs.Calls.{Called, State, reading, call, scan, scanned}
+use Rattle.machine.specs.Calls.{Called, State, reading, call, scan, scanned, verdictSo}
 use Rattle.varint.specs.declared.Acc.{Acc}
 use Rattle.varint.specs.declared.Push.{Push}
 use Rattle.varint.specs.declared.Push.the-variants.{More, Value}
@@ -33,7 +33,7 @@ use Rattle.phase.specs.declared.Stepped.the-variants.{On, Raised, Bad}
 use Rattle.phase.specs.Phases.{stateAt, phaseIn, carriedAt, idIn, countIn, soundPhase}
 use Rattle.phase.specs.Steps.{stepped, covered}
 use Rattle.phase.specs.Sound.{Kept}
-use Rattle.read_at_once.specs.AtOnce.{Varying, readOn, Reads, Right, RightFrom, raisedOf}
+use Rattle.read_at_once.specs.AtOnce.{Varying, readOn, Reads, Right, spentAt, RightFrom, raisedOf}
 use Rattle.phase.proofs.Phases.{next-first, both}
 use Rattle.phase.proofs.Keeps.{wire-keeps, subtype-keeps}
 use Rattle.phase.proofs.Scans.{scan-byte}
@@ -195,12 +195,20 @@ none-held L a e t =
     λ i. record { value = z i; taken = e i }
 
 -- the phase that the code has tested is the one that it was given
-tested : (L : Limits) (p from : Phase) (d : ℕ) (c : List ℕ) (st : State) (q : Once) → p ≡ from → soundPhase L from ≡ true → stateAt d from ≡ st → Right q (call L st c) → RightFrom L p q (call L (stateAt d p) c)
+tested : (L : Limits) (p from : Phase) (d : ℕ) (c : List ℕ) (st : State) (q : Once) → p ≡ from → soundPhase L from ≡ true → stateAt d from ≡ st → Right q (call L st c) → RightFrom L d p q c
 tested L p from d c st (Onces.Done p′ k e n) f t g r =
     (ap (soundPhase L) f ∙ t, subst (λ (x : State). Right (Onces.Done p′ k e n) (call L x c)) (sym (ap (stateAt d) f ∙ g)) r)
+tested L p from d c st Onces.Spent f t g r = absurd r
 tested L p from d c st Onces.Other f t g r = tt
 
-pub from-header : (L : Limits) (p : Phase) (d : ℕ) (c : List ℕ) (a : Acc) (q : Once) → p ≡ Header a → a .taken ≡ 0 → soundAcc L a ≡ true → Right q (call L (reading d idle) c) → RightFrom L p q (call L (stateAt d p) c)
+-- a phase that is read on, and a chunk that has no byte
+spent : (L : Limits) (p from : Phase) (d : ℕ) (c : List ℕ) (q : machine.Phase) → p ≡ from → soundPhase L from ≡ true → stateAt d from ≡ reading d q → length c ≡ 0 → RightFrom L d p Onces.Spent c
+unfolding call scan verdictSo
+spent L p from d [] q f t g z =
+    (ap (soundPhase L) f ∙ t, subst (λ (x : State). call L x [] ≡ spentAt x) (sym (ap (stateAt d) f ∙ g)) refl)
+spent L p from d (b ∷ bs) q f t g z = absurd (omega arith)
+
+pub from-header : (L : Limits) (p : Phase) (d : ℕ) (c : List ℕ) (a : Acc) (q : Once) → p ≡ Header a → a .taken ≡ 0 → soundAcc L a ≡ true → Right q (call L (reading d idle) c) → RightFrom L d p q c
 from-header L p d c a q e z t r = tested L p (Header a) d c _ q e t (ap (λ (x : Acc). stateAt d (Header x)) (none-held L a z t)) r
 
 -- of an element's test, what it says of the varint
@@ -208,11 +216,20 @@ varint-sound : (L : Limits) (id left : ℕ) (a : Acc) → (idIn L id && (countIn
 varint-sound L id left a t = both (countIn L left) (soundAcc L a) (both (idIn L id) (countIn L left && soundAcc L a) t .1) .1
 
 pub from-unsigned : (L : Limits) (p : Phase) (d : ℕ) (c : List ℕ) (id left : ℕ) (a : Acc) (q : Once) → p ≡ Unsigned id left a → a .taken ≡ 0 → (idIn L id && (countIn L left && soundAcc L a)) ≡ true
-    → Right q (call L (reading d (inUnsigned id left 0 0)) c) → RightFrom L p q (call L (stateAt d p) c)
+    → Right q (call L (reading d (inUnsigned id left 0 0)) c) → RightFrom L d p q c
 from-unsigned L p d c id left a q e z t r =
     tested L p (Unsigned id left a) d c _ q e t (ap (λ (x : Acc). stateAt d (Unsigned id left x)) (none-held L a z (varint-sound L id left a t))) r
 
 pub from-signed : (L : Limits) (p : Phase) (d : ℕ) (c : List ℕ) (id left : ℕ) (a : Acc) (q : Once) → p ≡ Signed id left a → a .taken ≡ 0 → (idIn L id && (countIn L left && soundAcc L a)) ≡ true
-    → Right q (call L (reading d (inSigned id left 0 0)) c) → RightFrom L p q (call L (stateAt d p) c)
+    → Right q (call L (reading d (inSigned id left 0 0)) c) → RightFrom L d p q c
 from-signed L p d c id left a q e z t r =
     tested L p (Signed id left a) d c _ q e t (ap (λ (x : Acc). stateAt d (Signed id left x)) (none-held L a z (varint-sound L id left a t))) r
+
+pub spent-header : (L : Limits) (p : Phase) (d : ℕ) (c : List ℕ) (a : Acc) → p ≡ Header a → soundAcc L a ≡ true → length c ≡ 0 → RightFrom L d p Onces.Spent c
+spent-header L p d c a e t z = spent L p (Header a) d c _ e t refl z
+
+pub spent-unsigned : (L : Limits) (p : Phase) (d : ℕ) (c : List ℕ) (id left : ℕ) (a : Acc) → p ≡ Unsigned id left a → (idIn L id && (countIn L left && soundAcc L a)) ≡ true → length c ≡ 0 → RightFrom L d p Onces.Spent c
+spent-unsigned L p d c id left a e t z = spent L p (Unsigned id left a) d c _ e t refl z
+
+pub spent-signed : (L : Limits) (p : Phase) (d : ℕ) (c : List ℕ) (id left : ℕ) (a : Acc) → p ≡ Signed id left a → (idIn L id && (countIn L left && soundAcc L a)) ≡ true → length c ≡ 0 → RightFrom L d p Onces.Spent c
+spent-signed L p d c id left a e t z = spent L p (Signed id left a) d c _ e t refl z

@@ -9,13 +9,13 @@ use Rattle.layout.specs.Limits.{Limits}
 use Rattle.layout.specs.Varint.{push}
 use Rattle.layout.specs.Event as layout
 use Rattle.machine.specs.Machine.{Phase, Stepped, within, step}
-use Rattle.machine.specs.Calls.{Called, scan, scanned, paceOf, byte}
+use Rattle.machine.specs.Calls.{State, Called, call, scan, scanned, paceOf, byte, verdictSo}
 use Rattle.machine.specs.Calls as calls
 use Rattle.event.specs.declared.Event as Given
 use Rattle.event.specs.Event.{declared}
 use Rattle.phase.specs.declared.Carried.{Carried}
 use Rattle.phase.specs.declared.Phase as phases
-use Rattle.phase.specs.Phases.{phaseOf, carriedOf, soundPhase}
+use Rattle.phase.specs.Phases.{stateAt, phaseOf, carriedOf, soundPhase}
 use Rattle.phase.specs.declared.Stepped as given
 use Rattle.phase.specs.declared.Stepped.the-variants.{On, Raised, Bad}
 use Rattle.phase.specs.Steps.{covered}
@@ -51,15 +51,21 @@ pub record StopsAt (p : phases.Phase) (k : Carried) (e : Given.Event) (n : ℕ) 
   pub phase : p ≡ phaseOf (c .state)
   pub carried : k ≡ carriedOf (c .state)
 
--- an answer is the call's
+-- an answer about some bytes is the call's
 abbrev pub Right : Once → Called → Type 0
 Right (Onces.Done p k e n) c = StopsAt p k e n c
+Right Onces.Spent c = ⊥
 Right Onces.Other c = Unit
 
--- an answer is the call's, and the phase that it starts from is sound
-abbrev pub RightFrom : Limits → phases.Phase → Once → Called → Type 0
-RightFrom L from (Onces.Done p k e n) c = (soundPhase L from ≡ true) × StopsAt p k e n c
-RightFrom L from Onces.Other c = Unit
+-- nothing is read, and the state stays
+abbrev pub spentAt : State → Called
+spentAt st = record { read = 0; answer = calls.verdict (verdictSo st); state = st }
+
+-- an answer is the call's, and the phase that it starts from, at depth d, is sound
+abbrev pub RightFrom : Limits → ℕ → phases.Phase → Once → List ℕ → Type 0
+RightFrom L d from (Onces.Done p k e n) c = (soundPhase L from ≡ true) × StopsAt p k e n (call L (stateAt d from) c)
+RightFrom L d from Onces.Spent c = (soundPhase L from ≡ true) × (call L (stateAt d from) c ≡ spentAt (stateAt d from))
+RightFrom L d from Onces.Other c = Unit
 
 -- the answer of a call that stops at an event
 abbrev pub raisedOf : ℕ → given.Stepped → Once

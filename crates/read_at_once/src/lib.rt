@@ -5,7 +5,6 @@ ghost use Rattle.layout.specs.Limits.{base};
 ghost use Rattle.layout.specs.Field.{wireOf};
 ghost use Rattle.machine.specs.Machine.{inUnsigned, inSigned, idle, atWire};
 ghost use Rattle.machine.specs.Calls.{reading, call};
-ghost use Rattle.phase.specs.Phases.{stateAt};
 ghost use Rattle.read_at_once.specs.AtOnce.{FoundAt, Right, RightFrom, raisedOf, readOn};
 use event::Event;
 use headers::sequence_begin;
@@ -30,9 +29,11 @@ enum Found {
     Other,
 }
 
-// The state after a call, its event and the bytes read; or what the call comes to isn't found at once. (The fields' order is for speed.)
+// The state after a call, its event and the bytes read; or the chunk is spent, and the state stays; or what the call comes to isn't found
+// at once. (The fields' order is for speed.)
 pub enum Once {
     Done(Phase, Carried, Event, usize),
+    Spent,
     Other,
 }
 
@@ -171,14 +172,17 @@ fn field_at(carried: Carried, chunk: &[u8]) -> Once
     }
 }
 
-// A call that finds a field or an element whole in the chunk, from a sound phase that has taken no byte of it.
+// A call that finds a field or an element whole in the chunk, or no byte, from a sound phase that has taken no byte of it.
 pub fn at_once(carried: Carried, phase: Phase, chunk: &[u8]) -> Once
-    ensures { λ r. ⌜ RightFrom base phase r (call base (stateAt (carried .depth) phase) (now (chunk .entry))) ⌝ }
+    ensures { λ r. ⌜ RightFrom base (carried .depth) phase r (now (chunk .entry)) ⌝ }
 {
     match phase {
         Phase::Header(a) => {
             if a.taken == 0 {
                 if a.sound() {
+                    if chunk.len() == 0 {
+                        return Once::Spent;
+                    }
                     return field_at(carried, chunk);
                 }
             }
@@ -187,6 +191,9 @@ pub fn at_once(carried: Carried, phase: Phase, chunk: &[u8]) -> Once
         Phase::Unsigned(id, left, a) => {
             if a.taken == 0 {
                 if sound_varint(id, left, a) {
+                    if chunk.len() == 0 {
+                        return Once::Spent;
+                    }
                     return unsigned_at(carried, id, left, chunk);
                 }
             }
@@ -195,6 +202,9 @@ pub fn at_once(carried: Carried, phase: Phase, chunk: &[u8]) -> Once
         Phase::Signed(id, left, a) => {
             if a.taken == 0 {
                 if sound_varint(id, left, a) {
+                    if chunk.len() == 0 {
+                        return Once::Spent;
+                    }
                     return signed_at(carried, id, left, chunk);
                 }
             }

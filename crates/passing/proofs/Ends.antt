@@ -1,12 +1,13 @@
 -- What is known of an answer that was taken apart: in the `else` of a `let .. else` only a tag, one of the other answers, which is no value
 -- and no place; else the value, which may be tested. And varints in a row.
-use Prim.Native.Nat.{ℕ, zero, suc, _+_, _-_, _/_, _≤_, _<_}
+use Prim.Native.Nat.{ℕ, zero, suc, _+_, _-_, _*_, _/_, _%_, _≤_, _<_}
 use mathlib.Core.Path.{_≡_, refl, ap, _∙_, subst}
 use mathlib.Core.Bool.{Bool, true, false}
 use mathlib.Core.List.{List, [], _∷_}
 use native.Mathlib.Omega.{arith}
 use lib.ListN.{length, drop, getD}
-use lib.Dec.{leb}
+use native.Mathlib.Nat.{mod-lt}
+use lib.Dec.{leb, lit<}
 use borrow.Author.Tests.{le-leb}
 use types.Run.{OneOf, miss}
 use denote.Enum.Declared.{tagOf}
@@ -19,7 +20,7 @@ use Rattle.passing.specs.declared.Land.{Land}
 use Rattle.passing.specs.declared.Land.the-variants as Lands
 use Rattle.passing.proofs.Found as found
 use Rattle.passing.proofs.Land as land
-use Rattle.passing.proofs.Varints.{one-reaches}
+use Rattle.passing.proofs.Varints.{one-reaches, two}
 use Rattle.passing.specs.Passing.{Reaches, Passes, landIn, landPast, noValue, ends, followed, skips}
 
 pub else-short : (f : Found) → OneOf (0 ∷ 1 ∷ []) (tagOf found.the-type f) → Lands.Short ≡ noValue f
@@ -67,12 +68,18 @@ module _ (t : List ℕ) (at : ℕ) (ok : ℕ → Bool) (o : Outcome ℕ) (v i : 
   unfolding checked
   checked-fails q = record { same = ap (checked ok) (reached .same) ∙ ap (λ (b : Bool). pick b (whole v (drop i t)) (broken (drop i t))) q; past = reached .past .1 }
 
--- a header of one byte has a small id
+-- a header of one byte or two has a small id
 pub one-header : (t : List ℕ) (at : ℕ) → at < length t → getD t at 0 < 128 → Reaches t at (headerOf base (drop at t)) (Founds.Value (getD t at 0) (at + 1))
 one-header t at h l =
     let b = getD t at 0 in
     checked-passes t at (λ h. leb (h / 8) (base .id)) (varint base (drop at t)) b (at + 1) (Founds.Value b (at + 1)) refl (one-reaches t at h l)
     (le-leb (b / 8) (base .id) (omega arith))
+
+pub two-header : (t : List ℕ) (at : ℕ) → 128 ≤ getD t at 0 → at + 1 < length t → getD t (at + 1) 0 < 128 → Reaches t at (headerOf base (drop at t)) (Founds.Value (getD t at 0 % 128 + getD t (at + 1) 0 * 128) (at + 2))
+two-header t at g h l =
+    let v = getD t at 0 % 128 + getD t (at + 1) 0 * 128 in
+    checked-passes t at (λ h. leb (h / 8) (base .id)) (varint base (drop at t)) v (at + 2) (Founds.Value v (at + 2)) refl (record { same = two t at g h l; past = (omega arith, omega arith) })
+    (le-leb (v / 8) (base .id) (omega (arith, mod-lt (getD t at 0) {m = 128} (lit< tt))))
 
 -- ---- varints in a row: of n from `at` on, `left` stand from i on
 

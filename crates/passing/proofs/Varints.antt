@@ -1,5 +1,5 @@
 -- One varint, byte by byte, from a place of a message.
-use Prim.Native.Nat.{ℕ, _+_, _-_, _<_, _≤_}
+use Prim.Native.Nat.{ℕ, _+_, _-_, _*_, _%_, _<_, _≤_}
 use mathlib.Core.Path.{_≡_, refl, sym, ap, _∙_, subst}
 use mathlib.Core.List.{List, _∷_}
 use native.Mathlib.Nat.{mod-eq-of-lt}
@@ -61,6 +61,17 @@ pub one : (t : List ℕ) (i : ℕ) → i < length t → getD t i 0 < 128 → var
 one t i h l =
     let e : 0 + digit 0 (getD t i 0) ≡ getD t i 0 = omega (arith, mod-eq-of-lt l) in
     done t i 0 0 h (getD t i 0) (steps.ends base 0 0 (getD t i 0) (lit< tt) l ∙ ap value e)
+
+-- and of two
+pub two : (t : List ℕ) (i : ℕ) → 128 ≤ getD t i 0 → i + 1 < length t → getD t (i + 1) 0 < 128 → varint base (drop i t) ≡ whole (getD t i 0 % 128 + getD t (i + 1) 0 * 128) (drop (i + 2) t)
+two t i g h l =
+    let b = getD t i 0 in
+    let c = getD t (i + 1) 0 in
+    let e : 0 + digit 0 b + digit 1 c ≡ b % 128 + c * 128 = omega (arith, mod-eq-of-lt l) in
+    let j : i + 1 + 1 ≡ i + 2 = omega arith in
+    on t i 0 0 (omega arith) 1 (0 + digit 0 b) (steps.goes-on base 0 0 b (lit< tt) g)
+    ∙ done t (i + 1) 1 (0 + digit 0 b) h (b % 128 + c * 128) (steps.ends base 1 (0 + digit 0 b) c (lit< tt) l ∙ ap value e)
+    ∙ ap (λ (k : ℕ). whole (b % 128 + c * 128) (drop k t)) j
 
 -- ---- a varint under way: the bytes from `at` to i came to a state, and the rest is read from i on
 

@@ -68,7 +68,7 @@ pub fn varint_at(t: &[u8], at: usize) -> Found
     long_varint_at(t, at)
 }
 
-// A header of one byte has a small id.
+// A header of one byte or two has a small id.
 pub fn header_at(t: &[u8], at: usize) -> Found
     requires { ⌜ at ≤ length (now t) ⌝ }
     ensures { λ r. ⌜ Reaches (now (t .entry)) at (headerOf base (drop at (now (t .entry)))) r ⌝ }
@@ -77,6 +77,12 @@ pub fn header_at(t: &[u8], at: usize) -> Found
         let b = t[at];
         if b < 128 {
             return Found::Value(b as u64, at + 1);
+        }
+        if at + 1 < t.len() {
+            let c = t[at + 1];
+            if c < 128 {
+                return Found::Value((b % 128) as u64 + c as u64 * 128, at + 2);
+            }
         }
     }
     let found = long_varint_at(t, at);

@@ -53,7 +53,7 @@ struct Next {
 
 // ---- varints
 
-// Most elements are one byte or two.
+// Most scalars and elements are one byte or two; the longer ones are looked at out of line, and so at two places.
 fn number_at(t: &[u8], at: usize) -> usize
     ensures { λ r. ⌜ Ends (now (t .entry)) at Number r ⌝ }
 {
@@ -68,6 +68,7 @@ fn number_at(t: &[u8], at: usize) -> usize
                     return at + 2;
                 }
             }
+            return long_number_at(t, at);
         }
     }
     long_number_at(t, at)
@@ -300,7 +301,7 @@ fn body_at(t: &[u8], at: usize, h: u64, depth: u8) -> Next
 {
     match h % 8 {
         0 | 1 => Next {
-            at: long_number_at(t, at),
+            at: number_at(t, at),
             depth,
         },
         2 => Next {

@@ -53,7 +53,7 @@ struct Next {
 
 // ---- varints
 
-// Most scalars and elements are one byte or two; the longer ones are looked at out of line, and so at two places.
+// Most elements are one byte or two.
 fn number_at(t: &[u8], at: usize) -> usize
     ensures { λ r. ⌜ Ends (now (t .entry)) at Number r ⌝ }
 {
@@ -68,10 +68,20 @@ fn number_at(t: &[u8], at: usize) -> usize
                     return at + 2;
                 }
             }
-            return long_number_at(t, at);
         }
     }
     long_number_at(t, at)
+}
+
+// The value behind the header h: behind a header of one byte or two most are short as well.
+fn scalar_at(t: &[u8], at: usize, h: u64) -> usize
+    ensures { λ r. ⌜ Ends (now (t .entry)) at Number r ⌝ }
+{
+    if h < 16384 {
+        number_at(t, at)
+    } else {
+        long_number_at(t, at)
+    }
 }
 
 // A varint with its value, out of line.
@@ -301,7 +311,7 @@ fn body_at(t: &[u8], at: usize, h: u64, depth: u8) -> Next
 {
     match h % 8 {
         0 | 1 => Next {
-            at: number_at(t, at),
+            at: scalar_at(t, at, h),
             depth,
         },
         2 => Next {

@@ -27,7 +27,7 @@ returns-5 : tie.Need-returns-5
 returns-5 c = none
 
 returns-6 : tie.Need-returns-6
-returns-6 c = ends-as (c .number-at .ensures) (λ bs. scalar-field _ _ bs (c .before .before .before .before .pre .1) (c .before .if2 .taken))
+returns-6 c = ends-as (c .scalar-at .ensures) (λ bs. scalar-field _ _ bs (c .before .before .before .before .pre .1) (c .before .if2 .taken))
 
 returns-7 : tie.Need-returns-7
 returns-7 c =

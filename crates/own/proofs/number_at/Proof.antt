@@ -18,5 +18,4 @@ number-at-spec =
     tie.close
     (tie.spec
     (λ c. search needs) (λ c. search needs) returns (λ c. search needs) (λ c. search needs) (λ c. search needs)
-    (λ c. search needs) returns-2 (λ c κs. search needs) (λ c. search needs) (λ c κs. search needs)
-    (λ c. search needs))
+    (λ c. search needs) returns-2 (λ c κs. search needs) (λ c. search needs))

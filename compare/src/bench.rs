@@ -1,6 +1,7 @@
 //! Times of both sides, on the same bytes, turn by turn in one run. Each figure is the best of the rounds, and counts the time that the
 //! thread itself ran, so that other work on the machine disturbs it little.
 
+use crate::timing::{long_headers, ran, BLOB, GATHERED, KINDS};
 use sofab::*;
 use std::hint::black_box;
 use std::time::Duration;
@@ -22,19 +23,6 @@ extern "C" {
 }
 
 const ROUNDS: usize = 15;
-const BLOB: usize = 8 << 20;
-const GATHERED: usize = 1 << 16;
-
-/// A kind of message: its number in the crate `bench`, and how many calls write it.
-const KINDS: [(&str, u32, usize); 7] = [
-    ("small integers", 0, 400_000),
-    ("long varints", 1, 80_000),
-    ("strings", 2, 40_000),
-    ("one 8 MB blob", 3, 1),
-    ("arrays", 4, 8_000),
-    ("nested sequences", 5, 500_000),
-    ("photo book", 6, 34 * 8_000),
-];
 
 // ---- the Rust's side of the same work
 
@@ -299,9 +287,8 @@ fn rust_copy(ticket: &[u8], size: usize, buf: &mut [u8], out: &mut [u8]) -> u64 
     sent as u64
 }
 
-/// Messages for the copy alone: arrays of 64 floats, of 32 and of 64 bits in turn; and one that isn't in its shortest form, small integers
-/// whose headers have a byte more than they need (88 00).
-fn more_tickets() -> Vec<(&'static str, Vec<u8>)> {
+/// Messages for the copy alone: arrays of 64 floats, of 32 and of 64 bits in turn; and one that isn't in its shortest form.
+fn more_tickets() -> [(&'static str, Vec<u8>); 2] {
     let mut bytes = vec![0; 1 << 21];
     let mut os = OStream::new(&mut bytes);
     for i in 0..1400u32 {
@@ -310,8 +297,7 @@ fn more_tickets() -> Vec<(&'static str, Vec<u8>)> {
     }
     let len = os.bytes_used();
     bytes.truncate(len);
-    let long = (0..270_000u32).flat_map(|i| [(i % 16 * 8) as u8 | 128, 0, (i % 100) as u8]).collect();
-    vec![("float arrays", bytes), ("small integers with long headers", long)]
+    [("float arrays", bytes), long_headers()]
 }
 
 // ---- the port's
@@ -337,23 +323,6 @@ fn port_write(kind: u32, n: usize, data: &[u8], buf: &mut [u8], out: &mut [u8]) 
 }
 
 // ---- measuring
-
-/// The time that this thread has run.
-fn ran() -> Duration {
-    #[repr(C)]
-    struct Timespec {
-        seconds: i64,
-        nanoseconds: i64,
-    }
-    extern "C" {
-        fn clock_gettime(clock: i32, time: *mut Timespec) -> i32;
-    }
-    const CLOCK_THREAD_CPUTIME_ID: i32 = 3;
-    let mut now = Timespec { seconds: 0, nanoseconds: 0 };
-    // SAFETY: Linux's C library on a 64-bit machine, with a place for its answer.
-    unsafe { clock_gettime(CLOCK_THREAD_CPUTIME_ID, &mut now) };
-    Duration::new(now.seconds as u64, now.nanoseconds as u32)
-}
 
 fn time(best: &mut Duration, work: impl FnOnce() -> u64) -> u64 {
     let start = ran();

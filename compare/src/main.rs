@@ -12,6 +12,8 @@ mod oracle;
 mod port;
 mod runs;
 mod states;
+#[cfg(bench)]
+mod timing;
 
 use case::Kind;
 use runs::Runs;

@@ -1,12 +1,12 @@
--- The places of held ids: a test of each from a place on, and clearing.
+-- The places of held ids: a test of each from a place on, clearing and dropping.
 use mathlib.Core.Path.{_≡_, refl, sym, ap, _∙_}
 use mathlib.Core.List.{List, _++_}
 use mathlib.Core.Bool.{Bool, true, false, _&&_}
-use Prim.Native.Nat.{ℕ, suc, _+_, _≤_, _<_}
+use Prim.Native.Nat.{ℕ, suc, _+_, _-_, _≤_, _<_}
 use native.Mathlib.Numerals.{add-one}
 use native.Mathlib.Omega.{arith}
-use lib.ListN.{length, take, drop, getD, set, replicate, length-replicate, replicate-append-replicate, drop-of-length-le, length-append, length-drop}
-use lib.Seq.{drop-cons, set-at, append-snoc, getD-take, length-take-le}
+use lib.ListN.{length, take, drop, getD, set, replicate, length-replicate, replicate-append-replicate, drop-of-length-le, length-append, length-drop, getD-replicate, List·getD-append}
+use lib.Seq.{drop-cons, set-at, append-snoc, getD-take, length-take-le, getD-append-add, getD-drop, getD-set-same, getD-set-other}
 use Rattle.places.specs.Places.{every, zeroed}
 
 pub both : (a b : Bool) → (a && b) ≡ true → (a ≡ true) × (b ≡ true)
@@ -44,7 +44,7 @@ module _ (p : ℕ → Bool) (l : List ℕ) (n i : ℕ) (hl : n ≤ length l) (h 
 pub first-end : (p : ℕ → Bool) (l : List ℕ) (n i : ℕ) → n ≤ length l → n ≤ i → every p (drop i (take n l)) ≡ true
 first-end p l n i hl h = every-end p (take n l) i (omega (arith, length-take-le n l hl))
 
--- ---- clearing
+-- ---- clearing and dropping
 
 pub zeroed-more : (xs : List ℕ) (i : ℕ) → i < length xs → set (zeroed i xs) i 0 ≡ zeroed (i + 1) xs
 zeroed-more xs i h =
@@ -56,3 +56,23 @@ zeroed-more xs i h =
 
 pub length-zeroed : (xs : List ℕ) (i : ℕ) → i ≤ length xs → length (zeroed i xs) ≡ length xs
 length-zeroed xs i h = length-append (replicate i 0) (drop i xs) ∙ omega (arith, length-replicate {A = ℕ} i 0, length-drop i xs)
+
+-- In plain words, for any numbers: cleared, the one at place i is 0 below the count and as it was from the count on; dropped, the last
+-- used is 0 and each other as it was. (d is what is read beyond the last place.)
+pub zeroed-below : (xs : List ℕ) (n i d : ℕ) → i < n → getD (zeroed n xs) i d ≡ 0
+zeroed-below xs n i d h = List·getD-append (replicate n 0) (drop n xs) d i (omega (arith, length-replicate {A = ℕ} n 0)) ∙ getD-replicate n i 0 d h
+
+pub zeroed-beyond : (xs : List ℕ) (n i d : ℕ) → n ≤ i → getD (zeroed n xs) i d ≡ getD xs i d
+zeroed-beyond xs n i d h =
+    let e : i ≡ length {A = ℕ} (replicate n 0) + (i - n) = omega (arith, length-replicate {A = ℕ} n 0) in
+    let o : n + (i - n) ≡ i = omega arith in
+    ap (λ (k : ℕ). getD (zeroed n xs) k d) e
+    ∙ getD-append-add (replicate n 0) (drop n xs) (i - n) d
+    ∙ getD-drop n xs (i - n) d
+    ∙ ap (λ (k : ℕ). getD xs k d) o
+
+pub dropped-last : (xs : List ℕ) (n d : ℕ) → 0 < n → n ≤ length xs → getD (set xs (n - 1) 0) (n - 1) d ≡ 0
+dropped-last xs n d h l = getD-set-same xs (n - 1) 0 d (omega arith)
+
+pub dropped-others : (xs : List ℕ) (n i d : ℕ) → (i ≡ n - 1 → ⊥) → getD (set xs (n - 1) 0) i d ≡ getD xs i d
+dropped-others xs n i d h = getD-set-other xs (n - 1) i 0 d h

@@ -39,14 +39,14 @@ pub fn unused_zero(pending: [u32; LAZY_SEQ_DEPTH], n: usize) -> bool
     true
 }
 
-// The first n of some places zeroed. (n is how many a sound state holds.)
+// The first n of some places zeroed, and the others left as they are, whatever they hold. (n is how many a sound state holds.)
 pub fn clear(places: [u32; LAZY_SEQ_DEPTH], n: usize) -> [u32; LAZY_SEQ_DEPTH]
     requires { ⌜ n ≤ lazyDepth ⌝ }
     ensures { λ r. ⌜ r ≡ zeroed n places ⌝ }
 {
     let mut cleared = places;
-    let mut i: usize = 0;
-    while i < n {
+    let mut i: usize = 0; // from the first place on,
+    while i < n { // and no further than the count: 02 wants the unused places left alone
         cleared[i] = 0;
         i += 1;
     }
@@ -63,7 +63,8 @@ pub fn add_id(places: [u32; LAZY_SEQ_DEPTH], n: u16, id: u32) -> [u32; LAZY_SEQ_
     more
 }
 
-// The places without the last of the first n: zero. (The writer drops one only where one is held, in a sound state.)
+// The places without the last of the first n: that one zero, the others left as they are. (The writer drops one only where one is held,
+// in a sound state.)
 pub fn drop_id(places: [u32; LAZY_SEQ_DEPTH], n: u16) -> [u32; LAZY_SEQ_DEPTH]
     requires { ⌜ (0 < n) × (n ≤ lazyDepth) ⌝ }
     ensures { λ r. ⌜ r ≡ set places (n - 1) 0 ⌝ }

@@ -1,7 +1,8 @@
-/* A host in C: the verdict on messages, and the manifest of one, through include/sofab.h.
+/* A host in C: the verdict on messages, and the manifest of one or its length, through include/sofab.h.
  *
  *   host verdict FILE...     a line for each: complete, incomplete or broken
  *   host manifest FILE       the message on standard output, every field in its shortest form
+ *   host length FILE         a line: how many bytes the manifest has
  *
  * It ends with 0 where all are complete, 1 where one isn't, 2 where a file cannot be read or the output not written. README says how to
  * build it.
@@ -12,8 +13,8 @@
 
 #include "sofab.h"
 
-/* sofab_copy's answer where the output is too short, and this host's own where there is no memory for it. */
-enum { TOO_SHORT = -101, NO_MEMORY = -1000 };
+/* This host's own answer where there is no memory for the manifest. */
+enum { NO_MEMORY = -1000 };
 
 /* What is left of a file, with its length; NULL where it cannot be read or held. */
 static uint8_t *rest_of(FILE *f, size_t *len)
@@ -49,29 +50,31 @@ static uint8_t *slurp(const char *path, size_t *len)
     return bytes;
 }
 
-/* The manifest, with its length in `n`; NULL, with sofab_copy's answer in `n`, where there is none. Where the output was too short, it is
- * asked again with twice the room. */
+/* The manifest, with its length in `n`; NULL, with the reason in `n`, where there is none: sofab_length's answer, or NO_MEMORY. */
 uint8_t *host_manifest(const uint8_t *ticket, size_t len, int64_t *n)
 {
-    uint8_t *out = NULL;
-    for (size_t room = 64;; room *= 2) {
-        uint8_t *more = realloc(out, room);
-        *n = more ? sofab_copy(ticket, len, more, room) : NO_MEMORY;
-        if (more)
-            out = more;
-        if (*n != TOO_SHORT)
-            break;
-    }
-    if (*n < 0) {
-        free(out);
-        out = NULL;
-    }
+    *n = sofab_length(ticket, len);
+    if (*n < 0)
+        return NULL;
+    /* malloc may answer NULL where no byte is asked for, and that isn't for want of memory. */
+    uint8_t *out = malloc(*n ? (size_t)*n : 1);
+    if (out)
+        sofab_copy(ticket, len, out, (size_t)*n); /* its answer is that same length */
+    else
+        *n = NO_MEMORY;
     return out;
 }
 
 static const char *word(int64_t verdict)
 {
     return verdict == 0 ? "complete" : verdict == 1 ? "incomplete" : "broken";
+}
+
+/* Says why a message has no manifest; the status. */
+static int without(const char *path, int64_t n)
+{
+    fprintf(stderr, "%s: %s\n", path, n == -2 ? "broken" : n == -100 ? "incomplete" : "no memory for the manifest");
+    return n == NO_MEMORY ? 2 : 1;
 }
 
 static int verdicts(char **paths, int count)
@@ -99,12 +102,24 @@ static int manifest(const char *path)
     int64_t n = 0;
     uint8_t *out = host_manifest(ticket, len, &n);
     free(ticket);
-    if (!out) {
-        fprintf(stderr, "%s: %s\n", path, n == -2 ? "broken" : n == -100 ? "incomplete" : "no memory for the manifest");
-        return n == NO_MEMORY ? 2 : 1;
-    }
+    if (!out)
+        return without(path, n);
     fwrite(out, 1, (size_t)n, stdout);
     free(out);
+    return 0;
+}
+
+static int length(const char *path)
+{
+    size_t len = 0;
+    uint8_t *ticket = slurp(path, &len);
+    if (!ticket)
+        return 2;
+    int64_t n = sofab_length(ticket, len);
+    free(ticket);
+    if (n < 0)
+        return without(path, n);
+    printf("%s: %lld\n", path, (long long)n);
     return 0;
 }
 
@@ -116,8 +131,10 @@ int main(int argc, char **argv)
         status = verdicts(argv + 2, argc - 2);
     else if (argc == 3 && !strcmp(argv[1], "manifest"))
         status = manifest(argv[2]);
+    else if (argc == 3 && !strcmp(argv[1], "length"))
+        status = length(argv[2]);
     else
-        fprintf(stderr, "usage: %s verdict FILE..., or %s manifest FILE\n", argv[0], argv[0]);
+        fprintf(stderr, "usage: %s verdict FILE..., %s manifest FILE, or %s length FILE\n", argv[0], argv[0], argv[0]);
     int unwritten = ferror(stdout);
     if (fclose(stdout) || unwritten) {
         perror("standard output");

@@ -1,7 +1,8 @@
-//! A host in Rust: the verdict on messages, and the manifest of one, through a safe wrapper over the archive.
+//! A host in Rust: the verdict on messages, and the manifest of one or its length, through a safe wrapper over the archive.
 //!
 //!   host verdict FILE...     a line for each: complete, incomplete or broken
 //!   host manifest FILE       the message on standard output, every field in its shortest form
+//!   host length FILE         a line: how many bytes the manifest has
 //!
 //! It ends with 0 where all are complete, 1 where one isn't, 2 where a file cannot be read or the output not written. README says how to
 //! build it.
@@ -14,6 +15,7 @@ pub mod export {
     extern "C" {
         pub fn sofab_verdict(ticket: *const u8, len: usize) -> i64;
         pub fn sofab_copy(ticket: *const u8, len: usize, out: *mut u8, room: usize) -> i64;
+        pub fn sofab_length(ticket: *const u8, len: usize) -> i64;
     }
 }
 
@@ -44,26 +46,38 @@ pub fn verdict(ticket: &[u8]) -> Verdict {
     }
 }
 
-/// The message with every field in its shortest form, or why there is none. Where the output was too short, it is asked again with twice
-/// the room.
-pub fn manifest(ticket: &[u8]) -> Result<Vec<u8>, Verdict> {
-    let mut out = vec![0; 64];
-    loop {
-        // SAFETY: the export is proved on every two slices that do not overlap.
-        match unsafe { export::sofab_copy(ticket.as_ptr(), ticket.len(), out.as_mut_ptr(), out.len()) } {
-            -2 => return Err(Verdict::Broken),
-            -100 => return Err(Verdict::Incomplete),
-            -101 => out.resize(out.len() * 2, 0),
-            n => {
-                out.truncate(n as usize);
-                return Ok(out);
-            }
-        }
+/// How many bytes the manifest has, or why there is none.
+pub fn length(ticket: &[u8]) -> Result<usize, Verdict> {
+    // SAFETY: the export is proved on every slice; a slice's pointer is never null.
+    match unsafe { export::sofab_length(ticket.as_ptr(), ticket.len()) } {
+        -2 => Err(Verdict::Broken),
+        -100 => Err(Verdict::Incomplete),
+        n => Ok(n as usize),
     }
+}
+
+/// The message with every field in its shortest form, or why there is none.
+pub fn manifest(ticket: &[u8]) -> Result<Vec<u8>, Verdict> {
+    let mut out = vec![0; length(ticket)?];
+    // SAFETY: the export is proved on every two slices that do not overlap.
+    let n = unsafe { export::sofab_copy(ticket.as_ptr(), ticket.len(), out.as_mut_ptr(), out.len()) };
+    assert_eq!(n, out.len() as i64, "the copy has the length told beforehand");
+    Ok(out)
 }
 
 fn slurp(path: &str) -> Result<Vec<u8>, String> {
     std::fs::read(path).map_err(|e| format!("{path}: {e}"))
+}
+
+/// What there is of a manifest for standard output, or a line on standard error; and the status.
+fn told(path: &str, found: Result<Vec<u8>, Verdict>) -> (Vec<u8>, i32) {
+    match found {
+        Ok(bytes) => (bytes, 0),
+        Err(verdict) => {
+            eprintln!("{path}: {verdict}");
+            (Vec::new(), 1)
+        }
+    }
 }
 
 /// The answer for standard output, and the status.
@@ -79,14 +93,9 @@ fn run(args: &[String]) -> Result<(Vec<u8>, i32), String> {
             }
             Ok((lines, status))
         }
-        ["manifest", path] => match manifest(&slurp(path)?) {
-            Ok(bytes) => Ok((bytes, 0)),
-            Err(found) => {
-                eprintln!("{path}: {found}");
-                Ok((Vec::new(), 1))
-            }
-        },
-        _ => Err("usage: host verdict FILE..., or host manifest FILE".into()),
+        ["manifest", path] => Ok(told(path, manifest(&slurp(path)?))),
+        ["length", path] => Ok(told(path, length(&slurp(path)?).map(|n| format!("{path}: {n}\n").into_bytes()))),
+        _ => Err("usage: host verdict FILE..., host manifest FILE, or host length FILE".into()),
     }
 }
 

@@ -24,6 +24,9 @@ extern "C" {
 
 const ROUNDS: usize = 15;
 
+/// What is measured for a part alone takes at least this long: a blob is passed over in less time than the clock itself takes.
+const LEAST: Duration = Duration::from_micros(200);
+
 // ---- the Rust's side of the same work
 
 #[derive(Default)]
@@ -266,24 +269,35 @@ impl<F: Flush> Visitor for Again<'_, F> {
     }
 }
 
+/// Its reader into its writer, over a sink.
+#[inline(always)]
+fn write_again(ticket: &[u8], size: usize, buf: &mut [u8], sink: impl Flush) {
+    let os = OStream::with_flush(buf, 0, sink).expect("a buffer with room");
+    let mut again = Again { os, bytes: Vec::new(), unsigneds: Vec::new(), signeds: Vec::new(), fp32s: Vec::new(), fp64s: Vec::new(), left: 0 };
+    let mut reader = IStream::new();
+    for chunk in ticket.chunks(if size == 0 { ticket.len() } else { size }) {
+        let _ = black_box(reader.feed(chunk, &mut again));
+    }
+    again.os.flush();
+}
+
 #[inline(never)]
 fn rust_copy(ticket: &[u8], size: usize, buf: &mut [u8], out: &mut [u8]) -> u64 {
     let mut sent = 0;
-    {
-        let sink = |bytes: &[u8]| {
-            if let Some(to) = out.get_mut(sent..sent + bytes.len()) {
-                to.copy_from_slice(bytes);
-                sent += bytes.len();
-            }
-        };
-        let os = OStream::with_flush(buf, 0, sink).expect("a buffer with room");
-        let mut again = Again { os, bytes: Vec::new(), unsigneds: Vec::new(), signeds: Vec::new(), fp32s: Vec::new(), fp64s: Vec::new(), left: 0 };
-        let mut reader = IStream::new();
-        for chunk in ticket.chunks(if size == 0 { ticket.len() } else { size }) {
-            let _ = black_box(reader.feed(chunk, &mut again));
+    write_again(ticket, size, buf, |bytes: &[u8]| {
+        if let Some(to) = out.get_mut(sent..sent + bytes.len()) {
+            to.copy_from_slice(bytes);
+            sent += bytes.len();
         }
-        again.os.flush();
-    }
+    });
+    sent as u64
+}
+
+/// The length of a copy beforehand, for which the Rust has no call: it is made, and its bytes only counted.
+#[inline(never)]
+fn rust_length(ticket: &[u8], buf: &mut [u8]) -> u64 {
+    let mut sent = 0;
+    write_again(ticket, 0, buf, |bytes: &[u8]| sent += bytes.len());
     sent as u64
 }
 
@@ -358,6 +372,27 @@ fn row(name: &str, bytes: &[u8], mut rust: impl FnMut() -> u64, mut port: impl F
     );
 }
 
+/// How long the port takes for so many calls in a row.
+fn asked(call: fn(&[u8]) -> i64, ticket: &[u8], times: u32) -> Duration {
+    let mut taken = Duration::MAX;
+    time(&mut taken, || (0..times).map(|_| call(ticket) as u64).sum());
+    taken
+}
+
+/// What the port's length takes, as a part of its verdict: turn by turn, the best of the rounds.
+fn length_by_verdict(name: &str, ticket: &[u8]) {
+    let mut times = 1;
+    while asked(crate::port::verdict, ticket, times) < LEAST {
+        times *= 2;
+    }
+    let mut best = [Duration::MAX; 2];
+    for _ in 0..ROUNDS {
+        best[0] = best[0].min(asked(crate::port::length, ticket, times));
+        best[1] = best[1].min(asked(crate::port::verdict, ticket, times));
+    }
+    println!("length / verdict, time: {name} {:.2}", best[0].as_secs_f64() / best[1].as_secs_f64());
+}
+
 pub fn all() {
     let data: Vec<u8> = (0..BLOB).map(|i| b'a' + (i % 26) as u8).collect();
     let mut out = vec![1u8; 9 << 20];
@@ -419,6 +454,14 @@ pub fn all() {
             println!("| copy {name}: the bytes differ |");
         }
         row(&format!("copy whole, sofab_copy: {name}"), ticket, || rust_copy(ticket, 0, &mut buf, &mut out), || crate::port::copy(ticket, &mut other) as u64);
+    }
+    for (name, ticket) in &copied {
+        let mut buf = vec![1u8; 4096];
+        row(&format!("length beforehand: {name}"), ticket, || rust_length(ticket, &mut buf), || crate::port::length(ticket) as u64);
+    }
+    println!();
+    for (name, ticket) in &copied {
+        length_by_verdict(name, ticket);
     }
     println!("\nThe Rust's states in bytes: reader {}, writer without its buffer and sink {}, gatherer without its buffer {}.", size_of::<IStream>(), size_of::<OStream>() - size_of::<&mut [u8]>(), size_of::<PayloadAcc<64>>() - 64);
 }

@@ -8,7 +8,7 @@ use crate::bytes::*;
 use crate::case::{Case, Kind};
 use crate::fault::Fault;
 use crate::gen::{self, Random};
-use crate::oracle::{fresh, Input, BROKEN, COMPLETE, INCOMPLETE, REFUSED};
+use crate::oracle::{self, fresh, Input, BROKEN, COMPLETE, INCOMPLETE, REFUSED};
 use sofab::*;
 
 // ---- cases
@@ -385,6 +385,16 @@ pub fn plain_copy(ticket: &[u8]) -> Option<Vec<u8>> {
     words.iter().for_each(|&at| buf[at] ^= 1);
     buf.truncate(len);
     (complete && !failed).then_some(buf)
+}
+
+/// The plain copy's length, or why there is none, as the port's export numbers it. Where the Rust's writer refuses what its reader took it is -1,
+/// which the export never answers.
+pub fn length(ticket: &[u8]) -> i64 {
+    match oracle::verdict(ticket) {
+        0 => plain_copy(ticket).map_or(-1, |copy| copy.len() as i64),
+        1 => -100,
+        _ => -2,
+    }
 }
 
 // ---- the copier's calls

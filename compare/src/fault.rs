@@ -5,7 +5,7 @@ use crate::oracle::{Fields, COMPLETE, INCOMPLETE, REFUSED};
 #[derive(Clone, Copy)]
 pub struct Fault(pub usize);
 
-pub const FAULTS: [&str; 37] = [
+pub const FAULTS: [&str; 40] = [
     "none",
     "reader: the lowest signed value loses its sign",
     "reader: a NaN loses its payload",
@@ -43,6 +43,9 @@ pub const FAULTS: [&str; 37] = [
     "writer: an open at depth 255 is number 9",
     "writer: the length of a drain has 10 bits",
     "reader: the last byte of a piece beyond 65,536 is altered",
+    "copy of a whole ticket: its length beforehand is the ticket's",
+    "copy of a whole ticket: an incomplete one has a length beforehand",
+    "copy of a whole ticket: its length beforehand has 16 bits",
 ];
 
 impl Fault {
@@ -121,6 +124,16 @@ impl Fault {
 
     pub fn number(self, number: u8) -> u8 {
         if self.is(22) && number == 8 { 9 } else { number }
+    }
+
+    /// A copy's length beforehand, of a ticket of so many bytes.
+    pub fn length(self, said: i64, ticket: usize) -> i64 {
+        match self.0 {
+            37 if 0 <= said => ticket as i64,
+            38 if said == -100 => ticket as i64,
+            39 if 0 <= said => said & 0xffff,
+            _ => said,
+        }
     }
 
     /// Whether a call that filled the buffer says so at once, and the position.

@@ -113,6 +113,7 @@ impl Hosts {
             let ticket = &*self.ticket.part(bytes.len(), at_end);
             let verdict = *said.as_ref().err().unwrap_or(&Verdict::Complete);
             host::verdict(ticket) == verdict
+                && host::length(ticket) == said.as_ref().map(Vec::len).map_err(|&verdict| verdict)
                 && host::manifest(ticket) == said
                 && from_c(ticket) == said
                 && [0, 1, len / 2, len.saturating_sub(1), len, len + 3].into_iter().all(|room| {
@@ -131,14 +132,20 @@ fn program_agrees(program: &str, file: &str, ticket: &[u8]) -> bool {
     let said = rust(ticket);
     std::fs::write(file, ticket).expect("the work folder can be written");
     let ran = |word: &str| Command::new(program).args([word, file]).output().expect("the program runs");
-    let (verdict, manifest) = (ran("verdict"), ran("manifest"));
-    let word = said.as_ref().err().unwrap_or(&Verdict::Complete);
+    let (verdict, manifest, length) = (ran("verdict"), ran("manifest"), ran("length"));
+    let line = |what: &dyn std::fmt::Display| format!("{file}: {what}\n").into_bytes();
+    let none = Vec::new();
+    // On standard error of the last two.
+    let reason = said.as_ref().map_or_else(|found| line(found), |_| none.clone());
     let status = Some(said.is_err() as i32);
     verdict.status.code() == status
-        && verdict.stdout == format!("{file}: {word}\n").into_bytes()
+        && verdict.stdout == line(said.as_ref().err().unwrap_or(&Verdict::Complete))
         && manifest.status.code() == status
-        && manifest.stdout == *said.as_ref().unwrap_or(&Vec::new())
-        && manifest.stderr.is_empty() == said.is_ok()
+        && manifest.stdout == *said.as_ref().unwrap_or(&none)
+        && manifest.stderr == reason
+        && length.status.code() == status
+        && length.stdout == said.as_ref().map_or(none, |copy| line(&copy.len()))
+        && length.stderr == reason
 }
 
 fn main() {

@@ -18,13 +18,17 @@ mod timing;
 use case::Kind;
 use runs::Runs;
 
+/// `differ` compares the lengths of the copies of at least so many random tickets, however small its SIZE.
+const LENGTHS: u64 = 1_000_000;
+
 const HELP: &str = "\
 compare/run DIR COMMAND
-  differ SEED SIZE      everything below: tickets of up to 3 bytes, every cut of the corpus, SIZE random cases of each kind
+  differ SEED SIZE      everything below: tickets of up to 3 bytes, every cut of the corpus, a million lengths, SIZE random cases of each kind
   short BYTES           all tickets of up to BYTES bytes, in every cut
   copies BYTES [FAULT]  all tickets of up to BYTES bytes and the corpus, in every cut, through copiers over 1, 2, 3 and 7 bytes, and whole;
                         the worked ones over 1 to 20 bytes by four schedules, and beside worked.txt (FAULT: a planted one)
   cuts                  every cut of every ticket in the corpus
+  lengths SEED SIZE     the lengths beforehand of copies of SIZE random and damaged tickets
   random SEED SIZE [KINDS]
                         SIZE random cases of each kind (KINDS: some of the letters rgwc, for reader, gatherer, writer and copier)
   states SEED SIZE      SIZE calls on freely chosen states and places, judged by 01's text
@@ -53,10 +57,12 @@ fn main() {
             runs.cuts();
             runs.copies(2);
             runs.pieces();
+            runs.lengths(seed, size.max(LENGTHS));
             runs.random(seed, size, kinds);
             runs.states(seed, size);
         }
         Some("states") => runs.states(seed, size),
+        Some("lengths") => runs.lengths(seed, size),
         Some("short") => runs.short(number(&args, 1, 3) as usize),
         Some("copies") => {
             runs = Runs::planted(number(&args, 2, 0) as usize);

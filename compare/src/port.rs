@@ -35,6 +35,7 @@ extern "C" {
 extern "C" {
     fn sofab_verdict(ticket: *const u8, len: usize) -> i64;
     fn sofab_copy(ticket: *const u8, len: usize, out: *mut u8, room: usize) -> i64;
+    fn sofab_length(ticket: *const u8, len: usize) -> i64;
 }
 
 /// The verdict on a whole message: 0 complete, 1 incomplete, -2 broken.
@@ -47,6 +48,12 @@ pub fn verdict(ticket: &[u8]) -> i64 {
 pub fn copy(ticket: &[u8], out: &mut [u8]) -> i64 {
     // SAFETY: the export is proved on every pair of slices, and is given just these.
     unsafe { sofab_copy(ticket.as_ptr(), ticket.len(), out.as_mut_ptr(), out.len()) }
+}
+
+/// The length of that copy beforehand, or -2 broken, -100 incomplete.
+pub fn length(ticket: &[u8]) -> i64 {
+    // SAFETY: the export is proved on every slice.
+    unsafe { sofab_length(ticket.as_ptr(), ticket.len()) }
 }
 
 // ---- the calls by number: those of the writer are PROTOCOL.md's, the others follow.

@@ -121,9 +121,23 @@ impl Runs {
         }
     }
 
+    /// The export that tells a copy's length beforehand, on one ticket.
+    fn length(&mut self, ticket: &[u8]) {
+        self.cases += 1;
+        self.port.calls.exports += 1;
+        let (rust, port) = (self.oracle.fault.length(copier::length(ticket), ticket.len()), port::length(ticket));
+        if rust != port {
+            self.differences += 1;
+            if !self.quiet && self.differences <= SHOWN {
+                println!("difference, length of the copy of {}: rust {rust}, port {port}", hex(ticket));
+            }
+        }
+    }
+
     /// The export that copies a whole message, on one ticket: into outputs of no byte, one too short, just long enough and three bytes longer,
-    /// with guard bytes behind each.
+    /// with guard bytes behind each. And its length beforehand.
     fn whole(&mut self, ticket: &[u8]) {
+        self.length(ticket);
         let verdict = oracle::verdict(ticket);
         let copy = if verdict == 0 { copier::plain_copy(ticket) } else { Some(Vec::new()) };
         let Some(copy) = copy else {
@@ -165,10 +179,11 @@ impl Runs {
             for n in 0u64..1 << (8 * len) {
                 let ticket = n.to_be_bytes()[8 - len..].to_vec();
                 self.verdict(&ticket);
+                self.length(&ticket);
                 self.every_cut(&mut Reader { chunks: Vec::new(), ticket });
             }
         }
-        println!("tickets of up to {most} bytes, every cut, and the verdict on each whole: {} cases", self.cases - before);
+        println!("tickets of up to {most} bytes, every cut, and of each whole the verdict and the copy's length: {} cases", self.cases - before);
     }
 
     fn every_cut(&mut self, case: &mut Reader) {
@@ -269,6 +284,12 @@ impl Runs {
             self.whole(&case.ticket);
             self.compare(&case);
         }
+    }
+
+    /// The lengths beforehand of copies of random and damaged tickets.
+    pub fn lengths(&mut self, seed: u64, size: u64) {
+        (0..size).for_each(|i| self.length(&gen::ticket(&mut case_seed(seed, i, 6))));
+        println!("lengths of copies beforehand, seed {seed}: {size} random and damaged tickets");
     }
 
     pub fn random(&mut self, seed: u64, size: u64, kinds: &str) {

@@ -22,9 +22,9 @@ use Rattle.passing.specs.declared.Found.the-variants as Founds
 use Rattle.passing.specs.declared.Land.{Land}
 use Rattle.passing.specs.declared.Land.the-variants as Lands
 use Rattle.passing.specs.Passing.{Reaches, Passes, skips, jumped, noValue}
-use Rattle.bodies.specs.Bodies.{deep, afterBody}
+use Rattle.bodies.specs.Bodies.{deep, afterBody, afterWord, afterFloats}
 use Rattle.passing.proofs.Found as found
-use Rattle.passing.proofs.Ends.{landed-before, reaches-inside}
+use Rattle.passing.proofs.Ends.{landed-before}
 use Rattle.bodies.proofs.Bodies.{hop, hops, hop-short, ends-low, ends-payload, ends-floats, ends-elements, deep-scalar, deep-becoming}
 
 -- ---- answers
@@ -115,41 +115,43 @@ unknown-of (suc (suc zero)) h = absurd (omega arith)
 unknown-of (suc (suc (suc zero))) h = absurd (omega arith)
 unknown-of (suc (suc (suc (suc n)))) h = refl
 
--- the word of a fixed-length field, and what follows it
-module _ {t : List ℕ} {at : ℕ} {f : Found} {w i : ℕ} (e : f ≡ Founds.Value w i) (q : Reaches t at (varint base (drop at t)) f) (id : ℕ) where
-  inside : i ≤ length t
-  inside = reaches-inside e q
+-- what follows the word of a fixed-length field
+module _ {t : List ℕ} {i : ℕ} (w : ℕ) (inside : i ≤ length t) (id : ℕ) where
+  by-subtype : (s : Subtyped) (r : Land) → subtypeOf (w % 8) ≡ s → Passes t i (λ d. deep d (fixlen base id (w / 8) s (drop i t) .outcome)) r →
+      Passes t i (afterWord id w (drop i t)) r
+  unfolding afterWord
+  by-subtype s r k p = subst (λ (s : Subtyped). Passes t i (λ d. deep d (fixlen base id (w / 8) s (drop i t) .outcome)) r) (sym k) p
 
-  word-then : (s : Subtyped) (r : Land) → subtypeOf (w % 8) ≡ s → Passes t i (λ d. deep d (fixlen base id (w / 8) s (drop i t) .outcome)) r →
-      Passes t at (afterBody id T-fixlen (drop at t)) r
-  unfolding afterBody body
-  word-then s r k p =
-      then t at (varint base (drop at t)) f w i (λ w rest. fixlen base id (w / 8) (subtypeOf (w % 8)) rest) r e q
-      (subst (λ (s : Subtyped). Passes t i (λ d. deep d (fixlen base id (w / 8) s (drop i t) .outcome)) r) (sym k) p)
-
-  pub fixlen-float : (wd : Width) (r : Land) → subtypeOf (w % 8) ≡ known (float wd) → w / 8 ≡ bytesOf wd → r ≡ jumped t i (bytesOf wd) →
-      Passes t at (afterBody id T-fixlen (drop at t)) r
-  fixlen-float wd r k h j =
-      word-then (known (float wd)) r k
+  pub bytes-float : (wd : Width) (r : Land) → subtypeOf (w % 8) ≡ known (float wd) → w / 8 ≡ bytesOf wd → r ≡ jumped t i (bytesOf wd) →
+      Passes t i (afterWord id w (drop i t)) r
+  bytes-float wd r k h j =
+      by-subtype (known (float wd)) r k
       (jumps t i (bytesOf wd) r _ inside j (λ d. float-fits d id (w / 8) (drop i t) wd h ∙ ap (λ (n : ℕ). hop d n (drop i t)) h))
 
-  pub fixlen-float-breaks : (wd : Width) → subtypeOf (w % 8) ≡ known (float wd) → (w / 8 ≡ bytesOf wd → ⊥) → Passes t at (afterBody id T-fixlen (drop at t)) (Lands.Broken i)
-  fixlen-float-breaks wd k h = word-then (known (float wd)) (Lands.Broken i) k (breaks t i _ inside (λ d. float-breaks d id (w / 8) (drop i t) wd h))
+  pub bytes-float-breaks : (wd : Width) → subtypeOf (w % 8) ≡ known (float wd) → (w / 8 ≡ bytesOf wd → ⊥) → Passes t i (afterWord id w (drop i t)) (Lands.Broken i)
+  bytes-float-breaks wd k h = by-subtype (known (float wd)) (Lands.Broken i) k (breaks t i _ inside (λ d. float-breaks d id (w / 8) (drop i t) wd h))
 
-  pub fixlen-raw : (r : Land) → (w % 8 ≡ 0 → ⊥) → (w % 8 ≡ 1 → ⊥) → w % 8 < 4 → w / 8 ≤ base .size → r ≡ jumped t i (w / 8) →
-      Passes t at (afterBody id T-fixlen (drop at t)) r
-  fixlen-raw r a b c h j =
+  pub bytes-raw : (r : Land) → (w % 8 ≡ 0 → ⊥) → (w % 8 ≡ 1 → ⊥) → w % 8 < 4 → w / 8 ≤ base .size → r ≡ jumped t i (w / 8) →
+      Passes t i (afterWord id w (drop i t)) r
+  bytes-raw r a b c h j =
       let o = raw-of (w % 8) a b c in
-      word-then (known (raw (o .0))) r (o .1) (jumps t i (w / 8) r _ inside j (λ d. raw-fits d id (w / 8) (drop i t) (o .0) h))
+      by-subtype (known (raw (o .0))) r (o .1) (jumps t i (w / 8) r _ inside j (λ d. raw-fits d id (w / 8) (drop i t) (o .0) h))
 
-  pub fixlen-raw-breaks : (w % 8 ≡ 0 → ⊥) → (w % 8 ≡ 1 → ⊥) → w % 8 < 4 → base .size < w / 8 → Passes t at (afterBody id T-fixlen (drop at t)) (Lands.Broken i)
-  fixlen-raw-breaks a b c h =
+  pub bytes-raw-breaks : (w % 8 ≡ 0 → ⊥) → (w % 8 ≡ 1 → ⊥) → w % 8 < 4 → base .size < w / 8 → Passes t i (afterWord id w (drop i t)) (Lands.Broken i)
+  bytes-raw-breaks a b c h =
       let o = raw-of (w % 8) a b c in
-      word-then (known (raw (o .0))) (Lands.Broken i) (o .1) (breaks t i _ inside (λ d. raw-breaks d id (w / 8) (drop i t) (o .0) h))
+      by-subtype (known (raw (o .0))) (Lands.Broken i) (o .1) (breaks t i _ inside (λ d. raw-breaks d id (w / 8) (drop i t) (o .0) h))
 
-  pub fixlen-unknown : 4 ≤ w % 8 → Passes t at (afterBody id T-fixlen (drop at t)) (Lands.Broken i)
+  pub bytes-unknown : 4 ≤ w % 8 → Passes t i (afterWord id w (drop i t)) (Lands.Broken i)
   unfolding fixlen deep
-  fixlen-unknown h = word-then unknown (Lands.Broken i) (unknown-of (w % 8) h) (breaks t i _ inside (λ d. refl))
+  bytes-unknown h = by-subtype unknown (Lands.Broken i) (unknown-of (w % 8) h) (breaks t i _ inside (λ d. refl))
+
+-- a word, and what follows it
+pub fixlen-then : {t : List ℕ} {at : ℕ} {f : Found} {w i : ℕ} → f ≡ Founds.Value w i → Reaches t at (varint base (drop at t)) f → (r : Land) (id : ℕ) →
+    Passes t i (afterWord id w (drop i t)) r → Passes t at (afterBody id T-fixlen (drop at t)) r
+unfolding afterBody body afterWord
+fixlen-then {t} {at} {f} {w} {i} e q r id p =
+    then t at (varint base (drop at t)) f w i (λ w rest. fixlen base id (w / 8) (subtypeOf (w % 8)) rest) r e q p
 
 -- the else of each
 pub fixlen-else : {t : List ℕ} {at : ℕ} (f : Found) → OneOf (1 ∷ 2 ∷ []) (tagOf found.the-type f) → Reaches t at (varint base (drop at t)) f → (id : ℕ) →
@@ -214,27 +216,29 @@ floats-break d id c n (suc (suc zero)) bs a b = refl
 floats-break d id c n (suc (suc (suc zero))) bs a b = refl
 floats-break d id c n (suc (suc (suc (suc s)))) bs a b = refl
 
-module _ {t : List ℕ} {i : ℕ} {f : Found} {w j : ℕ} (e : f ≡ Founds.Value w j) (q : Reaches t i (varint base (drop i t)) f) (id c : ℕ) where
-  floats-word : (r : Land) → Passes t j (λ d. deep d (floatArrayOf id c (w / 8) (subtypeOf (w % 8)) (drop j t) .outcome)) r →
-      Passes t i (λ d. deep d (given (varint base (drop i t)) (λ w rest. floatArrayOf id c (w / 8) (subtypeOf (w % 8)) rest) .outcome)) r
-  floats-word r p = then t i (varint base (drop i t)) f w j (λ w rest. floatArrayOf id c (w / 8) (subtypeOf (w % 8)) rest) r e q p
-
+module _ {t : List ℕ} {j : ℕ} (w : ℕ) (inside : j ≤ length t) (id c : ℕ) where
   pub floats-jump : (wd : Width) (r : Land) → w % 8 ≡ subtypeNumber (float wd) → w / 8 ≡ bytesOf wd → r ≡ jumped t j (c * bytesOf wd) →
-      Passes t i (λ d. deep d (given (varint base (drop i t)) (λ w rest. floatArrayOf id c (w / 8) (subtypeOf (w % 8)) rest) .outcome)) r
+      Passes t j (afterFloats id c w (drop j t)) r
+  unfolding afterFloats
   floats-jump wd r s h k =
-      floats-word r
-      (jumps t j (c * bytesOf wd) r _ (reaches-inside e q) k
+      jumps t j (c * bytesOf wd) r _ inside k
       (λ d.
       ap (λ (x : Subtyped). deep d (floatArrayOf id c (w / 8) x (drop j t) .outcome)) (ap subtypeOf s ∙ numbered wd)
       ∙ floats-fit d id (w / 8) (drop j t) wd c h
-      ∙ ap (λ (m : ℕ). hop d (c * m) (drop j t)) h))
+      ∙ ap (λ (m : ℕ). hop d (c * m) (drop j t)) h)
 
-  pub floats-fail : (w ≡ 32 → ⊥) → (w ≡ 65 → ⊥) →
-      Passes t i (λ d. deep d (given (varint base (drop i t)) (λ w rest. floatArrayOf id c (w / 8) (subtypeOf (w % 8)) rest) .outcome)) (Lands.Broken j)
+  pub floats-fail : (w ≡ 32 → ⊥) → (w ≡ 65 → ⊥) → Passes t j (afterFloats id c w (drop j t)) (Lands.Broken j)
+  unfolding afterFloats
   floats-fail a b =
-      floats-word (Lands.Broken j)
-      (breaks t j _ (reaches-inside e q)
-      (λ d. floats-break d id c (w / 8) (w % 8) (drop j t) (λ x y. a (omega arith)) (λ x y. b (omega arith))))
+      breaks t j _ inside
+      (λ d. floats-break d id c (w / 8) (w % 8) (drop j t) (λ x y. a (omega arith)) (λ x y. b (omega arith)))
+
+pub floats-word : {t : List ℕ} {i : ℕ} {f : Found} {w j : ℕ} → f ≡ Founds.Value w j → Reaches t i (varint base (drop i t)) f → (id c : ℕ) (r : Land) →
+    Passes t j (afterFloats id c w (drop j t)) r →
+    Passes t i (λ d. deep d (given (varint base (drop i t)) (λ w rest. floatArrayOf id c (w / 8) (subtypeOf (w % 8)) rest) .outcome)) r
+unfolding afterFloats
+floats-word {t} {i} {f} {w} {j} e q id c r p =
+    then t i (varint base (drop i t)) f w j (λ w rest. floatArrayOf id c (w / 8) (subtypeOf (w % 8)) rest) r e q p
 
 pub floats-word-else : {t : List ℕ} {i : ℕ} (f : Found) → OneOf (1 ∷ 2 ∷ []) (tagOf found.the-type f) → Reaches t i (varint base (drop i t)) f → (id c : ℕ) →
     Passes t i (λ d. deep d (given (varint base (drop i t)) (λ w rest. floatArrayOf id c (w / 8) (subtypeOf (w % 8)) rest) .outcome)) (noValue f)

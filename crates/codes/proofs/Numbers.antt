@@ -1,11 +1,15 @@
--- The numbers of a verdict as the code gives them are those that are promised.
+-- The numbers of a verdict, and of a length, as the code gives them are those that are promised.
+use Prim.Native.Nat.{ℕ}
 use mathlib.Core.Path.{_≡_, refl, sym, ap, _∙_}
 use lib.IntN.{ℤ, pos, negsuc}
 use Rattle.layout.specs.Message as layout
 use Rattle.whole.specs.declared.Verdict.{Verdict}
 use Rattle.whole.specs.declared.Verdict.the-variants.{Complete, Incomplete, Broken}
 use Rattle.whole.specs.Whole.{verdictIn}
-use Rattle.exports.specs.Exports.{number, refused}
+use Rattle.copy_len.specs.declared.Length.{Length}
+use Rattle.copy_len.specs.declared.Length.the-variants as Lengths
+use Rattle.copy_len.specs.CopyLen.{lengthIn}
+use Rattle.exports.specs.Exports.{number, refused, measured}
 
 abbrev code : Verdict → ℤ
 code Complete = pos 0
@@ -34,3 +38,19 @@ refusal-alike (layout.brokenAt n) = refl
 
 pub refuses : (v : layout.Verdict) (r w : Verdict) → r ≡ verdictIn v → r ≡ w → refusal w ≡ refused v
 refuses v r w e g = ap refusal (sym g ∙ e) ∙ refusal-alike v
+
+-- ---- the length
+
+abbrev length : Length → ℤ
+length (Lengths.Bytes n) = pos n
+length Lengths.Incomplete = negsuc 99
+length (Lengths.Broken n) = negsuc 1
+
+length-alike : (v : layout.Verdict) (n : ℕ) → length (lengthIn v n) ≡ measured v n
+unfolding measured refused
+length-alike layout.complete n = refl
+length-alike layout.incomplete n = refl
+length-alike (layout.brokenAt k) n = refl
+
+pub measures : (v : layout.Verdict) (n : ℕ) (r w : Length) → r ≡ lengthIn v n → r ≡ w → length w ≡ measured v n
+measures v n r w e g = ap length (sym g ∙ e) ∙ length-alike v n

@@ -1,8 +1,12 @@
-// The numbers that C is answered for a verdict on a message given whole.
+// The numbers that C is answered for a verdict on a message given whole, and for the length of its plain copy.
 ghost use mathlib.Core.Path.{_≡_};
+ghost use Prim.Native.Nat.{ℕ, _<_};
 ghost use Rattle.layout.specs.Message as layout;
 ghost use Rattle.whole.specs.Whole.{verdictIn};
-ghost use Rattle.exports.specs.Exports.{number, refused};
+ghost use Rattle.copy_len.specs.CopyLen.{lengthIn};
+ghost use Rattle.copy_len.specs.declared.Length.the-variants as answers;
+ghost use Rattle.exports.specs.Exports.{number, refused, measured};
+use copy_len::Length;
 use whole::Verdict;
 
 // By the call that asks for the verdict.
@@ -24,5 +28,17 @@ pub fn refusal(v: Verdict) -> i64
         Verdict::Complete => 0,
         Verdict::Incomplete => -100,
         Verdict::Broken(_) => -2,
+    }
+}
+
+// By the call that asks for the length, which is one that an answer can name.
+pub fn length(l: Length) -> i64
+    requires { ⌜ ((n : ℕ) → l ≡ answers.Bytes n → n < 9223372036854775808) ⌝ }
+    ensures { λ r. ⌜ ((w : layout.Verdict) → (n : ℕ) → l ≡ lengthIn w n → r ≡ measured w n) ⌝ }
+{
+    match l {
+        Length::Bytes(n) => n as i64,
+        Length::Incomplete => -100,
+        Length::Broken(_) => -2,
     }
 }

@@ -1,4 +1,4 @@
--- "The C host calls two exports on byte slices, answering a signed 64-bit number".
+-- "The C host calls two exports on byte slices, answering a signed 64-bit number"; a third, the length, is 02's point 1.
 use Prim.Native.Nat.{ℕ, _-_, _^_, min}
 use mathlib.Core.Bool.{Bool}
 use mathlib.Core.List.{List, _++_}
@@ -48,3 +48,12 @@ unfoldable pub copied : Verdict → List ℕ → List ℕ → Copied
 copied complete m out = filled m out
 copied incomplete m out = resultOf (refused incomplete) out
 copied (brokenAt n) m out = resultOf (refused (brokenAt n)) out
+
+-- ---- the length
+
+-- of a message whose plain copy has n bytes. 02: "the exact number of manifest bytes"; "an incomplete or broken ticket answers as the reader
+-- would", by the numbers that the copy's call has for it
+unfoldable pub measured : Verdict → ℕ → ℤ
+measured complete n = pos n
+measured incomplete n = refused incomplete
+measured (brokenAt k) n = refused (brokenAt k)

@@ -1,1 +1,1 @@
-// What a C host is promised of the two exports. This crate has no code: `host` has the functions, and their contracts cite specs/.
+// What a C host is promised of the three exports. This crate has no code: `host` has the functions, and their contracts cite specs/.

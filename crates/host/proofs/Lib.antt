@@ -4,3 +4,4 @@ pub mod Filled
 pub mod Own
 pub mod Fresh
 pub mod Streamed
+pub mod Length

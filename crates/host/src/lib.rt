@@ -1,9 +1,11 @@
-// What a C host calls: the verdict on a message given whole, as a number, and its plain copy. `include/sofab.h` declares both for C.
+// What a C host calls: the verdict on a message given whole, as a number, its plain copy, and how long that is. `include/sofab.h` declares
+// them for C.
 ghost use mathlib.Core.Path.{_≡_};
+ghost use lib.ListN.{length};
 ghost use Rattle.layout.specs.Limits.{base};
 ghost use Rattle.layout.specs.Message.{complete, verdictOf};
 ghost use Rattle.layout.specs.Copy.{plainCopy};
-ghost use Rattle.exports.specs.Exports.{number, resultOf, filled, copied};
+ghost use Rattle.exports.specs.Exports.{number, resultOf, filled, copied, measured};
 use copier::Answer;
 use copier::Copier;
 
@@ -54,4 +56,11 @@ pub extern "C" fn sofab_copy(ticket: &[u8], out: &mut [u8]) -> i64
         return n;
     }
     copy(ticket, out)
+}
+
+#[no_mangle]
+pub extern "C" fn sofab_length(ticket: &[u8]) -> i64
+    ensures { λ r. ⌜ r ≡ measured (verdictOf base (now (ticket .entry))) (length (plainCopy base (now (ticket .entry)))) ⌝ }
+{
+    codes::length(copy_len::length_of(ticket))
 }

@@ -48,7 +48,7 @@ wire-of T-floats = refl
 wire-of T-begin = refl
 wire-of T-end = refl
 
-wire-number : (k : ℕ) → k < 8 → wireNumber (wireOf k) ≡ k
+pub wire-number : (k : ℕ) → k < 8 → wireNumber (wireOf k) ≡ k
 wire-number zero h = refl
 wire-number (suc zero) h = refl
 wire-number (suc (suc zero)) h = refl
@@ -71,7 +71,7 @@ subtype-of (float fp64) = refl
 subtype-of (raw string) = refl
 subtype-of (raw blob) = refl
 
-subtype-number : (k : ℕ) (s : Subtype) → subtypeOf k ≡ known s → subtypeNumber s ≡ k
+pub subtype-number : (k : ℕ) (s : Subtype) → subtypeOf k ≡ known s → subtypeNumber s ≡ k
 subtype-number zero s e = let q : s ≡ float fp32 = cc in ap subtypeNumber q
 subtype-number (suc zero) s e = let q : s ≡ float fp64 = cc in ap subtypeNumber q
 subtype-number (suc (suc zero)) s e = let q : s ≡ raw string = cc in ap subtypeNumber q

@@ -105,15 +105,10 @@ pub fn zigzag_decode(u: u64) -> i64
     if u % 2 == 0 { half } else { !half }
 }
 
-// How many bytes the shortest varint of v has.
+// How many bytes the shortest varint of v has: 7 bits a byte, and 0 has one byte as 1 has.
 pub fn varint_len(v: u64) -> usize
     ensures { λ r. ⌜ r ≡ length (shortest v) ⌝ }
 {
-    let mut rest = v;
-    let mut len: usize = 1;
-    while 128 <= rest {
-        rest = rest >> 7;
-        len += 1;
-    }
-    len
+    let zeros = u64::leading_zeros(v | 1);
+    ((70 - zeros) / 7) as usize
 }

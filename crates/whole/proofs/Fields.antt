@@ -192,7 +192,7 @@ unfolding fieldsFrom
 unfolded m d [] h = absurd (omega arith)
 unfolded m d (b ∷ bs) h = refl
 
-fueled : (n d : ℕ) (bs : List ℕ) → 0 < length bs → length bs ≤ n →
+pub fueled : (n d : ℕ) (bs : List ℕ) → 0 < length bs → length bs ≤ n →
     fieldsFrom base n d bs ≡ follow (field base d bs .events) (field base d bs .outcome) (λ x rest. becoming (prepend x) (fieldsFrom base (n - 1) (depthAfter d x) rest))
 fueled zero d bs h l = absurd (omega arith)
 fueled (suc m) d bs h l =
@@ -203,29 +203,40 @@ module _ {t : List ℕ} {at d : ℕ} (s : Left t at d) (h : at < length t) where
   turned : verdictOf base t ≡ verdictBy (length t) (follow (field base d (drop at t) .events) (field base d (drop at t) .outcome) (λ x rest. becoming (prepend x) (fieldsFrom base (s .fuel - 1) (depthAfter d x) rest)) .outcome)
   turned = s .same ∙ ap (λ (r : Reading Fields). verdictBy (length t) (r .outcome)) (fueled (s .fuel) d (drop at t) (omega (arith, length-drop at t)) (s .enough))
 
-  pub left-next : (n : Next) (i e : ℕ) → n ≡ Nexts.At i e → Goes t (at + 1) (afterField d (drop at t)) n → Left t i e
+  -- by what the field there comes to
+  pub goes-on : (i e : ℕ) → at + 1 ≤ i → i ≤ length t → afterField d (drop at t) ≡ whole e (drop i t) → Left t i e
   unfolding afterField
-  left-next n i e k g =
-      let p : Goes t (at + 1) (afterField d (drop at t)) (Nexts.At i e) = subst (Goes t (at + 1) (afterField d (drop at t))) k g in
+  goes-on i e l m k =
       record {
-        inside = p .past .1;
+        inside = m;
         fuel = s .fuel - 1;
-        enough = omega (arith, p .past .0, p .past .1, length-drop at t, length-drop i t, s .enough);
-        same = turned ∙ next-whole (length t) d (s .fuel - 1) (field base d (drop at t) .events) (field base d (drop at t) .outcome) e (drop i t) (p .same);
+        enough = omega (arith, length-drop at t, length-drop i t, s .enough);
+        same = turned ∙ next-whole (length t) d (s .fuel - 1) (field base d (drop at t) .events) (field base d (drop at t) .outcome) e (drop i t) k;
       }
 
-  pub left-short : (n : Next) → n ≡ Nexts.Short → Goes t (at + 1) (afterField d (drop at t)) n → incomplete ≡ verdictOf base t
+  pub ends-short : afterField d (drop at t) ≡ short → incomplete ≡ verdictOf base t
   unfolding afterField
-  left-short n k g =
-      let p : Goes t (at + 1) (afterField d (drop at t)) Nexts.Short = subst (Goes t (at + 1) (afterField d (drop at t))) k g in
-      sym (turned ∙ next-short (length t) d (s .fuel - 1) (field base d (drop at t) .events) (field base d (drop at t) .outcome) (p .same))
+  ends-short k = sym (turned ∙ next-short (length t) d (s .fuel - 1) (field base d (drop at t) .events) (field base d (drop at t) .outcome) k)
+
+  pub ends-broken : (i : ℕ) → i ≤ length t → afterField d (drop at t) ≡ broken (drop i t) → brokenAt i ≡ verdictOf base t
+  unfolding afterField
+  ends-broken i m k =
+      let c : length t - length (drop i t) ≡ i = omega (arith, length-drop i t) in
+      sym (turned ∙ next-broken (length t) d (s .fuel - 1) (field base d (drop at t) .events) (field base d (drop at t) .outcome) (drop i t) k ∙ ap brokenAt c)
+
+  -- and by the answer on it
+  pub left-next : (n : Next) (i e : ℕ) → n ≡ Nexts.At i e → Goes t (at + 1) (afterField d (drop at t)) n → Left t i e
+  left-next n i e k g =
+      let p : Goes t (at + 1) (afterField d (drop at t)) (Nexts.At i e) = subst (Goes t (at + 1) (afterField d (drop at t))) k g in
+      goes-on i e (p .past .0) (p .past .1) (p .same)
+
+  pub left-short : (n : Next) → n ≡ Nexts.Short → Goes t (at + 1) (afterField d (drop at t)) n → incomplete ≡ verdictOf base t
+  left-short n k g = ends-short (subst (Goes t (at + 1) (afterField d (drop at t))) k g .same)
 
   pub left-broken : (n : Next) (i : ℕ) → n ≡ Nexts.Broken i → Goes t (at + 1) (afterField d (drop at t)) n → brokenAt i ≡ verdictOf base t
-  unfolding afterField
   left-broken n i k g =
       let p : Goes t (at + 1) (afterField d (drop at t)) (Nexts.Broken i) = subst (Goes t (at + 1) (afterField d (drop at t))) k g in
-      let c : length t - length (drop i t) ≡ i = omega (arith, length-drop i t, p .past) in
-      sym (turned ∙ next-broken (length t) d (s .fuel - 1) (field base d (drop at t) .events) (field base d (drop at t) .outcome) (drop i t) (p .same) ∙ ap brokenAt c)
+      ends-broken i (p .past) (p .same)
 
 -- the end
 none-left : (n k d : ℕ) → verdictBy k (fieldsFrom base n d [] .outcome) ≡ pick (eqb d 0) complete incomplete

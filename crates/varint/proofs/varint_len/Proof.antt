@@ -1,29 +1,17 @@
--- `varint::varint_len` meets its contract: a turn takes one byte off the rest.
-use Prim.Native.Nat.{_+_}
-use mathlib.Core.Path.{_≡_}
-use native.Mathlib.Omega.{arith}
-use lib.ListN.{length}
-use Rattle.layout.specs.Limits.{base}
-use Rattle.layout.specs.Varint.{shortest}
-use Rattle.varint.proofs.Shortest.{length-one, length-more, length-longest}
+-- `varint::varint_len` meets its contract.
+use native.Mathlib.Nat.{le-trans}
+use lib.Count.{leading-le}
+use lib.Dec.{lit≤}
+use Rattle.varint.proofs.Width.{width-is}
+use borrow.Author.Needs.{needs}
 use Rattle.varint.proofs.varint_len.Statement.{statement}
 use Rattle.varint.proofs.varint_len.Tie as tie
 
-abbrev Inv-loop : tie.InvT-loop
-Inv-loop v rest₀ len₀ rest len = len + length (shortest rest) ≡ length (shortest v) + 1
+sub-result : tie.Need-sub-result
+sub-result c = le-trans (leading-le 64 _) (lit≤ tt)
 
-abbrev μ-loop : tie.MeasureT-loop
-μ-loop v rest₀ len₀ rest len = rest
-
-add-len : tie.Need-add-len Inv-loop μ-loop
-add-len c = omega (arith, length-longest base (c .before .before .args .v) (c .before .before .fits .v .fits))
-
-loop-again : tie.Need-loop-again Inv-loop μ-loop
-loop-again c = omega (arith, length-more (c .before .loop .rest) (omega (arith, c .loop-test .taken)))
-
-returns : tie.Need-returns Inv-loop μ-loop
-returns c = omega (arith, length-one (c .before .loop .rest) (omega (arith, c .loop-test .left)))
+returns : tie.Need-returns
+returns c = width-is 64 (c .args .v) (lit≤ tt) (c .fits .v .fits)
 
 pub varint-len-spec : {M : Type 1} → statement M
-varint-len-spec =
-    tie.close (tie.spec Inv-loop μ-loop (λ c. omega arith) add-len (λ c. omega arith) loop-again returns)
+varint-len-spec = tie.close (tie.spec sub-result (λ c. search needs) returns)

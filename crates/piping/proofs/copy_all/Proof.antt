@@ -1,9 +1,9 @@
--- `manifest::copy_all` is safe and ends: each turn takes one from `turns`.
+-- `piping::copy_all` is safe and ends: each turn takes one from `turns`.
 use borrow.Author.Needs.{needs}
 use mathlib.Core.Path.{_≡_}
 use lib.ListN.{length}
-use Rattle.manifest.proofs.copy_all.Statement.{statement}
-use Rattle.manifest.proofs.copy_all.Tie as tie
+use Rattle.piping.proofs.copy_all.Statement.{statement}
+use Rattle.piping.proofs.copy_all.Tie as tie
 
 abbrev Inv-loop : tie.InvT-loop
 Inv-loop input₀ out₀ c₀ turns₀ input out c turns = (length input ≡ length input₀) × (length out ≡ length out₀)

@@ -25,7 +25,7 @@ elements-len-requires c κs =
     let n = f .before .before in
     let s = n .before .before in
     let b = behind (λ i. n .before .shared-slice-known .given i .fits) count-reads (s .pre .2) (f .found .given .1) (n .count-at .ensures) (c .width .ensures) in
-    (b .1, b .0)
+    (b .1, omega (arith, b .0))
 
 returns-2 : tie.Need-returns-2
 returns-2 c =

@@ -15,11 +15,11 @@ use lengths::fixlen_len;
 use lengths::float_array_len;
 use lengths::no_place;
 use lengths::scalar_len;
-use lengths::width;
 use passing::Found;
 use passing::header_at;
 use passing::no_value;
 use types::MAX_DEPTH;
+use varint::width;
 
 // The length of a message's plain copy; or the message is incomplete, or broken, with the number of bytes up to the offending one, which is
 // counted.

@@ -4,7 +4,7 @@ use emit::Cursor;
 use emit::least;
 use emit::put_fitting;
 use varint::VARINT_MAX;
-use varint::varint_len;
+use varint::width;
 use varint::zigzag_encode;
 use varint_bytes::put_whole;
 ghost use mathlib.Core.Path.{_≡_};
@@ -80,7 +80,7 @@ pub fn varints_out(items: &[u64], skip: usize) -> Out
     let mut i: usize = 0;
     while i < items.len() {
         let v = items[i];
-        let len = varint_len(v);
+        let len = width(v);
         if left < len {
             return Out {
                 whole: i,
@@ -104,7 +104,7 @@ pub fn zigzags_out(items: &[i64], skip: usize) -> Out
     let mut i: usize = 0;
     while i < items.len() {
         let v = items[i];
-        let len = varint_len(zigzag_encode(v));
+        let len = width(zigzag_encode(v));
         if left < len {
             return Out {
                 whole: i,

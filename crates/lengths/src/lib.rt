@@ -5,7 +5,7 @@ ghost use mathlib.Core.Path.{_≡_};
 ghost use Prim.Native.Nat.{_≤_};
 ghost use lib.ListN.{length, drop};
 ghost use Rattle.layout.specs.Limits.{base};
-ghost use Rattle.layout.specs.Varint.{varint, shortest};
+ghost use Rattle.layout.specs.Varint.{varint};
 ghost use Rattle.layout.specs.Field.{T-unsigned, T-signed, T-fixlen, T-unsigneds, T-signeds, T-floats};
 ghost use Rattle.lengths.specs.Lengths.{Sizes, BodySizes, sized, varintLength, varints, noPlace};
 use bodies::bytes_at;
@@ -18,6 +18,7 @@ use passing::no_value;
 use passing::varint_at;
 use shortest::long_number_at;
 use varint::varint_len;
+use varint::width;
 
 // The place after something, and the length of the plain copy up to there; or the message ends within it; or the place after the byte that
 // breaks it.
@@ -39,19 +40,6 @@ pub fn no_place(l: Land) -> Extent
 }
 
 // ---- varints
-
-// How many bytes a value needs: most have 7 bits, or 14.
-pub fn width(v: u64) -> usize
-    ensures { λ r. ⌜ r ≡ length (shortest v) ⌝ }
-{
-    if v < 128 {
-        return 1;
-    }
-    if v < 16384 {
-        return 2;
-    }
-    varint_len(v)
-}
 
 // Any varint, by its value.
 fn value_len(t: &[u8], at: usize, len: usize) -> Extent

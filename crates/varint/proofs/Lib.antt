@@ -1,4 +1,4 @@
--- `Laws` is what callers of the step cite; `Step`, `Shortest`, `Width` and `Zigzag` are laws of the layout's own definitions, over any width.
+-- `Laws` is what callers of the step cite; `Step`, `Shortest`, `Zeros` and `Zigzag` are laws of the layout's own definitions, over any width.
 -- `Digits` and `Sign` say what the machine's operations come to.
 pub mod Digits
 pub mod Sign
@@ -6,4 +6,4 @@ pub mod Step
 pub mod Laws
 pub mod Zigzag
 pub mod Shortest
-pub mod Width
+pub mod Zeros

@@ -112,3 +112,16 @@ pub fn varint_len(v: u64) -> usize
     let zeros = u64::leading_zeros(v | 1);
     ((70 - zeros) / 7) as usize
 }
+
+// The same, sooner where the value has 7 bits or 14, as most have: for loops over many of them.
+pub fn width(v: u64) -> usize
+    ensures { λ r. ⌜ r ≡ length (shortest v) ⌝ }
+{
+    if v < 128 {
+        return 1;
+    }
+    if v < 16384 {
+        return 2;
+    }
+    varint_len(v)
+}

@@ -11,7 +11,7 @@ use Rattle.elements.proofs.varints_out.Statement.{statement}
 use Rattle.elements.proofs.varints_out.Tie as tie
 use Rattle.elements.proofs.varints_out.Reads as reads
 use Rattle.elements.proofs.varints_out.Lts as lts
-use Rattle.varint.proofs.varint_len.Reads as varint-len-reads
+use Rattle.varint.proofs.width.Reads as width-reads
 
 abbrev Inv-loop : tie.InvT-loop
 Inv-loop items skip left₀ i₀ left i = Counting shortest items skip left i
@@ -22,14 +22,14 @@ abbrev μ-loop : tie.MeasureT-loop
 loop-holds : tie.Need-loop-holds Inv-loop μ-loop
 loop-holds c = out-start _ _ _
 
-most : (c : tie.After-varint-len Inv-loop μ-loop) → c .varint-len .result ≤ longest base
-most c = let e = c .varint-len .ensures in let l = length-longest base (getD (c .before .before .before .before .before .args .items .now) (c .before .before .before .loop .i) 0) (c .before .shared-slice-known2 .given (c .before .before .before .loop .i) .fits) in omega arith
+most : (c : tie.After-width Inv-loop μ-loop) → c .width .result ≤ longest base
+most c = let e = c .width .ensures in let l = length-longest base (getD (c .before .before .before .before .before .args .items .now) (c .before .before .before .loop .i) 0) (c .before .shared-slice-known2 .given (c .before .before .before .loop .i) .fits) in omega arith
 
 returns : tie.Need-returns Inv-loop μ-loop
-returns c = out-stop _ _ _ _ _ (c .before .before .before .before .loop .inv) 0 _ (c .before .before .before .loop-test .taken) (c .before .varint-len .ensures) (most (c .before)) (c .if1 .taken)
+returns c = out-stop _ _ _ _ _ (c .before .before .before .before .loop .inv) 0 _ (c .before .before .before .loop-test .taken) (c .before .width .ensures) (most (c .before)) (c .if1 .taken)
 
 loop-again : tie.Need-loop-again Inv-loop μ-loop
-loop-again c = out-next _ _ _ _ _ (c .before .before .before .before .loop .inv) 0 _ (c .before .before .before .loop-test .taken) (c .before .varint-len .ensures) (most (c .before)) (c .if1 .left)
+loop-again c = out-next _ _ _ _ _ (c .before .before .before .before .loop .inv) 0 _ (c .before .before .before .loop-test .taken) (c .before .width .ensures) (most (c .before)) (c .if1 .left)
 
 returns-2 : tie.Need-returns-2 Inv-loop μ-loop
 returns-2 c = out-end _ _ _ _ _ (c .before .loop .inv) (c .loop-test .left)

@@ -16,7 +16,7 @@ use Rattle.elements.proofs.zigzags_out.Statement.{statement}
 use Rattle.elements.proofs.zigzags_out.Tie as tie
 use Rattle.elements.proofs.zigzags_out.Reads as reads
 use Rattle.elements.proofs.zigzags_out.Lts as lts
-use Rattle.varint.proofs.varint_len.Reads as varint-len-reads
+use Rattle.varint.proofs.width.Reads as width-reads
 use Rattle.varint.proofs.zigzag_encode.Reads as zigzag-encode-reads
 
 abbrev Inv-loop : tie.InvT-loop
@@ -29,13 +29,13 @@ loop-holds : tie.Need-loop-holds Inv-loop μ-loop
 loop-holds c = out-start _ _ _
 
 -- the length that the code takes is that of the element's varint
-long : (c : tie.After-varint-len Inv-loop μ-loop) → c .varint-len .result ≡ length (shortest (zigzag (getD (c .before .before .before .before .before .args .items .now) (c .before .before .before .before .loop .i) (pos 0))))
+long : (c : tie.After-width Inv-loop μ-loop) → c .width .result ≡ length (shortest (zigzag (getD (c .before .before .before .before .before .args .items .now) (c .before .before .before .before .loop .i) (pos 0))))
 long c =
     let z : ℤ = getD (c .before .before .before .before .before .args .items .now) (c .before .before .before .before .loop .i) (pos 0) in
-    c .varint-len .ensures ∙ ap (λ (v : ℕ). length (shortest v)) (c .before .zigzag-encode .ensures ∙ ap zigzag (toZ-ofZ w64 z (sfits-of (c .before .before .v .given))))
+    c .width .ensures ∙ ap (λ (v : ℕ). length (shortest v)) (c .before .zigzag-encode .ensures ∙ ap zigzag (toZ-ofZ w64 z (sfits-of (c .before .before .v .given))))
 
-most : (c : tie.After-varint-len Inv-loop μ-loop) → c .varint-len .result ≤ longest base
-most c = let e = c .varint-len .ensures in let l = length-longest base _ (c .before .zigzag-encode .ok) in omega arith
+most : (c : tie.After-width Inv-loop μ-loop) → c .width .result ≤ longest base
+most c = let e = c .width .ensures in let l = length-longest base _ (c .before .zigzag-encode .ok) in omega arith
 
 returns : tie.Need-returns Inv-loop μ-loop
 returns c = out-stop _ _ _ _ _ (c .before .before .before .before .before .loop .inv) (pos 0) _ (c .before .before .before .before .loop-test .taken) (long (c .before)) (most (c .before)) (c .if1 .taken)

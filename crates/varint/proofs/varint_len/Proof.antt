@@ -2,7 +2,7 @@
 use native.Mathlib.Nat.{le-trans}
 use lib.Count.{leading-le}
 use lib.Dec.{lit≤}
-use Rattle.varint.proofs.Width.{width-is}
+use Rattle.varint.proofs.Zeros.{width-is}
 use borrow.Author.Needs.{needs}
 use Rattle.varint.proofs.varint_len.Statement.{statement}
 use Rattle.varint.proofs.varint_len.Tie as tie

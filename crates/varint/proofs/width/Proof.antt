@@ -1,10 +1,10 @@
--- `lengths::width` meets its contract.
+-- `varint::width` meets its contract.
 use native.Mathlib.Omega.{arith}
 use mathlib.Core.Path.{sym}
 use Rattle.varint.proofs.Shortest.{length-one, length-at-most, length-above}
 use borrow.Author.Needs.{needs}
-use Rattle.lengths.proofs.width.Statement.{statement}
-use Rattle.lengths.proofs.width.Tie as tie
+use Rattle.varint.proofs.width.Statement.{statement}
+use Rattle.varint.proofs.width.Tie as tie
 
 returns : tie.Need-returns
 returns c = sym (length-one _ (c .if1 .taken))

@@ -24,7 +24,7 @@ use Rattle.copy_len.specs.declared.Length.{Length}
 use Rattle.copy_len.specs.declared.Length.the-variants as answers
 use Rattle.copy_len.specs.CopyLen.{lengthIn, lengthOf}
 
--- "No complete ticket with those events is shorter", the message itself neither: so a length is one that an answer can name.
+-- No complete message with those events is shorter, the message itself neither: so a length is one that an answer can name.
 pub length-small : (T : List ℕ) → Bytes T → length T < 9223372036854775808 → (l : Length) → l ≡ lengthOf T → (n : ℕ) → l ≡ answers.Bytes n → n < 9223372036854775808
 length-small T a h l e n g = go (verdictOf base T) refl
   where

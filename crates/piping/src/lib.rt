@@ -1,7 +1,9 @@
-// A message from standard input through the copier, chunk by chunk, to standard output; or only counted.
+// A message from standard input through the copier, chunk by chunk, to standard output; or only counted. And what a program says of a message, or
+// of a file, that isn't as it should be: `./sofab` makes its status of these lines.
 use copier::Answer;
 use copier::Copier;
 use istream::Status;
+use libc::STDERR_FILENO;
 use libc::STDIN_FILENO;
 use libc::STDOUT_FILENO;
 use ostream::Count;
@@ -132,8 +134,8 @@ fn step(mut c: Copy, input: &[u8], out: &mut [u8]) -> Copy {
 }
 
 // Call by call to the end of the input. Nothing says that an input ends, so the count falls from a number that no run uses up.
-pub fn copy_all(start: Copy, input: &mut [u8], out: &mut [u8]) -> Copy {
-    let mut c = start;
+pub fn copy_all(begun: Copy, input: &mut [u8], out: &mut [u8]) -> Copy {
+    let mut c = begun;
     let mut turns = u64::MAX;
     while 0 < turns && !c.ended {
         c = refill(c, input);
@@ -141,4 +143,33 @@ pub fn copy_all(start: Copy, input: &mut [u8], out: &mut [u8]) -> Copy {
         turns -= 1;
     }
     c
+}
+
+// ---- what goes to standard error, by the program's name
+
+pub fn complain(name: &[u8], what: &[u8]) {
+    io::write_all(STDERR_FILENO, name);
+    io::write_all(STDERR_FILENO, what);
+}
+
+fn complain_at(name: &[u8], what: &[u8], byte: u64) {
+    complain(name, what);
+    io::print_decimal(STDERR_FILENO, byte);
+    io::write_all(STDERR_FILENO, b"\n");
+}
+
+pub fn unread(name: &[u8]) {
+    complain(name, b": standard input cannot be read\n");
+}
+
+pub fn unwritten(name: &[u8]) {
+    complain(name, b": standard output cannot be written\n");
+}
+
+pub fn broken(name: &[u8], byte: u64) {
+    complain_at(name, b": broken at byte ", byte);
+}
+
+pub fn incomplete(name: &[u8], bytes: u64) {
+    complain_at(name, b": incomplete, it ends after byte ", bytes);
 }

@@ -16,7 +16,7 @@ use phase::{Carried, Phase, floats, idle, signeds, unsigneds};
 use types::FloatType;
 
 // How many bytes go as they came, and the reader behind them.
-#[derive(Drop)]
+#[derive(Clone, Copy)]
 pub struct Block {
     pub len: usize,
     pub reader: IStream,

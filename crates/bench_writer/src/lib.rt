@@ -4,7 +4,7 @@ use ostream::{Answer, OStream, Written};
 use std::num::wrapping_add_usize;
 
 // The writer, the number of the call that is next, and the place in its output to go on from.
-#[derive(Drop)]
+#[derive(Clone, Copy)]
 struct Run {
     stream: OStream,
     i: usize,
@@ -12,7 +12,7 @@ struct Run {
 }
 
 // A call: 0 a number, 1 a string, 2 a blob, 3 an array, 4 an open, 5 a close, 6 a float.
-#[derive(Drop)]
+#[derive(Clone, Copy)]
 struct Call {
     code: u32,
     id: u32,

@@ -7,7 +7,7 @@ use places::sound_for;
 use types::{Error, LAZY_SEQ_DEPTH};
 
 // The old position, below which the bytes to be sent stand, and the new one; or refused.
-#[derive(Drop)]
+#[derive(Clone, Copy)]
 pub enum Moved {
     To(usize, usize),
     Refused(Error),

@@ -9,13 +9,13 @@ use phase::{Carried, Phase, Stepped};
 use types::Error;
 
 // A verdict, once a chunk is spent: the bytes so far end at a field boundary with no sequence open, or within something.
-#[derive(Drop)]
+#[derive(Clone, Copy)]
 pub enum Status {
     Complete,
     Incomplete,
 }
 
-#[derive(Drop)]
+#[derive(Clone, Copy)]
 pub enum Answer {
     Event(Event),
     Status(Status),
@@ -23,7 +23,7 @@ pub enum Answer {
 }
 
 // The bytes read of the chunk, the answer, and the state after the call.
-#[derive(Drop)]
+#[derive(Clone, Copy)]
 pub struct CallEnd {
     pub read: usize,
     pub answer: Answer,

@@ -9,7 +9,7 @@ ghost use Rattle.checks.specs.Check.{check_of};
 use types::{Error, FIXLEN_MAX, FixlenType, ID_MAX, MAX_DEPTH};
 
 // Whether a call's first tests pass; else the refusal. (With `ok`, the error says nothing: the place is tested later.)
-#[derive(Drop)]
+#[derive(Clone, Copy)]
 pub struct Check {
     pub ok: bool,
     pub error: Error,

@@ -16,7 +16,7 @@ pub use turns::Answer;
 use turns::{Stop, run};
 use types::Error;
 
-#[derive(Drop)]
+#[derive(Clone, Copy)]
 pub struct Copier {
     pub reader: IStream,
     pub writer: OStream,
@@ -25,7 +25,7 @@ pub struct Copier {
 }
 
 // The bytes used of the chunk, the answer and the state after the call.
-#[derive(Drop)]
+#[derive(Clone, Copy)]
 pub struct Copied {
     pub used: usize,
     pub answer: Answer,
@@ -33,20 +33,20 @@ pub struct Copied {
 }
 
 // Whether the buffer was taken.
-#[derive(Drop)]
+#[derive(Clone, Copy)]
 pub enum Opening {
     Open,
     Refused(Error),
 }
 
-#[derive(Drop)]
+#[derive(Clone, Copy)]
 pub struct Opened {
     pub answer: Opening,
     pub copier: Copier,
 }
 
 // How many bytes of the buffer the caller has to send, or the refusal, and the state after it.
-#[derive(Drop)]
+#[derive(Clone, Copy)]
 pub struct Drained {
     pub answer: Count,
     pub copier: Copier,

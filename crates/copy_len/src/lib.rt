@@ -15,7 +15,7 @@ use varint::width;
 
 // The length of a message's plain copy; or the message is incomplete, or broken, with the number of bytes up to the offending one, which is
 // counted.
-#[derive(Drop)]
+#[derive(Clone, Copy)]
 pub enum Length {
     Bytes(usize),
     Incomplete,
@@ -24,7 +24,7 @@ pub enum Length {
 
 // The place after a field, the depth there, and the length of the plain copy up to there; or the message ends within it; or the place after
 // the byte that breaks it.
-#[derive(Drop)]
+#[derive(Clone, Copy)]
 enum Next {
     At(usize, u32, usize),
     Short,

@@ -8,7 +8,7 @@ use types::Error;
 
 // How many drains, and the length of the copy; or the message is incomplete, or broken, with the number of bytes up to the offending one,
 // which is counted; or a buffer of no bytes is refused.
-#[derive(Drop)]
+#[derive(Clone, Copy)]
 pub enum Drains {
     Count(usize, usize),
     Incomplete,

@@ -14,7 +14,7 @@ use varint::{VARINT_MAX, width, zigzag_encode};
 use varint_bytes::put_whole;
 
 // How much of an array's elements is out: whole ones, and bytes of the next.
-#[derive(Drop)]
+#[derive(Clone, Copy)]
 pub struct Out {
     pub whole: usize,
     pub part: usize,

@@ -13,7 +13,7 @@ use varint::varint_len;
 use varint_bytes::put_whole;
 
 // Where the output's next byte stands in the buffer, and how many bytes still to come are out already.
-#[derive(Drop)]
+#[derive(Clone, Copy)]
 pub struct Cursor {
     pub pos: usize,
     pub skip: usize,

@@ -11,7 +11,7 @@ ghost use Rattle.event.specs.Event.{fp32_of, fp64_of, declared, piece_in};
 use types::{ArrayKind, FixlenType, FloatType, RawType};
 
 // A piece of a payload: the payload's length, the piece's place in it, and the piece's bounds in the chunk lent.
-#[derive(Drop)]
+#[derive(Clone, Copy)]
 pub struct Bounds {
     pub total: u32,
     pub offset: u32,
@@ -19,7 +19,7 @@ pub struct Bounds {
     pub to: usize,
 }
 
-#[derive(Drop)]
+#[derive(Clone, Copy)]
 pub enum Event {
     Unsigned(u32, u64),
     Signed(u32, i64),

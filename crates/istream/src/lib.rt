@@ -15,14 +15,14 @@ use read_at_once::{Once, at_once};
 use read_slowly::{payload, slowly};
 
 // What is under way, and what goes along with it.
-#[derive(Drop)]
+#[derive(Clone, Copy)]
 pub struct IStream {
     pub phase: Phase,
     pub carried: Carried,
 }
 
 // Where a reader stands between two calls: as a verdict says, or broken, after which every call is refused.
-#[derive(Drop)]
+#[derive(Clone, Copy)]
 pub enum Standing {
     Complete,
     Incomplete,
@@ -30,7 +30,7 @@ pub enum Standing {
 }
 
 // The bytes read of the chunk, the answer and the state after the call.
-#[derive(Drop)]
+#[derive(Clone, Copy)]
 pub struct Fed {
     pub read: usize,
     pub answer: Answer,
@@ -38,13 +38,13 @@ pub struct Fed {
 }
 
 // What a call through a reference answers: the bytes read of the chunk, and the answer.
-#[derive(Drop)]
+#[derive(Clone, Copy)]
 pub struct Heard {
     pub read: usize,
     pub answer: Answer,
 }
 
-#[derive(Drop)]
+#[derive(Clone, Copy)]
 pub struct Taken {
     pub heard: Heard,
     pub stream: IStream,

@@ -5,7 +5,7 @@ ghost use Rattle.last_line.specs.Verdict.{verdict_in};
 
 use emit::put_rest;
 
-#[derive(Drop)]
+#[derive(Clone, Copy)]
 pub enum Verdict {
     Complete,
     Incomplete,

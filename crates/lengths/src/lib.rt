@@ -14,7 +14,7 @@ use varint::{varint_len, width};
 
 // The place after something, and the length of the plain copy up to there; or the message ends within it; or the place after the byte that
 // breaks it.
-#[derive(Drop)]
+#[derive(Clone, Copy)]
 pub enum Extent {
     At(usize, usize),
     Short,

@@ -5,7 +5,7 @@ use libc::{STDERR_FILENO, STDIN_FILENO, STDOUT_FILENO};
 use listing::Listing;
 
 // How far the list has come: more input may follow, the input is at its end or the message is broken, or a read or a write failed.
-#[derive(Drop)]
+#[derive(Clone, Copy)]
 enum State {
     Open,
     Ended,
@@ -13,14 +13,14 @@ enum State {
     Unwritten,
 }
 
-#[derive(Drop)]
+#[derive(Clone, Copy)]
 struct Listed {
     listing: Listing,
     state: State,
 }
 
 // What the next read brings: a chunk, the end of the input, or a failure.
-#[derive(Drop)]
+#[derive(Clone, Copy)]
 enum Got {
     Chunk(usize),
     End,

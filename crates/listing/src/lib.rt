@@ -13,7 +13,7 @@ const BYTE_LINE: usize = 6;
 
 // The reader, how much of the chunk it has read, where the text ends, whether the rest of the chunk is still to be handed in, and the
 // verdict, which counts once it isn't.
-#[derive(Drop)]
+#[derive(Clone, Copy)]
 pub struct Listing {
     pub stream: IStream,
     pub from: usize,

@@ -21,7 +21,7 @@ use types::{Error, LAZY_SEQ_DEPTH};
 
 // A writer's state. `offset` is where the next byte goes; `depth` counts the open sequences; `pending` has the ids of the innermost
 // `npending` of them, whose headers are held back, and zero elsewhere. (The fields' order is for speed.)
-#[derive(Drop)]
+#[derive(Clone, Copy)]
 pub struct OStream {
     pub offset: usize,
     pub pending: [u32; LAZY_SEQ_DEPTH],
@@ -30,27 +30,27 @@ pub struct OStream {
 }
 
 // What a call comes to: all its bytes are out; the buffer is full, and that many are out; or refused.
-#[derive(Drop)]
+#[derive(Clone, Copy)]
 pub enum Answer {
     Done,
     Full(usize),
     Refused(Error),
 }
 
-#[derive(Drop)]
+#[derive(Clone, Copy)]
 pub struct Written {
     pub answer: Answer,
     pub stream: OStream,
 }
 
 // What a call comes to that answers a position: that many bytes stand below it.
-#[derive(Drop)]
+#[derive(Clone, Copy)]
 pub enum Count {
     Bytes(usize),
     Refused(Error),
 }
 
-#[derive(Drop)]
+#[derive(Clone, Copy)]
 pub struct Counted {
     pub answer: Count,
     pub stream: OStream,

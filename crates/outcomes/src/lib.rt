@@ -5,7 +5,7 @@ ghost use Rattle.outcomes.specs.Outcome.{reaches};
 use types::Error;
 
 // What a call comes to: all its bytes are out, up to a position; the buffer is full, and that many are out; or refused.
-#[derive(Drop)]
+#[derive(Clone, Copy)]
 pub enum Outcome {
     Through(usize),
     Full(usize),

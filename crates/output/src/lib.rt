@@ -7,7 +7,7 @@ use emit::{Cursor, put_fitting};
 use varint::{VARINT_MAX, varint_len};
 
 // The bytes that an event is written as: varints one after another, or a float's four or eight low bytes.
-#[derive(Drop)]
+#[derive(Clone, Copy)]
 pub enum Output {
     Empty,
     One(u64),

@@ -15,7 +15,7 @@ use varint::zigzag_encode;
 // An event that is read and not yet written whole. Only events that the layout allows, but for their numbers' limits: `Element` and
 // `SignedElement` stand in an array, and go out bare as the floats do; `Float` and `Payload` announce a fixed-length field. A payload's
 // piece is never owed: it counts as read only as far as it is out.
-#[derive(Drop)]
+#[derive(Clone, Copy)]
 pub enum Owed {
     Nothing,
     Unsigned(u32, u64),

@@ -13,35 +13,35 @@ use types::{ARRAY_MAX, FIXLEN_MAX, ID_MAX, MAX_DEPTH};
 use varint::{Acc, Push};
 
 // Fields: how many bytes they have, and the depth after them.
-#[derive(Drop)]
+#[derive(Clone, Copy)]
 pub struct Run {
     pub len: usize,
     pub depth: u8,
 }
 
 // Elements of an array: how many bytes they have, and how many they are.
-#[derive(Drop)]
+#[derive(Clone, Copy)]
 pub struct Counted {
     pub len: usize,
     pub count: u32,
 }
 
 // A varint's value and the place after it, or 0.
-#[derive(Drop)]
+#[derive(Clone, Copy)]
 struct Found {
     value: u64,
     end: usize,
 }
 
 // Varints in a row: the place after them, and how many they are.
-#[derive(Drop)]
+#[derive(Clone, Copy)]
 struct Row {
     end: usize,
     count: u32,
 }
 
 // The place after a field, or 0, and the depth there.
-#[derive(Drop)]
+#[derive(Clone, Copy)]
 struct Next {
     at: usize,
     depth: u8,

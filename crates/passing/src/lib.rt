@@ -10,7 +10,7 @@ use types::{ARRAY_MAX, ID_MAX};
 use varint::{Acc, LAST_BYTE, Push};
 
 // A varint's value and the place after it; or the message ends within it; or the place after the byte that breaks it.
-#[derive(Drop)]
+#[derive(Clone, Copy)]
 pub enum Found {
     Value(u64, usize),
     Short,
@@ -18,7 +18,7 @@ pub enum Found {
 }
 
 // The place after something; or the message ends within it; or the place after the byte that breaks it.
-#[derive(Drop)]
+#[derive(Clone, Copy)]
 pub enum Land {
     At(usize),
     Short,

@@ -8,14 +8,14 @@ ghost use Rattle.payload.specs.Words.{state_of, said_of, result_of};
 use types::Error;
 
 // How much of the current payload the lent buffer holds, and whether that payload was already whole.
-#[derive(Drop)]
+#[derive(Clone, Copy)]
 pub struct PayloadAcc {
     pub len: usize,
     pub complete: bool,
 }
 
 // What `feed` says: nothing yet; whole, as the first so many bytes of the chunk or of the buffer; or refused.
-#[derive(Drop)]
+#[derive(Clone, Copy)]
 pub enum Answer {
     Nothing,
     InChunk(usize),
@@ -23,7 +23,7 @@ pub enum Answer {
     Refused(Error),
 }
 
-#[derive(Drop)]
+#[derive(Clone, Copy)]
 pub struct Fed {
     pub answer: Answer,
     pub acc: PayloadAcc,

@@ -14,7 +14,7 @@ use varint::Acc;
 // What is under way, with the numbers in force and no others: the id; an array's elements from the current one on, 0 for a scalar; a
 // varint or a float's bytes so far, or a payload's length and the place reached in it. Between fields no byte of a header is taken.
 // `Empty`: an empty payload's one piece is still due. `Broken` is never left.
-#[derive(Drop)]
+#[derive(Clone, Copy)]
 pub enum Phase {
     Header(Acc),
     Unsigned(u32, u32, Acc),
@@ -31,13 +31,13 @@ pub enum Phase {
 }
 
 // What every step carries along, whatever is under way: how many sequences are open.
-#[derive(Drop)]
+#[derive(Clone, Copy)]
 pub struct Carried {
     pub depth: u8,
 }
 
 // What one byte comes to: the phase after it and what is carried along, an event before them, or a broken message.
-#[derive(Drop)]
+#[derive(Clone, Copy)]
 pub enum Stepped {
     On(Phase, Carried),
     Raised(Event, Phase, Carried),

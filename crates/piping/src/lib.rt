@@ -21,7 +21,7 @@ pub const UNWRITTEN: u8 = 5;
 
 // The copier, the chunk and how much of it is used, how many bytes of the message it was given and how many it gave, where it stands, whether
 // that is all, and whether the copy is only counted.
-#[derive(Drop)]
+#[derive(Clone, Copy)]
 pub struct Copy {
     pub copier: Copier,
     pub from: usize,

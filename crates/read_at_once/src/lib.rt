@@ -14,7 +14,7 @@ use varint::{Acc, Push, zigzag_decode};
 use words::fixlen;
 
 // A varint's value and the place after it; or it doesn't stand whole in the chunk, or is broken.
-#[derive(Drop)]
+#[derive(Clone, Copy)]
 enum Found {
     Whole(u64, usize),
     Other,
@@ -22,7 +22,7 @@ enum Found {
 
 // The state after a call, its event and the bytes read; or the chunk is spent, and the state stays; or what the call comes to isn't found
 // at once. (The fields' order is for speed.)
-#[derive(Drop)]
+#[derive(Clone, Copy)]
 pub enum Once {
     Done(Phase, Carried, Event, usize),
     Spent,

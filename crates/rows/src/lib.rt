@@ -67,7 +67,7 @@ pub fn set(text: &[u8], start: [u64; 32]) -> [u64; 32] {
 }
 
 // The bytes of a word in hexadecimal, and how many.
-#[derive(Drop)]
+#[derive(Clone, Copy)]
 pub struct Bytes {
     pub bytes: [u8; 256],
     pub len: usize,

@@ -6,7 +6,7 @@ ghost use Rattle.shown.specs.Spelled.{part_text, lined, closed, Shows};
 use event::{Bounds, Event, fp32_bits, fp64_bits};
 
 // A part of a line after its letter. `Minus` is a number below 0, by its size.
-#[derive(Drop)]
+#[derive(Clone, Copy)]
 pub enum Part {
     Nothing,
     Number(u64),
@@ -15,7 +15,7 @@ pub enum Part {
     Bits64(u64),
 }
 
-#[derive(Drop)]
+#[derive(Clone, Copy)]
 pub struct Line {
     pub letter: u8,
     pub first: Part,
@@ -24,7 +24,7 @@ pub struct Line {
 }
 
 // An event has one line; a piece has one for each of its bytes.
-#[derive(Drop)]
+#[derive(Clone, Copy)]
 pub enum Shown {
     Line(Line),
     Piece(Bounds),

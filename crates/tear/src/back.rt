@@ -5,7 +5,7 @@ use listing::Listing;
 use std::num::wrapping_add_u64;
 
 // What a reading comes to: it is the same for the same events, and for others hardly ever.
-#[derive(Drop)]
+#[derive(Clone, Copy)]
 pub struct Sum {
     pub sum: u64,
     pub bytes: u64,

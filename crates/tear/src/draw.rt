@@ -4,7 +4,7 @@ use std::num::wrapping_add_usize;
 
 // The last number drawn, the chunk's rest, whether it is over, and whether the cuts are shown; of a copy, the last verdict, whether the
 // buffer is drained before the next call, how much was sent, and whether all of it was as expected.
-#[derive(Drop)]
+#[derive(Clone, Copy)]
 pub struct Cut {
     pub random: u64,
     pub from: usize,

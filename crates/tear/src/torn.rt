@@ -6,7 +6,7 @@ use istream::Status;
 use ostream::Count;
 use std::num::wrapping_add_usize;
 
-#[derive(Drop)]
+#[derive(Clone, Copy)]
 struct Torn {
     copier: Copier,
     cut: Cut,

@@ -12,7 +12,7 @@ fn acc(desk: &[u64]) -> PayloadAcc {
 }
 
 // What a call tells, the desk's words 23 and 24.
-#[derive(Drop)]
+#[derive(Clone, Copy)]
 struct Tale {
     tag: u64,
     n: usize,

@@ -108,7 +108,7 @@ pub fn store(stream: IStream, desk: &mut [u64]) {
 }
 
 // What a call tells, the desk's words 23 to 30 with the bytes read at 24.
-#[derive(Drop)]
+#[derive(Clone, Copy)]
 struct Tale {
     tag: u64,
     id: u32,

@@ -76,7 +76,7 @@ fn store(k: Copier, desk: &mut [u64]) {
 }
 
 // What a call leaves: the copier, and the words 23 to 27.
-#[derive(Drop)]
+#[derive(Clone, Copy)]
 struct Left {
     copier: Copier,
     told: [u64; 5],

@@ -55,7 +55,7 @@ pub fn store(s: OStream, desk: &mut [u64]) {
 }
 
 // A call's numbers.
-#[derive(Drop)]
+#[derive(Clone, Copy)]
 pub struct Call {
     pub writer: OStream,
     pub code: u64,
@@ -88,7 +88,7 @@ pub fn counted(c: Count) -> [u64; 2] {
 }
 
 // What a call leaves on the desk: the writer, and the answer.
-#[derive(Drop)]
+#[derive(Clone, Copy)]
 pub struct Left {
     pub writer: OStream,
     pub answer: [u64; 2],

@@ -16,7 +16,7 @@ use owing::owe;
 use phase::{Phase, idle};
 use types::{Error, RawType};
 
-#[derive(Drop)]
+#[derive(Clone, Copy)]
 pub enum Answer {
     Full,
     Status(Status),
@@ -24,7 +24,7 @@ pub enum Answer {
 }
 
 // Where a call stops: the bytes used, what it answers, and the state, but for the writer's places.
-#[derive(Drop)]
+#[derive(Clone, Copy)]
 pub struct Stop {
     pub used: usize,
     pub answer: Answer,
@@ -37,7 +37,7 @@ pub struct Stop {
 
 // What a turn comes to, nothing being owed before it: what it read is out, and the call goes on from this reader, with so many bytes of the
 // chunk used, at this position; or the call stops.
-#[derive(Drop)]
+#[derive(Clone, Copy)]
 enum Turn {
     On(IStream, usize, usize),
     Stop(Stop),

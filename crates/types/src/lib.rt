@@ -54,7 +54,7 @@ pub const T_SEQUENCE_START: u8 = 6;
 pub const T_SEQUENCE_END: u8 = 7;
 
 // Subtype of a fixed-length field, in its word's low three bits.
-#[derive(Drop)]
+#[derive(Clone, Copy)]
 pub enum FixlenType {
     Fp32,
     Fp64,
@@ -63,7 +63,7 @@ pub enum FixlenType {
 }
 
 // Element type of an array.
-#[derive(Drop)]
+#[derive(Clone, Copy)]
 pub enum ArrayKind {
     Unsigned,
     Signed,
@@ -72,21 +72,21 @@ pub enum ArrayKind {
 }
 
 // The subtypes that are floats.
-#[derive(Drop)]
+#[derive(Clone, Copy)]
 pub enum FloatType {
     Fp32,
     Fp64,
 }
 
 // The subtypes whose payload goes as it is.
-#[derive(Drop)]
+#[derive(Clone, Copy)]
 pub enum RawType {
     Str,
     Blob,
 }
 
 // The refusals, in the order of their numbers: 01's, and those of 02 that are built.
-#[derive(Drop)]
+#[derive(Clone, Copy)]
 pub enum Error {
     UnsoundReader,
     InvalidMsg,

@@ -14,14 +14,14 @@ pub const VARINT_MAX: usize = 10;
 pub const LAST_BYTE: u8 = 9;
 
 // A varint under way: how many bytes it had, and what they came to.
-#[derive(Drop)]
+#[derive(Clone, Copy)]
 pub struct Acc {
     pub value: u64,
     pub taken: u8,
 }
 
 // What one more byte makes of it.
-#[derive(Drop)]
+#[derive(Clone, Copy)]
 pub enum Push {
     More(Acc),
     Value(u64),

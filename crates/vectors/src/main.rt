@@ -20,7 +20,7 @@ const FRESH: u32 = 28;
 const BLOCK: usize = 65536;
 
 // The desk; the buffer, of which `size` bytes are lent; the calls so far, and how many differ.
-#[derive(Drop)]
+#[derive(Clone, Copy)]
 struct Run {
     desk: [u64; 32],
     buf: [u8; 256],

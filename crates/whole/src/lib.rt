@@ -13,7 +13,7 @@ use passing::{Found, Land, header_at, no_value, scalar_at};
 use types::MAX_DEPTH;
 
 // What a message comes to; a broken one with the number of bytes up to the offending one, which is counted.
-#[derive(Drop)]
+#[derive(Clone, Copy)]
 pub enum Verdict {
     Complete,
     Incomplete,
@@ -21,7 +21,7 @@ pub enum Verdict {
 }
 
 // The place after a field and the depth there; or the message ends within it; or the place after the byte that breaks it.
-#[derive(Drop)]
+#[derive(Clone, Copy)]
 enum Next {
     At(usize, u32),
     Short,

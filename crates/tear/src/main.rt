@@ -103,12 +103,28 @@ fn tear(n: u64, ticket: &[u8]) {
     }
 }
 
-fn runs_asked() -> u64 {
-    if argument::given(1) {
-        argument::number_at(1)
-    } else {
-        RUNS
+fn digit(b: u8) -> u64 {
+    if b < b'0' {
+        return 0;
     }
+    (b - b'0') as u64
+}
+
+// A number in decimal, of nine digits at most.
+fn number(word: &[u8]) -> u64 {
+    let mut n: u64 = 0;
+    let mut i: usize = 0;
+    while i < word.len() && n < 100000000 {
+        n = std::num::wrapping_add_u64(n * 10, digit(word[i]));
+        i += 1;
+    }
+    n
+}
+
+fn runs_asked() -> u64 {
+    let mut word = io::buffer();
+    let n = os::arg(1, &mut word);
+    if n == 0 { RUNS } else { number(&word[..n]) }
 }
 
 fn main() {

@@ -45,6 +45,8 @@ class Walk:
         self.loops = info["loops"]
         self.changed = info["changed"]
         self.arms = info["arms"]
+        self.goal_names = dict((norm(o), n) for o, n in info["asked_at"])
+        self.args = dict((o.rsplit(".", 1)[1], n.rsplit(".", 1)[1]) for o, n in info["args"] if o.startswith(".args"))
         self.index = {norm(p[0]): i for i, p in enumerate(self.places)}
 
     def parent(self, i):
@@ -73,8 +75,8 @@ class Walk:
         while k is not None:
             a = self.arms[k]
             if a:
-                for new, old, path in a[2]:
-                    if path and norm(old) == norm(name) and rest[: len(path)] == path:
+                for new, old, path in sorted(a[2], key=lambda row: -len(row[2])):
+                    if norm(old) == norm(name) and rest[: len(path)] == path:
                         return f"{a[0]}.{new}", len(path)
             k = self.parent(k)
         return None
@@ -135,6 +137,7 @@ def turn_chain(walk, place, text, var, said):
             head = plain if walk.field(place, plain) else head
         if head in ("args", "ranges", "requires", "type_inv", "auto", "well_formed", "lifetimes"):
             if rest and head in ("args", "ranges", "auto", "type_inv"):
+                rest[0] = walk.args.get(rest[0], rest[0])
                 rest[0] = norm(rest[0]) if "'" not in rest[0] else rest[0].replace("-", "_")
             return ".".join([var, head] + rest)
         a = walk.arm(place, head, rest)
@@ -275,7 +278,7 @@ def convert(root, crate, folder, info):
             changed = [v for v, c in zip(row[1], walk.changed[j]) if c]
             same = [v for v, c in zip(row[1], walk.changed[j]) if not c]
             table = {}
-            order = same + [("initial", v) for v in changed] + changed
+            order = [("initial", v) if c else v for v, c in zip(row[1], walk.changed[j])] + changed
             if len(params) != len(order):
                 said.append(f"{name}: {len(params)} parameters, {len(order)} variables")
             for p, v in zip(params, order):
@@ -311,13 +314,19 @@ def convert(root, crate, folder, info):
         # a lemma of the file's own
         places = {}
 
+        def named(j):
+            new = walk.goal_names.get(norm(walk.places[j][0]))
+            if new is None:
+                said.append(f"{name}: the place {walk.new_places[j]} has no goal, so no type")
+            return new or walk.new_places[j]
+
         def place_of(m):
             j = walk.index.get(norm(m.group(2)))
             if j is None:
                 said.append(f"{name}: no place {m.group(2)}")
                 return m.group(0)
             places[m.group(1)] = j
-            return f"({m.group(1)} : goal.{walk.new_places[j]})"
+            return f"({m.group(1)} : goal.{named(j)})"
 
         text2 = re.sub(rf"\(({ID}) : tie\.({ID})\)", place_of, whole)
         m3 = re.match(rf"((?:(?:abbrev|pub)\s+)*{re.escape(name)} : )tie\.({ID}) →", text2)
@@ -326,7 +335,7 @@ def convert(root, crate, folder, info):
             mc = re.search(rf"\n{re.escape(name)} ({ID})", text2)
             if j is not None and mc:
                 places[mc.group(1)] = j
-                text2 = m3.group(1) + "goal." + walk.new_places[j] + " →" + text2[m3.end() :]
+                text2 = m3.group(1) + "goal." + named(j) + " →" + text2[m3.end() :]
         for v, j in places.items():
             text2 = turn_body(walk, j, text2, v, said)
         if "tie." in text2:

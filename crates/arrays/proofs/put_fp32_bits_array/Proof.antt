@@ -1,0 +1,38 @@
+-- `arrays::put_fp32_bits_array`: what is announced, and the elements.
+use Prim.Native.Nat.{ℕ, ◌+◌, ◌*◌}
+use mathlib.Core.Path.{refl, ap}
+use mathlib.Core.List.{◌++◌}
+use lib.ListN.{length}
+use Rattle.layout.specs.Varint.{shortest}
+use Rattle.layout.specs.Field.{fp32, low_bytes}
+use Rattle.emit.proofs.Segments.{respelled, stays_in}
+use Rattle.held.specs.Headers.{head_of}
+use Rattle.arrays.proofs.Floats.{floats_ended}
+use borrow.Author.Rules.{rules}
+use Rattle.arrays.proofs.put_fp32_bits_array.Statement.{statement}
+use Rattle.arrays.proofs.put_fp32_bits_array.Tie as tie
+use Rattle.arrays.proofs.put_fp32_bits_array.Reads as reads
+use Rattle.arrays.proofs.put_fp32_bits_array.Lts as lts
+use Rattle.arrays.proofs.finish_floats.Reads as finish-floats-reads
+use Rattle.arrays.proofs.put_announced.Reads as put-announced-reads
+use Rattle.floats.proofs.put_fp32s.Reads as put-fp32s-reads
+use Rattle.held.proofs.tagged.Reads as tagged-reads
+
+put-fp32s-requires : tie.Need-put-fp32s-requires
+put-fp32s-requires c κs = (stays_in _ _ _ _ _ c.before.before.before.before.before.before.before.before.requires.1 c.before.before.before.put-announced.ensures).0
+
+returns : tie.Need-returns
+returns c =
+    let z = c.before.before.before.before.before.before.before.before.before.before.before.before in
+    let a = z.args in
+    floats_ended fp32 a.held a.places a.id (low_bytes 4) a.items.now a.items.now refl refl a.pos a.buf.now a.place _ _ _ _ _ z.requires.1
+    (respelled _ _ _ _ _ _ (ap (λ (v : ℕ). head_of a.held a.places (a.id * 8 + 5) (length a.items.now) ++ shortest v) c.before.before.before.before.before.before.before.before.tagged.ensures) c.before.before.before.before.before.before.before.put-announced.ensures)
+    c.before.before.before.put-fp32s.ensures
+    c.finish-floats.ensures
+
+pub put-fp32-bits-array-spec : {M : Type 1} → statement M
+put-fp32-bits-array-spec =
+    tie.close
+    (tie.spec
+    (λ c κs. search rules) (λ c κs. search rules) put-fp32s-requires (λ c. search rules) (λ c κs. search rules)
+    (λ c. search rules) returns)

@@ -1,0 +1,22 @@
+-- `as_is::signed_elements`: an array's elements go as they came.
+use native.Mathlib.Omega.{arith}
+use mir.Syntax.{w8}
+use mir.Val.{Fits}
+use Rattle.as_is.proofs.Laws.{signeds_ahead, by_phase}
+use borrow.Author.Rules.{rules}
+use Rattle.as_is.proofs.signed_elements.Statement.{statement}
+use Rattle.as_is.proofs.signed_elements.Tie as tie
+use Rattle.as_is.proofs.signed_elements.Reads as reads
+use Rattle.as_is.proofs.signed_elements.Lts as lts
+use Rattle.own.proofs.elements.Reads as elements_reads
+use Rattle.phase.proofs.signeds.Reads as signeds-reads
+
+returns : tie.Need-returns
+returns c =
+    let f : Fits w8 c.before.before.before.before.args.carried.depth = search rules in
+    by_phase _ _ _ _ _ _ c.signeds.ensures
+    (signeds_ahead _ _ _ _ _ _ (omega (arith, f.fits)) c.before.before.before.before.requires.0 c.before.before.before.before.requires.1.0 c.before.before.before.before.requires.1.1 c.before.before.elements.ensures.1 c.before.before.elements.ensures.0 c.before.before.elements.ensures.2)
+
+pub signed-elements-spec : {M : Type 1} → statement M
+signed-elements-spec =
+    tie.close (tie.spec (λ c κs. search rules) (λ c. search rules) (λ c κs. search rules) returns)

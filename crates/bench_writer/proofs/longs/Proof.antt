@@ -1,0 +1,18 @@
+-- `bench_writer::longs` is safe and ends: each turn makes a call, or is the last.
+use Rattle.std.proofs.Common.{◌≡◌, ◌-◌, ◌≤◌, length, rules}
+use Rattle.bench_writer.proofs.longs.Statement.{statement}
+use Rattle.bench_writer.proofs.longs.Tie as tie
+
+abbrev invariant-loop : tie.invariant-loop
+invariant-loop n buf₀ s₀ i₀ to₀ place₀ buf s i to place = (length buf ≡ length buf₀) × (to ≤ n)
+
+abbrev decreases-loop : tie.decreases-loop
+decreases-loop n buf₀ s₀ i₀ to₀ place₀ buf s i to place = to - i
+
+pub longs-spec : {M : Type 1} → statement M
+longs-spec =
+    tie.close
+    (tie.spec
+    invariant-loop decreases-loop (λ c. search rules) (λ c. search rules) (λ c κs. search rules) (λ c. search rules)
+    (λ c. search rules) (λ c. search rules) (λ c. search rules) (λ c. search rules) (λ c. search rules)
+    (λ c κs. search rules) (λ c. search rules) (λ c. search rules))

@@ -1,0 +1,32 @@
+-- `ostream::OStream::write_array_fp64`: the array by the numbers of the state.
+use Prim.Native.Nat.{ℕ}
+use mathlib.Core.Path.{refl, sym, ap}
+use mathlib.Core.List.{[], ◌∷◌, map}
+use lib.Ieee.{binary64, to_bits}
+use lib.ListN.{length, length-map}
+use Rattle.layout.specs.Field.{fp64, float_array}
+use Rattle.layout.specs.Copy.{field_bytes}
+use Rattle.ostream.specs.Stream.{held_bytes}
+use Rattle.ostream.specs.Emission.{judged}
+use Rattle.ostream.specs.Calls.{array_too_long, array_call}
+use Rattle.ostream.proofs.Calls.{field_clears, goes}
+use borrow.Author.Rules.{rules}
+use Rattle.ostream.proofs.OStream.write_array_fp64.Statement.{statement}
+use Rattle.ostream.proofs.OStream.write_array_fp64.Tie as tie
+use Rattle.ostream.proofs.OStream.write_array_fp64.Reads as reads
+use Rattle.ostream.proofs.OStream.write_array_fp64.Lts as lts
+use Rattle.write_slowly.proofs.fp64_array.Reads as fp64-array-reads
+use Rattle.ostream.proofs.OStream.settle.Reads as settle-reads
+
+settle-requires : tie.Need-settle-requires
+settle-requires c κs = let a = c.before.before.before.before.before.before.before.args in field_clears a.self a.buf.now a.id (array_too_long (length a.items.now) ∷ []) (field_bytes (float_array a.id fp64 (map (to_bits binary64) a.items.now))) a.place _ _ c.before.before.fp64-array.ensures
+
+returns : tie.Need-returns
+unfolding held_bytes
+returns c =
+    let a = c.before.before.before.before.before.before.before.before.args in
+    goes a.self a.buf.now a.id (array_too_long (length a.items.now) ∷ []) (field_bytes (float_array a.id fp64 (map (to_bits binary64) a.items.now))) a.place _ _ c.before.before.before.fp64-array.ensures _ _ (ap (λ (n : ℕ). judged (array_call a.self (length a.buf.now) a.id n []).tests) (sym (length-map a.items.now (to_bits binary64)))) refl refl c.settle.ensures
+
+pub write-array-fp64-spec : {M : Type 1} → statement M
+write-array-fp64-spec =
+    tie.close (tie.spec (λ c κs. search rules) settle-requires (λ c. search rules) returns)

@@ -1,0 +1,29 @@
+-- `ostream::OStream::write_array_unsigned_slowly`: the array by the numbers of the state.
+use mathlib.Core.Path.{refl}
+use mathlib.Core.List.{[], ◌∷◌}
+use lib.ListN.{length}
+use Rattle.layout.specs.Field.{unsigned_array}
+use Rattle.layout.specs.Copy.{field_bytes}
+use Rattle.ostream.specs.Calls.{array_too_long}
+use Rattle.ostream.specs.Stream.{held_bytes}
+use Rattle.ostream.proofs.Calls.{field_clears, goes}
+use borrow.Author.Rules.{rules}
+use Rattle.ostream.proofs.OStream.write_array_unsigned_slowly.Statement.{statement}
+use Rattle.ostream.proofs.OStream.write_array_unsigned_slowly.Tie as tie
+use Rattle.ostream.proofs.OStream.write_array_unsigned_slowly.Reads as reads
+use Rattle.ostream.proofs.OStream.write_array_unsigned_slowly.Lts as lts
+use Rattle.write_slowly.proofs.unsigned_array.Reads as unsigned-array-reads
+use Rattle.ostream.proofs.OStream.settle.Reads as settle-reads
+
+settle-requires : tie.Need-settle-requires
+settle-requires c κs = let a = c.before.before.before.before.before.before.before.args in field_clears a.self a.buf.now a.id (array_too_long (length a.items.now) ∷ []) (field_bytes (unsigned_array a.id a.items.now)) a.place _ _ c.before.before.unsigned_array_lem.ensures
+
+returns : tie.Need-returns
+unfolding held_bytes
+returns c =
+    let a = c.before.before.before.before.before.before.before.before.args in
+    goes a.self a.buf.now a.id (array_too_long (length a.items.now) ∷ []) (field_bytes (unsigned_array a.id a.items.now)) a.place _ _ c.before.before.before.unsigned_array_lem.ensures _ _ refl refl refl c.settle.ensures
+
+pub write-array-unsigned-slowly-spec : {M : Type 1} → statement M
+write-array-unsigned-slowly-spec =
+    tie.close (tie.spec (λ c κs. search rules) settle-requires (λ c. search rules) returns)

@@ -1,0 +1,19 @@
+-- `phase::sound_payload` meets its contract.
+use borrow.Author.Tests.{lt-leb, le-leb}
+use Rattle.phase.proofs.sound_payload.Statement.{statement}
+use Rattle.phase.proofs.sound_payload.Tie as tie
+
+returns : tie.Need-returns
+returns c = simp (lt-leb _ _ c.if1.true)
+
+returns-2 : tie.Need-returns-2
+returns-2 c =
+    simp (le-leb _ _ c.before.if1.false, lt-leb _ _ c.if2.true)
+
+returns-3 : tie.Need-returns-3
+returns-3 c =
+    simp (le-leb _ _ c.before.if1.false, le-leb _ _ c.if2.false)
+
+pub sound-payload-spec : {M : Type 1} → statement M
+sound-payload-spec =
+    tie.close (tie.spec returns returns-2 returns-3)

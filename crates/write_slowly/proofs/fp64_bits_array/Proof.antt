@@ -1,0 +1,35 @@
+-- `write_slowly::fp64_bits_array`: the refusals, then the array from the place on.
+use mathlib.Core.Path.{refl}
+use mathlib.Core.List.{[], ◌∷◌}
+use lib.ListN.{length}
+use Rattle.layout.specs.Limits.{base}
+use Rattle.layout.specs.Field.{fp64, float_array}
+use Rattle.layout.specs.Copy.{field_bytes}
+use Rattle.refusals.specs.Tests.{array_too_long}
+use Rattle.write_slowly.proofs.Went.{sized_goes, refuses, goes}
+use borrow.Author.Rules.{rules}
+use Rattle.write_slowly.proofs.fp64_bits_array.Statement.{statement}
+use Rattle.write_slowly.proofs.fp64_bits_array.Tie as tie
+use Rattle.write_slowly.proofs.fp64_bits_array.Reads as reads
+use Rattle.write_slowly.proofs.fp64_bits_array.Lts as lts
+use Rattle.arrays.proofs.put_fp64_bits_array.Reads as put-fp64-bits-array-reads
+use Rattle.write_slowly.proofs.check_array.Reads as check-array-reads
+
+returns : tie.Need-returns
+returns c =
+    let a = c.before.before.before.before.before.args in
+    refuses a.pos a.depth a.held a.places a.buf.now a.id (array_too_long (length a.items.now) ∷ []) _ c.before.before.check-array.ensures (field_bytes (float_array a.id fp64 a.items.now)) a.place c.if1.true
+
+put-fp64-bits-array-requires : tie.Need-put-fp64-bits-array-requires
+put-fp64-bits-array-requires c κs =
+    let a = c.before.before.before.before.before.before.args in
+    sized_goes a.pos a.depth a.held a.places a.buf.now a.id base.count (length a.items.now) _ c.before.before.before.check-array.ensures c.before.if1.false
+
+returns-2 : tie.Need-returns-2
+returns-2 c =
+    let a = c.before.before.before.before.before.before.before.before.before.args in
+    goes a.pos a.depth a.held a.places a.buf.now a.id (array_too_long (length a.items.now) ∷ []) _ c.before.before.before.before.before.before.check-array.ensures (field_bytes (float_array a.id fp64 a.items.now)) a.place _ _ _ c.before.before.before.before.if1.false refl c.before.before.put-fp64-bits-array.ensures
+
+pub fp64-bits-array-spec : {M : Type 1} → statement M
+fp64-bits-array-spec =
+    tie.close (tie.spec (λ c κs. search rules) returns put-fp64-bits-array-requires (λ c. search rules) returns-2)

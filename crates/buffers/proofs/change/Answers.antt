@@ -1,0 +1,27 @@
+-- `buffers::change`: 5 by the new buffer, then 6 by the old one; else the old position, and the offset.
+use mathlib.Core.Bool.{Bool, not}
+use mathlib.Core.Path.{◌≡◌, sym, ap, ◌∙◌}
+use Rattle.refusals.specs.Judged.{Judgement, judged}
+use Rattle.refusals.specs.Orders.{change_tests}
+use Rattle.checks.specs.Check.{check_of}
+use Rattle.checks.proofs.Checks.{check_passes, check_fails}
+use Rattle.places.specs.Places.{sound_for}
+use Rattle.buffers.specs.Moved.{moved_by}
+use borrow.Author.Rules.{rules}
+use Rattle.buffers.proofs.change.Goals as goal
+
+abbrev judgement : goal.After-check_change-check → Judgement
+judgement c = let a = c.args in judged (change_tests (sound_for a.pos a.depth a.held a.places a.old) a.new a.offset a.drained)
+
+judges : (c : goal.After-check_change-check) → c.check_change-check.result ≡ check_of (judgement c)
+judges c = let a = c.args in c.check_change-check.ensures ∙ ap (λ (sound : Bool). check_of (judged (change_tests sound a.new a.offset a.drained))) c.sound_for.ensures
+
+pub returns-then-check : goal.returns-then-check
+returns-then-check c =
+    let a = c.args in
+    sym (ap (λ (v : Judgement). moved_by v a.pos a.offset) (check_passes (judgement c.before) _ (judges c.before) (ap not c.if-check.true)))
+
+pub returns-else-check : goal.returns-else-check
+returns-else-check c =
+    let a = c.args in
+    sym (ap (λ (v : Judgement). moved_by v a.pos a.offset) (check_fails (judgement c.before) _ (judges c.before) (ap not c.if-check.false)))

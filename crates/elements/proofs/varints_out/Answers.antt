@@ -1,0 +1,25 @@
+-- `elements::varints_out`: at each turn, i elements are out, and what is left of the bytes belongs to those after them.
+use Prim.Native.Nat.{◌-◌, ◌≤◌}
+use native.Mathlib.Omega.{arith}
+use borrow.Author.Rules.{rules}
+use lib.ListN.{length, get_or}
+use Rattle.layout.specs.Limits.{base, longest}
+use Rattle.layout.specs.Varint.{shortest}
+use Rattle.varint.proofs.Shortest.{length-longest}
+use Rattle.elements.proofs.Resumed.{Counting, out-start, out-next, out_stop, out_end}
+use Rattle.elements.proofs.varints_out.Goals as goal
+
+pub loop-i-init : goal.loop-i-init
+loop-i-init c = out-start _ _ _
+
+most : (c : tie.After-width invariant-loop decreases-loop) → c.width.result ≤ longest base
+most c = let e = c.width.ensures in let l = length-longest base (get_or c.before.before.before.before.before.args.items.now c.before.before.before.loop.i 0) (c.before.shared-slice-known2.given c.before.before.before.loop.i).fits in omega arith
+
+pub returns-then-left-len : goal.returns-then-left-len
+returns-then-left-len c = out_stop _ _ _ _ _ c.loop-i.invariant 0 _ c.loop-i-test.true c.width-len.ensures (most c.before) c.if-left-len.true
+
+pub loop-i-preserved : goal.loop-i-preserved
+loop-i-preserved c = out-next _ _ _ _ _ c.loop-i.invariant 0 _ c.loop-i-test.true c.width-len.ensures (most c.before) c.if-left-len.false
+
+pub returns : goal.returns
+returns c = out_end _ _ _ _ _ c.loop-i.invariant c.loop-i-test.false

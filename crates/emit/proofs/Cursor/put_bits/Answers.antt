@@ -1,0 +1,21 @@
+-- `emit::Cursor::put_bits`: low bytes that are out already, or the rest of them.
+use mathlib.Core.Path.{refl}
+use native.Mathlib.Omega.{arith}
+use borrow.Author.Rules.{rules}
+use Rattle.layout.specs.Field.{low_bytes}
+use Rattle.low_bytes.proofs.Low.{length_low}
+use Rattle.emit.proofs.Segments.{some_left, none_left}
+use Rattle.emit.proofs.Cursor.put_bits.Goals as goal
+
+pub returns-then-n-skip : goal.returns-then-n-skip
+returns-then-n-skip c =
+    let a = c.args in
+    let l = length_low a.n a.x in
+    none_left a.self _ (low_bytes a.n a.x) _ (omega arith) (omega arith)
+
+pub returns : goal.returns
+returns c =
+    let a = c.args in
+    let l = length_low a.n a.x in
+    let e = c.put_part-end.ensures in
+    some_left a.self _ (low_bytes a.n a.x) _ _ _ _ (omega arith) refl e.0 e.1

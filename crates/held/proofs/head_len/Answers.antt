@@ -1,0 +1,39 @@
+-- `held::head_len`: three lengths, none of which is large.
+use mathlib.Core.List.{◌++◌}
+use native.Mathlib.Omega.{arith}
+use borrow.Author.Rules.{rules}
+use lib.ListN.{length-append}
+use Rattle.layout.specs.Limits.{base}
+use Rattle.layout.specs.Varint.{shortest}
+use Rattle.varint.proofs.Shortest.{length-longest}
+use Rattle.held.specs.Headers.{headers_of}
+use Rattle.held.proofs.head_len.Goals as goal
+
+pub overflow_add-result : goal.overflow_add-result
+overflow_add-result c =
+    let h = length-longest base c.args.header c.ranges.header.fits in
+    let e = c.varint_len.ensures in
+    let l = c.held_len.ensures.1 in
+    record { fits = omega arith }
+
+pub overflow_add-result-2 : goal.overflow_add-result-2
+overflow_add-result-2 c =
+    let a = c.args in
+    let g = length-longest base a.header c.ranges.header.fits in
+    let h = length-longest base a.second c.ranges.second.fits in
+    let d = c.varint_len.ensures in
+    let e = c.varint_len-2.ensures in
+    let l = c.held_len.ensures.1 in
+    record { fits = omega arith }
+
+pub returns : goal.returns
+returns c =
+    let a = c.args in
+    let g = length-longest base a.header c.ranges.header.fits in
+    let h = length-longest base a.second c.ranges.second.fits in
+    let d = c.varint_len.ensures in
+    let e = c.varint_len-2.ensures in
+    let l = c.held_len.ensures in
+    let m = length-append (headers_of a.held a.places) (shortest a.header ++ shortest a.second) in
+    let n = length-append (shortest a.header) (shortest a.second) in
+    (omega (arith, l.0), omega (arith, l.1))

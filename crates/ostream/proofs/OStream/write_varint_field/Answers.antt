@@ -1,0 +1,32 @@
+-- `ostream::OStream::write_varint_field`: at once from a state that holds nothing, and otherwise left to the slow form.
+use Prim.Native.Nat.{◌+◌, ◌*◌}
+use mathlib.Core.Path.{refl}
+use mathlib.Core.List.{◌++◌}
+use native.Mathlib.Omega.{arith}
+use lib.ListN.{length}
+use Rattle.layout.specs.Varint.{shortest}
+use Rattle.at_ease.proofs.AtOnce.{stayed}
+use Rattle.ostream.specs.Calls.{varint_call}
+use Rattle.ostream.proofs.Calls.{both, committed-none}
+use Rattle.ostream.proofs.AtOnce.{is_ready, is_easy, ready_scalar, spelled, goes_at_once, by_slow_form}
+use borrow.Author.Rules.{rules}
+use Rattle.ostream.proofs.OStream.write_varint_field.Goals as goal
+
+pub returns-then-place-gt0 : goal.returns-then-place-gt0
+returns-then-place-gt0 c =
+    let a = c.args in
+    by_slow_form (λ s n. varint_call s n a.id a.wire a.value) a.self _ a.buf.now a.buf.now a.place _ _ _ c.rebuilt.ensures refl c.rebuilt-then-place-gt0.ensures c.write_varint_field_slowly.ensures
+
+pub returns-then-self-end : goal.returns-then-self-end
+returns-then-self-end c =
+    let a = c.args in
+    goes_at_once (varint_call a.self (length a.buf.now) a.id a.wire a.value) a.self a.buf.now (shortest (a.id * 8 + a.wire) ++ shortest a.value) a.place _ _ _ _ c.pair_at_once-end.ensures c.if-self-end.true (omega arith)
+    (λ t.
+    let e = both _ _ t in
+    let y = is_ready a.self (length a.buf.now) a.id 0 (is_easy a.self a.id e.0) e.1 in
+    (ready_scalar a.self (length a.buf.now) a.id 0 y, spelled a.self y.none (shortest (a.id * 8 + a.wire) ++ shortest a.value), committed-none a.self a.self.depth y.none))
+
+pub returns : goal.returns
+returns c =
+    let a = c.args in
+    by_slow_form (λ s n. varint_call s n a.id a.wire a.value) a.self _ a.buf.now _ a.place _ _ _ c.rebuilt-2.ensures (stayed _ a.buf.now a.self.offset (shortest (a.id * 8 + a.wire) ++ shortest a.value) _ _ c.pair_at_once-end.ensures c.if-self-end.false) c.rebuilt-3.ensures c.write_varint_field_slowly-2.ensures

@@ -1,0 +1,25 @@
+-- `ostream::OStream::write_varint_field_slowly`: the field by the numbers of the state.
+use Prim.Native.Nat.{◌+◌, ◌*◌}
+use mathlib.Core.Path.{refl}
+use mathlib.Core.List.{[], ◌++◌}
+use Rattle.layout.specs.Varint.{shortest}
+use Rattle.ostream.specs.Stream.{held_bytes}
+use Rattle.ostream.specs.Calls.{varint_call}
+use Rattle.ostream.proofs.Calls.{field_clears, goes}
+use Rattle.ostream.proofs.AtOnce.{by_slow_form}
+use borrow.Author.Rules.{rules}
+use Rattle.ostream.proofs.OStream.write_varint_field_slowly.Goals as goal
+
+pub settle-requires : goal.settle-requires
+settle-requires c =
+    let a = c.args in
+    let s = c.rebuilt-s.result in
+    field_clears s a.buf.now a.id [] (shortest (a.id * 8 + a.wire) ++ shortest a.value) a.place _ _ c.varint_field-outcome.ensures
+
+pub returns : goal.returns
+unfolding held_bytes
+returns c =
+    let a = c.args in
+    let s = c.rebuilt-s.result in
+    by_slow_form (λ s n. varint_call s n a.id a.wire a.value) a.self s a.buf.now a.buf.now a.place _ _ _ c.rebuilt-s.ensures refl refl
+    (goes s a.buf.now a.id [] (shortest (a.id * 8 + a.wire) ++ shortest a.value) a.place _ _ c.varint_field-outcome.ensures _ _ refl refl refl c.settle.ensures)

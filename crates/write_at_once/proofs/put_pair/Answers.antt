@@ -1,0 +1,32 @@
+-- `write_at_once::put_pair`: the tests, then one write after another.
+use mathlib.Core.List.{◌++◌}
+use native.Mathlib.Omega.{arith}
+use lib.ListN.{length}
+use borrow.Author.Rules.{rules}
+use Rattle.layout.specs.Varint.{shortest}
+use Rattle.at_ease.proofs.AtOnce.{Tested, has_room, tight, unclean, passed, made, unmade}
+use Rattle.write_at_once.proofs.Rows.{second_fits, pair_made}
+use Rattle.write_at_once.proofs.put_pair.Goals as goal
+
+tested : (c : goal.Else-not-unused_zero) → Tested (length c.args.buf.now) c.args.pos 0 c.args.places
+tested c = passed _ _ _ _ c.args.places c.has_room.ensures c.if-not-has_room.false _ c.unused_zero.ensures c.if-not-unused_zero.false
+
+pub returns-then-not-has_room : goal.returns-then-not-has_room
+returns-then-not-has_room c = let a = c.args in unmade _ a.buf.now a.pos (shortest a.header ++ shortest a.second) (tight _ _ _ 0 a.places c.has_room.ensures c.if-not-has_room.true)
+
+pub returns-then-not-unused_zero : goal.returns-then-not-unused_zero
+returns-then-not-unused_zero c = let a = c.args in unmade _ a.buf.now a.pos (shortest a.header ++ shortest a.second) (unclean _ _ _ 0 a.places c.has_room.ensures c.if-not-has_room.false _ c.unused_zero.ensures c.if-not-unused_zero.true)
+
+pub put_fitting-mid-requires : goal.put_fitting-mid-requires
+put_fitting-mid-requires c = let h = has_room _ _ _ (tested c.before).0 in omega arith
+
+pub put_fitting-requires : goal.put_fitting-requires
+put_fitting-requires c =
+    let a = c.args in
+    second_fits a.buf.now a.pos 0 a.header _ _ (tested c.before.before.before.before.before).0 c.ranges.header.fits c.put_fitting-mid.ensures
+
+pub returns : goal.returns
+returns c =
+    let a = c.args in
+    let t = tested c.before.before.before.before.before.before.before.before in
+    made _ _ _ _ _ _ t.1 (pair_made a.buf.now a.pos 0 a.header _ _ t.0 c.ranges.header.fits c.put_fitting-mid.ensures _ _ _ c.put_fitting.ensures)

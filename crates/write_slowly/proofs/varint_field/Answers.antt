@@ -1,0 +1,35 @@
+-- `write_slowly::varint_field`: the refusals, then the field from the place on.
+use Prim.Native.Nat.{ℕ, ◌+◌, ◌*◌}
+use mathlib.Core.Bool.{Bool}
+use lib.ListN.{length}
+use mathlib.Core.Path.{◌≡◌, ap, ◌∙◌}
+use mathlib.Core.List.{[], ◌++◌}
+use Rattle.layout.specs.Varint.{shortest}
+use Rattle.refusals.specs.Judged.{judged}
+use Rattle.checks.specs.Check.{check_of}
+use Rattle.held.specs.Headers.{headers_of}
+use Rattle.write_slowly.specs.Went.{tests, judgement_of}
+use Rattle.write_slowly.proofs.Went.{may_go, refuses, goes}
+use borrow.Author.Rules.{rules}
+use Rattle.write_slowly.proofs.varint_field.Goals as goal
+
+-- the tests, with the state's own
+judges : (c : goal.After-check_field-tests) → c.check_field-tests.result ≡ check_of (judgement_of c.args.pos c.args.depth c.args.held c.args.places (length c.args.buf.now) c.args.id [])
+judges c = c.check_field-tests.ensures ∙ ap (λ (sound : Bool). check_of (judged (tests sound c.args.id []))) c.sound_for.ensures
+
+pub returns-then-not-tests : goal.returns-then-not-tests
+returns-then-not-tests c =
+    let a = c.args in
+    refuses a.pos a.depth a.held a.places a.buf.now a.id [] _ (judges c.before.before) (shortest (a.id * 8 + a.wire) ++ shortest a.value) a.place c.if-not-tests.true
+
+pub put_varint_field-requires : goal.put_varint_field-requires
+put_varint_field-requires c =
+    let a = c.args in
+    may_go a.pos a.depth a.held a.places a.buf.now a.id [] _ (judges c.before.before.before.before) c.if-not-tests.false
+
+pub returns : goal.returns
+returns c =
+    let a = c.args in
+    goes a.pos a.depth a.held a.places a.buf.now a.id [] _ (judges c.before.before.before.before.before.before.before) (shortest (a.id * 8 + a.wire) ++ shortest a.value) a.place _ _ _ c.if-not-tests.false
+    (ap (λ (h : ℕ). headers_of a.held a.places ++ (shortest h ++ shortest a.value)) c.tagged.ensures)
+    c.put_varint_field.ensures

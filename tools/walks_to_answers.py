@@ -69,6 +69,17 @@ class Walk:
             k = self.parent(k)
         return None
 
+    def inner(self, i, name, rest):
+        """The parts behind the step `name`, as they are spelled today."""
+        k = i
+        while k is not None:
+            old, new = self.places[k][2]
+            if old and norm(old) == norm(name):
+                table = dict(map(tuple, self.places[k][4]))
+                return [table.get(rest[0], rest[0])] + rest[1:] if rest else rest
+            k = self.parent(k)
+        return rest
+
     def arm(self, i, name, rest):
         """Where an arm has a plainer name for old `name.rest`: (new path, how many parts of rest it takes)."""
         k = i
@@ -142,13 +153,18 @@ def turn_chain(walk, place, text, var, said):
             return ".".join([var, head] + rest)
         a = walk.arm(place, head, rest)
         if a:
-            return ".".join([var, a[0]] + rest[a[1] :])
+            path = ".".join([var, a[0]] + walk.inner(at, head, rest[a[1] :]))
+            if re.search(r"-own\.keys\d*$", path):
+                said.append("opened")
+                return f"(opened {path})"
+            return path
         new = walk.field(at, head)
         if new is None:
             new = walk.field(place, head)
         if new is None:
             said.append(f"{m.group(0)}: no step {head}")
             return m.group(0)
+        rest = walk.inner(at, head, rest)
         if rest[:1] == ["new"] and len(rest) > 1:
             rest[1] = rest[1].replace("-", "_")
         return ".".join([var, new] + rest)
@@ -160,7 +176,7 @@ def turn_body(walk, place, text, var, said):
     """Aliases `let s = c.before.. in` are written out where only their fields are used."""
     if place is None:
         return text
-    pat = re.compile(rf"let ({ID}) = {re.escape(var)}((?:\.before)*) in\s*")
+    pat = re.compile(rf"let ({ID}) = {re.escape(var)}((?:\.{ID})*) in\s*")
     while True:
         m = pat.search(text)
         if not m:
@@ -351,6 +367,9 @@ def convert(root, crate, folder, info):
         params = m.group(1).split()
         rest = turn_body(walk, place, m.group(2), params[0], said)
         answers.append(f"pub {new} : goal.{new}\n{new} {params[0]} = {rest}")
+    if "opened" in said:
+        kept.append("use borrow.Enum.Refused.{opened}")
+        said = [x for x in said if x != "opened"]
     joined = "\n\n".join(a.rstrip() for a in answers)
     for old, (i, new) in rename.items():
         joined = re.sub(rf"(?<![\w.'-]){re.escape(old)}(?![\w.'-])(?= c| \(c)", new, joined) if old != new and not re.match(r"returns", old) else joined

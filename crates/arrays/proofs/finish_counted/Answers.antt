@@ -17,11 +17,10 @@ at_most true most part r e = omega arith
 at_most false most part r e = omega arith
 
 pub overflow_add-head : goal.overflow_add-head
-overflow_add-head c = let a = c.args in let l = c.head_len-head.ensures.1 in let m = at_most (ltb a.out.whole a.n) a.most _ _ c.counted-len.ensures in record { fits = omega arith }
+overflow_add-head c = let m = at_most (ltb c.args.out.whole c.args.n) c.args.most _ _ c.counted-len.ensures in record { fits = omega arith }
 
 pub returns : goal.returns
 returns c =
-    let a = c.args in
     c.finish.ensures
-    ∙ ap (λ (h : ℕ). reaches a.pos a.size (h + c.counted-len.result) a.place) c.head_len-head.ensures.0
-    ∙ ap (λ (n : ℕ). reaches a.pos a.size (length (head_of a.held a.places a.header a.n) + n) a.place) c.counted-len.ensures
+    ∙ ap (λ (h : ℕ). reaches c.args.pos c.args.size (h + c.counted-len.result) c.args.place) c.head_len-head.ensures.0
+    ∙ ap (λ (n : ℕ). reaches c.args.pos c.args.size (length (head_of c.args.held c.args.places c.args.header c.args.n) + n) c.args.place) c.counted-len.ensures

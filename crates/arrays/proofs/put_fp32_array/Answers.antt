@@ -18,8 +18,7 @@ put_f32s-requires c = (stays_in _ _ _ _ _ c.requires.1 c.put_announced-word.ensu
 
 pub returns : goal.returns
 returns c =
-    let a = c.args in
-    floats_ended fp32 a.held a.places a.id (λ x. low_bytes 4 (to_bits binary32 x)) a.items.now (map (to_bits binary32) a.items.now) (length-map a.items.now (to_bits binary32)) (sym (each_map (low_bytes 4) (to_bits binary32) a.items.now)) a.pos a.buf.now a.place _ _ _ _ _ c.requires.1
-    (respelled _ _ _ _ _ _ (ap (λ (v : ℕ). head_of a.held a.places (a.id * 8 + 5) (length a.items.now) ++ shortest v) c.tagged.ensures) c.put_announced-word.ensures)
+    floats_ended fp32 c.args.held c.args.places c.args.id (λ x. low_bytes 4 (to_bits binary32 x)) c.args.items.now (map (to_bits binary32) c.args.items.now) (length-map c.args.items.now (to_bits binary32)) (sym (each_map (low_bytes 4) (to_bits binary32) c.args.items.now)) c.args.pos c.args.buf.now c.args.place _ _ _ _ _ c.requires.1
+    (respelled _ _ _ _ _ _ (ap (λ (v : ℕ). head_of c.args.held c.args.places (c.args.id * 8 + 5) (length c.args.items.now) ++ shortest v) c.tagged.ensures) c.put_announced-word.ensures)
     c.put_f32s.ensures
     c.finish_floats.ensures

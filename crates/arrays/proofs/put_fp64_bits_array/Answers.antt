@@ -16,8 +16,7 @@ put_fp64s-requires c = (stays_in _ _ _ _ _ c.requires.1 c.put_announced-word.ens
 
 pub returns : goal.returns
 returns c =
-    let a = c.args in
-    floats_ended fp64 a.held a.places a.id (low_bytes 8) a.items.now a.items.now refl refl a.pos a.buf.now a.place _ _ _ _ _ c.requires.1
-    (respelled _ _ _ _ _ _ (ap (λ (v : ℕ). head_of a.held a.places (a.id * 8 + 5) (length a.items.now) ++ shortest v) c.tagged.ensures) c.put_announced-word.ensures)
+    floats_ended fp64 c.args.held c.args.places c.args.id (low_bytes 8) c.args.items.now c.args.items.now refl refl c.args.pos c.args.buf.now c.args.place _ _ _ _ _ c.requires.1
+    (respelled _ _ _ _ _ _ (ap (λ (v : ℕ). head_of c.args.held c.args.places (c.args.id * 8 + 5) (length c.args.items.now) ++ shortest v) c.tagged.ensures) c.put_announced-word.ensures)
     c.put_fp64s.ensures
     c.finish_floats.ensures

@@ -20,16 +20,13 @@ put_zigzags-end-requires c = (stays_in _ _ _ _ _ c.requires.1 c.put_head-start.e
 pub returns-then-end-size : goal.returns-then-end-size
 unfolding field_bytes
 returns-then-end-size c =
-    let a = c.args in
-    stopped a.held a.places _ (λ c.before.before.before.before.before.before.before.before.before.before.before.before.before.before. shortest (zigzag (c.before.before.before.before.before.before.before.before.before.before.before.before.before.before))) a.items.now _ (ap (λ (h : ℕ). shortest h ++ (shortest (length a.items.now) ++ each (λ c.before.before.before.before.before.before.before.before.before.before.before.before.before.before. shortest (zigzag (c.before.before.before.before.before.before.before.before.before.before.before.before.before.before))) a.items.now)) c.tagged-header.ensures) a.pos a.buf.now a.place _ _ _ _ c.requires.1 c.put_head-start.ensures c.put_zigzags-end.ensures c.if-end-eq0.true (ltb-true _ _ c.if-end-size.true)
+    stopped c.args.held c.args.places _ (λ c.before.before.before.before.before.before.before.before.before.before.before.before.before.before. shortest (zigzag (c.before.before.before.before.before.before.before.before.before.before.before.before.before.before))) c.args.items.now _ (ap (λ (h : ℕ). shortest h ++ (shortest (length c.args.items.now) ++ each (λ c.before.before.before.before.before.before.before.before.before.before.before.before.before.before. shortest (zigzag (c.before.before.before.before.before.before.before.before.before.before.before.before.before.before))) c.args.items.now)) c.tagged-header.ensures) c.args.pos c.args.buf.now c.args.place _ _ _ _ c.requires.1 c.put_head-start.ensures c.put_zigzags-end.ensures c.if-end-eq0.true (ltb-true _ _ c.if-end-size.true-raw)
 
 pub finish_counted-requires : goal.finish_counted-requires
 finish_counted-requires c =
-    let s = c.zigzags_out-out.ensures.sum in
     (c.requires.0, c.requires.1, omega arith, far_enough c.args.place _ _ c.farthest-most.ensures (omega arith))
 
 pub returns : goal.returns
 unfolding field_bytes
 returns c =
-    let a = c.args in
-    counted-out a.held a.places _ (λ c.before.before.before.before.before.before.before.before.before.before.before.before.before.before.before. shortest (zigzag (c.before.before.before.before.before.before.before.before.before.before.before.before.before.before.before))) a.items.now _ (ap (λ (h : ℕ). shortest h ++ (shortest (length a.items.now) ++ each (λ c.before.before.before.before.before.before.before.before.before.before.before.before.before.before.before. shortest (zigzag (c.before.before.before.before.before.before.before.before.before.before.before.before.before.before.before))) a.items.now)) c.tagged-header.ensures) a.pos a.buf.now a.place _ _ _ _ c.requires.1 c.put_head-start.ensures c.put_zigzags-end.ensures _ _ _ _ _ c.requires.2 c.farthest-most.ensures c.zigzags_out-out.ensures refl c.finish_counted.ensures
+    counted-out c.args.held c.args.places _ (λ c.before.before.before.before.before.before.before.before.before.before.before.before.before.before.before. shortest (zigzag (c.before.before.before.before.before.before.before.before.before.before.before.before.before.before.before))) c.args.items.now _ (ap (λ (h : ℕ). shortest h ++ (shortest (length c.args.items.now) ++ each (λ c.before.before.before.before.before.before.before.before.before.before.before.before.before.before.before. shortest (zigzag (c.before.before.before.before.before.before.before.before.before.before.before.before.before.before.before))) c.args.items.now)) c.tagged-header.ensures) c.args.pos c.args.buf.now c.args.place _ _ _ _ c.requires.1 c.put_head-start.ensures c.put_zigzags-end.ensures _ _ _ _ _ c.requires.2 c.farthest-most.ensures c.zigzags_out-out.ensures refl c.finish_counted.ensures

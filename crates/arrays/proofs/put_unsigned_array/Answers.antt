@@ -19,16 +19,13 @@ put_varints-end-requires c = (stays_in _ _ _ _ _ c.requires.1 c.put_head-start.e
 pub returns-then-end-size : goal.returns-then-end-size
 unfolding field_bytes
 returns-then-end-size c =
-    let a = c.args in
-    stopped a.held a.places _ shortest a.items.now _ (ap (λ (h : ℕ). shortest h ++ (shortest (length a.items.now) ++ each shortest a.items.now)) c.tagged-header.ensures) a.pos a.buf.now a.place _ _ _ _ c.requires.1 c.put_head-start.ensures c.put_varints-end.ensures c.if-end-eq0.true (ltb-true _ _ c.if-end-size.true)
+    stopped c.args.held c.args.places _ shortest c.args.items.now _ (ap (λ (h : ℕ). shortest h ++ (shortest (length c.args.items.now) ++ each shortest c.args.items.now)) c.tagged-header.ensures) c.args.pos c.args.buf.now c.args.place _ _ _ _ c.requires.1 c.put_head-start.ensures c.put_varints-end.ensures c.if-end-eq0.true (ltb-true _ _ c.if-end-size.true-raw)
 
 pub finish_counted-requires : goal.finish_counted-requires
 finish_counted-requires c =
-    let s = c.varints_out-out.ensures.sum in
     (c.requires.0, c.requires.1, omega arith, far_enough c.args.place _ _ c.farthest-most.ensures (omega arith))
 
 pub returns : goal.returns
 unfolding field_bytes
 returns c =
-    let a = c.args in
-    counted-out a.held a.places _ shortest a.items.now _ (ap (λ (h : ℕ). shortest h ++ (shortest (length a.items.now) ++ each shortest a.items.now)) c.tagged-header.ensures) a.pos a.buf.now a.place _ _ _ _ c.requires.1 c.put_head-start.ensures c.put_varints-end.ensures _ _ _ _ _ c.requires.2 c.farthest-most.ensures c.varints_out-out.ensures refl c.finish_counted.ensures
+    counted-out c.args.held c.args.places _ shortest c.args.items.now _ (ap (λ (h : ℕ). shortest h ++ (shortest (length c.args.items.now) ++ each shortest c.args.items.now)) c.tagged-header.ensures) c.args.pos c.args.buf.now c.args.place _ _ _ _ c.requires.1 c.put_head-start.ensures c.put_varints-end.ensures _ _ _ _ _ c.requires.2 c.farthest-most.ensures c.varints_out-out.ensures refl c.finish_counted.ensures

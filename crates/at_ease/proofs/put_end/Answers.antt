@@ -12,15 +12,12 @@ use borrow.Author.Rules.{rules}
 use Rattle.at_ease.proofs.put_end.Goals as goal
 
 pub returns-then-buf-pos : goal.returns-then-buf-pos
-returns-then-buf-pos c = let a = c.args in unmade (ltb a.pos (length a.buf.now) && clean a.places) a.buf.now a.pos (7 ∷ []) (no_first _ _ (le-ltb _ _ c.if-buf-pos.true))
+returns-then-buf-pos c = unmade (ltb c.args.pos (length c.args.buf.now) && clean c.args.places) c.args.buf.now c.args.pos (7 ∷ []) (no_first _ _ (le-ltb _ _ c.if-buf-pos.true))
 
 pub returns-then-not-unused_zero : goal.returns-then-not-unused_zero
 returns-then-not-unused_zero c =
-    let a = c.args in
-    unmade (ltb a.pos (length a.buf.now) && clean a.places) a.buf.now a.pos (7 ∷ []) (no_second _ _ (lt-ltb _ _ c.if-buf-pos.false) (sym c.unused_zero.ensures ∙ not-true _ c.if-not-unused_zero.true))
+    unmade (ltb c.args.pos (length c.args.buf.now) && clean c.args.places) c.args.buf.now c.args.pos (7 ∷ []) (no_second _ _ (lt-ltb _ _ c.if-buf-pos.false) (sym c.unused_zero.ensures ∙ not-true _ c.if-not-unused_zero.true-raw))
 
 pub returns : goal.returns
 returns c =
-    let a = c.args in
-    let h = c.if-buf-pos.false in
-    made (ltb a.pos (length a.buf.now) && clean a.places) a.buf.now a.pos (7 ∷ []) _ _ (yes_both _ _ (lt-ltb _ _ h) (sym c.unused_zero.ensures ∙ not-false _ c.if-not-unused_zero.false)) (reached_one _ _ 7 h, put_one _ _ 7 h)
+    made (ltb c.args.pos (length c.args.buf.now) && clean c.args.places) c.args.buf.now c.args.pos (7 ∷ []) _ _ (yes_both _ _ (lt-ltb _ _ (c.if-buf-pos.false)) (sym c.unused_zero.ensures ∙ not-false _ c.if-not-unused_zero.false-raw)) (reached_one _ _ 7 (c.if-buf-pos.false), put_one _ _ 7 (c.if-buf-pos.false))

@@ -4,10 +4,11 @@ use Rattle.passing.specs.Passing.{Passes}
 use Rattle.passing.proofs.Ends.{reaches_inside}
 use Rattle.bodies.proofs.Landing.{count_small, floats_then, floats_else, floats_word, floats_word_else}
 use borrow.Author.Rules.{rules}
+use borrow.Enum.Refused.{opened}
 use Rattle.bodies.proofs.float_array_at.Goals as goal
 
 pub returns-in_default : goal.returns-in_default
-returns-in_default c id = subst (Passes _ _ _) (sym c.no_value.ensures) (floats_else _ c.in_default.in_default-own.keys2 c.count_at-count.ensures id)
+returns-in_default c id = subst (Passes _ _ _) (sym c.no_value.ensures) (floats_else _ (opened c.in_default.in_default-own.keys2) c.count_at-count.ensures id)
 
 pub varint_at-found-requires : goal.varint_at-found-requires
 varint_at-found-requires c = reaches_inside c.in-Value.is c.count_at-count.ensures
@@ -15,7 +16,7 @@ varint_at-found-requires c = reaches_inside c.in-Value.is c.count_at-count.ensur
 pub returns-in_default-found : goal.returns-in_default-found
 returns-in_default-found c id =
     floats_then c.in-Value.is c.count_at-count.ensures id _
-    (subst (Passes _ _ _) (sym c.no_value-in_default-found.ensures) (floats_word_else _ c.in_default-found.in_default-found-own.keys2 c.varint_at-found.ensures id _))
+    (subst (Passes _ _ _) (sym c.no_value-in_default-found.ensures) (floats_word_else _ (opened c.in_default-found.in_default-found-own.keys2) c.varint_at-found.ensures id _))
 
 pub floats_at-requires : goal.floats_at-requires
 floats_at-requires c =

@@ -11,17 +11,15 @@ use borrow.Author.Rules.{rules}
 use Rattle.buffers.proofs.change.Goals as goal
 
 abbrev judgement : goal.After-check_change-check → Judgement
-judgement c = let a = c.args in judged (change_tests (sound_for a.pos a.depth a.held a.places a.old) a.new a.offset a.drained)
+judgement c = judged (change_tests (sound_for c.args.pos c.args.depth c.args.held c.args.places c.args.old) c.args.new c.args.offset c.args.drained)
 
 judges : (c : goal.After-check_change-check) → c.check_change-check.result ≡ check_of (judgement c)
-judges c = let a = c.args in c.check_change-check.ensures ∙ ap (λ (sound : Bool). check_of (judged (change_tests sound a.new a.offset a.drained))) c.sound_for.ensures
+judges c = c.check_change-check.ensures ∙ ap (λ (sound : Bool). check_of (judged (change_tests sound c.args.new c.args.offset c.args.drained))) c.sound_for.ensures
 
 pub returns-then-check : goal.returns-then-check
 returns-then-check c =
-    let a = c.args in
-    sym (ap (λ (v : Judgement). moved_by v a.pos a.offset) (check_passes (judgement c.before) _ (judges c.before) (ap not c.if-check.true)))
+    sym (ap (λ (v : Judgement). moved_by v c.args.pos c.args.offset) (check_passes (judgement c.before) _ (judges c.before) (ap not c.if-check.true)))
 
 pub returns-else-check : goal.returns-else-check
 returns-else-check c =
-    let a = c.args in
-    sym (ap (λ (v : Judgement). moved_by v a.pos a.offset) (check_fails (judgement c.before) _ (judges c.before) (ap not c.if-check.false)))
+    sym (ap (λ (v : Judgement). moved_by v c.args.pos c.args.offset) (check_fails (judgement c.before) _ (judges c.before) (ap not c.if-check.false)))

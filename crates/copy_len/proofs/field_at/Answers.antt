@@ -5,11 +5,12 @@ use Rattle.lengths.proofs.Answers.{behind}
 use Rattle.copy_len.specs.CopyLen.{deepened}
 use Rattle.copy_len.proofs.Fields.{header_reads, field_then, field_else}
 use borrow.Author.Rules.{rules}
+use borrow.Enum.Refused.{opened}
 use Rattle.copy_len.proofs.field_at.Goals as goal
 
 pub returns-in_default : goal.returns-in_default
 returns-in_default c =
-    field_else _ _ _ _ c.in_default.in_default-own.keys2 c.header_at-found.ensures
+    field_else _ _ _ _ (opened c.in_default.in_default-own.keys2) c.header_at-found.ensures
     (c.at_depth.ensures ∙ ap (deepened _) (c.no_place.ensures ∙ ap no_place c.no_value.ensures))
 
 pub body_at-requires : goal.body_at-requires

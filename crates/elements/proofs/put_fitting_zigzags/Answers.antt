@@ -17,15 +17,13 @@ pub loop-i-init : goal.loop-i-init
 loop-i-init c = roomy_start _ _ _ _ _ c.requires
 
 pub put_fitting-at-requires : goal.put_fitting-at-requires
-put_fitting-at-requires c = let l = c.loop-i in roomy_here _ _ _ _ _ _ _ _ l.invariant c.loop-i-test.true
+put_fitting-at-requires c = roomy_here _ _ _ _ _ _ _ _ c.loop-i.invariant c.loop-i-test.true
 
 pub loop-i-preserved : goal.loop-i-preserved
 loop-i-preserved c =
-    let l = c.loop-i in
-    let z : ℤ = get_or c.args.items.now l.i (pos 0) in
-    let n = c.zigzag_encode in
-    let e = n.ensures ∙ ap zigzag (to_z-of_z w64 z (sfits_of c.v-1.given)) in
-    roomy_next _ _ _ _ _ _ _ _ l.invariant (pos 0) _ _ _ c.loop-i-test.true (ap shortest e) (length-longest base n.result n.type-inv) c.put_fitting-at.ensures
+    let z : ℤ = get_or c.args.items.now c.loop-i.i (pos 0) in
+    let e = c.zigzag_encode.ensures ∙ ap zigzag (to_z-of_z w64 z (sfits_of c.v-1.given)) in
+    roomy_next _ _ _ _ _ _ _ _ c.loop-i.invariant (pos 0) _ _ _ c.loop-i-test.true (ap shortest e) (length-longest base c.zigzag_encode.result c.zigzag_encode.type-inv) c.put_fitting-at.ensures
 
 pub shape_of-buf : goal.shape_of-buf
 shape_of-buf c = c.loop-i.invariant.left.size

@@ -28,37 +28,34 @@ pub loop-i-init : goal.loop-i-init
 loop-i-init c = (roomy_start _ _ _ _ _ c.requires, omega arith)
 
 pub overflow_sub-items : goal.overflow_sub-items
-overflow_sub-items c = let h = c.loop-i.invariant.1 in search rules
+overflow_sub-items c = search rules
 
 pub bounds-items-i : goal.bounds-items-i
-bounds-items-i c = let t = c.loop-i-test.true in omega arith
+bounds-items-i c = omega arith
 
 pub overflow_add-w : goal.overflow_add-w
-overflow_add-w c = let t = c.loop-i-test.true in record { fits = omega arith }
+overflow_add-w c = record { fits = omega arith }
 
 pub bounds-items-i-in-loop-i : goal.bounds-items-i-in-loop-i
-bounds-items-i-in-loop-i c = let t = c.loop-i-test.true in omega arith
+bounds-items-i-in-loop-i c = omega arith
 
 pub put_fitting-mid-requires : goal.put_fitting-mid-requires
-put_fitting-mid-requires c = let l = c.loop-i in let t = c.loop-i-test.true in roomy_here _ _ _ _ _ _ _ _ l.invariant.0 (omega arith)
+put_fitting-mid-requires c = roomy_here _ _ _ _ _ _ _ _ c.loop-i.invariant.0 (omega arith)
 
 pub put_fitting-at-requires : goal.put_fitting-at-requires
-put_fitting-at-requires c = let t = c.loop-i-test.true in roomy_here _ _ _ _ _ _ _ _ (first c.before.before.before) (omega arith)
+put_fitting-at-requires c = roomy_here _ _ _ _ _ _ _ _ (first c.before.before.before) (omega arith)
 
 pub overflow_add-i : goal.overflow_add-i
-overflow_add-i c = let t = c.loop-i-test.true in record { fits = omega arith }
+overflow_add-i c = record { fits = omega arith }
 
 pub loop-i-smaller : goal.loop-i-smaller
-loop-i-smaller c = let t = c.loop-i-test.true in omega arith
+loop-i-smaller c = omega arith
 
 pub loop-i-preserved : goal.loop-i-preserved
 loop-i-preserved c =
-    let a = c.args in
-    let l = c.loop-i in
-    let t = c.loop-i-test.true in
-    let v : ℕ = get_or a.items.now (l.i + 1) 0 in
-    let n : l.i + 1 + 1 ≡ l.i + 2 = omega arith in (
-      subst (λ (k : ℕ). Roomy shortest (longest base) a.items.now a.buf.now a.pos c.put_fitting-at.new.0 c.put_fitting-at.result k) n (roomy_next _ _ _ _ _ _ _ _ (first c.before.before.before.before.before.before) 0 _ _ _ (omega arith) refl (length-longest base v (c.shared_slice_known-in-loop-i-2-1.given (l.i + 1)).fits) c.put_fitting-at.ensures),
+    let v : ℕ = get_or c.args.items.now (c.loop-i.i + 1) 0 in
+    let n : c.loop-i.i + 1 + 1 ≡ c.loop-i.i + 2 = omega arith in (
+      subst (λ (k : ℕ). Roomy shortest (longest base) c.args.items.now c.args.buf.now c.args.pos c.put_fitting-at.new.0 c.put_fitting-at.result k) n (roomy_next _ _ _ _ _ _ _ _ (first c.before.before.before.before.before.before) 0 _ _ _ (omega arith) refl (length-longest base v (c.shared_slice_known-in-loop-i-2-1.given (c.loop-i.i + 1)).fits) c.put_fitting-at.ensures),
       omega arith,
     )
 
@@ -71,7 +68,6 @@ shape_of-buf-then-i-items c = (last c.before.before).left.size
 pub returns-then-i-items : goal.returns-then-i-items
 returns-then-i-items c =
     let r = last c.before.before in
-    let t = c.loop-i-test.false in
     let w = roomy_end _ _ _ _ _ _ _ _ r (omega arith) in
     (w.0, w.1, roomy_fits _ _ _ _ _ _ _ _ r (omega arith))
 
@@ -80,6 +76,5 @@ shape_of-buf c = c.loop-i.invariant.0.left.size
 
 pub returns : goal.returns
 returns c =
-    let r = c.loop-i.invariant.0 in
-    let w = roomy_end _ _ _ _ _ _ _ _ r c.if-i-items.false in
-    (w.0, w.1, roomy_fits _ _ _ _ _ _ _ _ r c.if-i-items.false)
+    let w = roomy_end _ _ _ _ _ _ _ _ (c.loop-i.invariant.0) c.if-i-items.false in
+    (w.0, w.1, roomy_fits _ _ _ _ _ _ _ _ (c.loop-i.invariant.0) c.if-i-items.false)

@@ -22,13 +22,12 @@ short : (c : goal.After-put_whole-arg-1) → c.varints_out-out.result.part < len
 short c = c.varints_out-out.ensures.short 0 c.if-items-first.false
 
 few : (c : goal.After-put_whole-arg-1) → c.varints_out-out.result.part < longest base
-few c = let i = c.varints_out-out.result.whole in let k = short c in let l = length-longest base (get_or c.args.items.now i 0) (c.shared_slice_known-2-1.given i).fits in omega arith
+few c = let k = short c in let l = length-longest base (get_or c.args.items.now (c.varints_out-out.result.whole) 0) (c.shared_slice_known-2-1.given (c.varints_out-out.result.whole)).fits in omega arith
 
 -- the first is out
 begun : (c : goal.After-slice_known-2-1) → Resumed shortest c.args.items.now c.args.cursor c.args.buf.now c.put_whole-next.new.0 c.put_whole-next.result (c.varints_out-out.result.whole + 1) 0
 begun c =
-    let o = c.varints_out-out in
-    resumed_next shortest _ _ _ _ _ _ _ (resumed_start shortest _ c.args.cursor _ _ _ c.requires o.ensures) length_some 0 _ _ _ c.if-items-first.false (sym (drop_shifted o.result.part _ (short c.before.before.before))) c.put_whole-next.ensures
+    resumed_next shortest _ _ _ _ _ _ _ (resumed_start shortest _ c.args.cursor _ _ _ c.requires c.varints_out-out.ensures) length_some 0 _ _ _ c.if-items-first.false (sym (drop_shifted c.varints_out-out.result.part _ (short c.before.before.before))) c.put_whole-next.ensures
 
 pub returns : goal.returns
 returns c = resumed_went shortest _ _ _ _ _ _ (begun c.before.before.before.before) _ _ c.varints_from-end-2.ensures

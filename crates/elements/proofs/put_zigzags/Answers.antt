@@ -37,8 +37,7 @@ few c = let k = short c in let l = length-longest base _ c.zigzag_encode.type-in
 -- the first is out
 begun : (c : goal.After-slice_known-2-1) → Resumed (λ z. shortest (zigzag z)) c.args.items.now c.args.cursor c.args.buf.now c.put_whole-next.new.0 c.put_whole-next.result (c.zigzags_out-out.result.whole + 1) 0
 begun c =
-    let o = c.zigzags_out-out in
-    resumed_next (λ z. shortest (zigzag z)) _ _ _ _ _ _ _ (resumed_start (λ z. shortest (zigzag z)) _ c.args.cursor _ _ _ c.requires o.ensures) (λ z. length_some (zigzag z)) (pos 0) _ _ _ c.if-items-first.false (sym (drop_shifted o.result.part _ (short c.before.before.before)) ∙ ap (λ (v : ℕ). drop o.result.part (shortest v)) (number c.before.before.before)) c.put_whole-next.ensures
+    resumed_next (λ z. shortest (zigzag z)) _ _ _ _ _ _ _ (resumed_start (λ z. shortest (zigzag z)) _ c.args.cursor _ _ _ c.requires c.zigzags_out-out.ensures) (λ z. length_some (zigzag z)) (pos 0) _ _ _ c.if-items-first.false (sym (drop_shifted c.zigzags_out-out.result.part _ (short c.before.before.before)) ∙ ap (λ (v : ℕ). drop c.zigzags_out-out.result.part (shortest v)) (number c.before.before.before)) c.put_whole-next.ensures
 
 pub returns : goal.returns
 returns c = resumed_went (λ z. shortest (zigzag z)) _ _ _ _ _ _ (begun c.before.before.before.before) _ _ c.zigzags_from-end-2.ensures

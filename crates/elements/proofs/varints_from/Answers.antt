@@ -17,7 +17,7 @@ pub put_next-at-requires : goal.put_next-at-requires
 put_next-at-requires c = c.loop-i.invariant.inside
 
 pub loop-i-preserved : goal.loop-i-preserved
-loop-i-preserved c = let l = c.loop-i in going_next _ _ _ _ _ _ _ _ l.invariant 0 _ _ _ (omega (arith, ltb-true)) refl c.put_next-at.ensures
+loop-i-preserved c = going_next _ _ _ _ _ _ _ _ c.loop-i.invariant 0 _ _ _ (omega (arith, ltb-true)) refl c.put_next-at.ensures
 
 pub shape_of-buf-else-at-buf : goal.shape_of-buf-else-at-buf
 shape_of-buf-else-at-buf c = c.loop-i.invariant.left.size

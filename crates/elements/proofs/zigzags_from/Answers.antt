@@ -22,10 +22,9 @@ put_next-at-requires c = c.loop-i.invariant.inside
 
 pub loop-i-preserved : goal.loop-i-preserved
 loop-i-preserved c =
-    let l = c.loop-i in
-    let z : ℤ = get_or c.args.items.now l.i (pos 0) in
+    let z : ℤ = get_or c.args.items.now c.loop-i.i (pos 0) in
     let e = c.zigzag_encode.ensures ∙ ap zigzag (to_z-of_z w64 z (sfits_of c.v-1.given)) in
-    going_next _ _ _ _ _ _ _ _ l.invariant (pos 0) _ _ _ (omega (arith, ltb-true)) (ap shortest e) c.put_next-at.ensures
+    going_next _ _ _ _ _ _ _ _ c.loop-i.invariant (pos 0) _ _ _ (omega (arith, ltb-true)) (ap shortest e) c.put_next-at.ensures
 
 pub shape_of-buf-else-at-buf : goal.shape_of-buf-else-at-buf
 shape_of-buf-else-at-buf c = c.loop-i.invariant.left.size

@@ -15,17 +15,16 @@ returns-then-bytes-from c = none_left _ _ _ _ _ _ (start _ _ _) (omega (arith, l
 
 pub loop-k-init : goal.loop-k-init
 loop-k-init c =
-    let a = c.args in
-    (omega arith, omega arith, c.least-n.ensures, omega arith, copy_start a.buf.now a.pos a.bytes.now a.from)
+    (omega arith, omega arith, c.least-n.ensures, omega arith, copy_start c.args.buf.now c.args.pos c.args.bytes.now c.args.from)
 
 pub loop-k-preserved : goal.loop-k-preserved
-loop-k-preserved c = let i = c.loop-k.invariant in (i.0, i.1, i.2, omega arith, copied _ _ _ _ _ _ _ i.4 (omega arith) (omega arith))
+loop-k-preserved c = (c.loop-k.invariant.0, c.loop-k.invariant.1, c.loop-k.invariant.2, omega arith, copied _ _ _ _ _ _ _ c.loop-k.invariant.4 (omega arith) (omega arith))
 
 pub shape_of-buf : goal.shape_of-buf
 shape_of-buf c = c.loop-k.invariant.4.size
 
 pub returns : goal.returns
-returns c = let i = c.loop-k.invariant in copied_all _ _ _ _ _ _ _ i.4 (omega arith) i.0 i.1
+returns c = copied_all _ _ _ _ _ _ _ c.loop-k.invariant.4 (omega arith) c.loop-k.invariant.0 c.loop-k.invariant.1
 
 pub overflow_sub-bytes : goal.overflow_sub-bytes
 overflow_sub-bytes c = omega arith

@@ -12,5 +12,4 @@ use Rattle.fields.proofs.put_close.Goals as goal
 pub returns : goal.returns
 unfolding field_bytes
 returns c =
-    let a = c.args in
-    ended_as _ _ _ _ _ _ _ (ap (λ (h : ℕ). headers_of a.held a.places ++ shortest h) c.tagged.ensures) c.put_marker.ensures
+    ended_as _ _ _ _ _ _ _ (ap (λ (h : ℕ). headers_of c.args.held c.args.places ++ shortest h) c.tagged.ensures) c.put_marker.ensures

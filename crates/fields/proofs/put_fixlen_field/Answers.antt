@@ -19,19 +19,16 @@ use Rattle.fields.proofs.put_fixlen_field.Goals as goal
 
 pub returns-then-has_room_behind : goal.returns-then-has_room_behind
 returns-then-has_room_behind c =
-    let a = c.args in
-    let m : length (headers_of a.held a.places) + pair_most + length a.bytes.now ≤ length a.buf.now - a.pos = leb-true _ _ (sym c.has_room_behind.ensures ∙ c.if-has_room_behind.true) in
-    let lh = length-longest base a.header c.ranges.header.fits in
-    let lw = length-longest base a.word c.ranges.word.fits in
-    let d = length-append (shortest a.header) (shortest a.word ++ a.bytes.now) in
-    let o = length-append (shortest a.word) a.bytes.now in
-    behind a.pos a.buf.now (headers_of a.held a.places) (shortest a.header ++ (shortest a.word ++ a.bytes.now)) a.place (length a.bytes.now) _ _ _ _ _ c.if-place-eq0.true (omega arith) (omega arith) c.put_held-behind.ensures clean_zeros c.put_field-end.ensures
+    let m : length (headers_of c.args.held c.args.places) + pair_most + length c.args.bytes.now ≤ length c.args.buf.now - c.args.pos = leb-true _ _ (sym c.has_room_behind.ensures ∙ c.if-has_room_behind.true) in
+    let lh = length-longest base c.args.header c.ranges.header.fits in
+    let lw = length-longest base c.args.word c.ranges.word.fits in
+    let d = length-append (shortest c.args.header) (shortest c.args.word ++ c.args.bytes.now) in
+    let o = length-append (shortest c.args.word) c.args.bytes.now in
+    behind c.args.pos c.args.buf.now (headers_of c.args.held c.args.places) (shortest c.args.header ++ (shortest c.args.word ++ c.args.bytes.now)) c.args.place (length c.args.bytes.now) _ _ _ _ _ c.if-place-eq0.true (omega arith) (omega arith) c.put_held-behind.ensures clean_zeros c.put_field-end.ensures
 
 pub returns : goal.returns
 returns c =
-    let a = c.args in
-    let h = head_of a.held a.places a.header a.word in
-    let l = c.head_len.ensures.0 in
-    let n = length-append h a.bytes.now in
+    let h = head_of c.args.held c.args.places c.args.header c.args.word in
+    let n = length-append h c.args.bytes.now in
     let e = joined _ _ _ _ _ _ _ _ c.requires.1 c.put_head-head.ensures c.put_bytes.ensures in
-    ended_as a.pos a.buf.now (h ++ a.bytes.now) _ a.place _ _ (grouped (headers_of a.held a.places) (shortest a.header) (shortest a.word) a.bytes.now) (ended _ _ _ _ _ _ e _ _ (omega arith) c.finish.ensures)
+    ended_as c.args.pos c.args.buf.now (h ++ c.args.bytes.now) _ c.args.place _ _ (grouped (headers_of c.args.held c.args.places) (shortest c.args.header) (shortest c.args.word) c.args.bytes.now) (ended _ _ _ _ _ _ e _ _ (omega arith) c.finish.ensures)

@@ -13,14 +13,9 @@ use Rattle.fields.proofs.put_marker.Goals as goal
 pub overflow_add-held_len : goal.overflow_add-held_len
 overflow_add-held_len c =
     let h = length-longest base c.args.header c.ranges.header.fits in
-    let e = c.varint_len.ensures in
-    let l = c.held_len.ensures.1 in
     record { fits = omega arith }
 
 pub returns : goal.returns
 returns c =
-    let a = c.args in
-    let l = c.held_len.ensures.0 in
-    let v = c.varint_len.ensures in
-    let n = length-append (headers_of a.held a.places) (shortest a.header) in
+    let n = length-append (headers_of c.args.held c.args.places) (shortest c.args.header) in
     ended _ _ _ _ _ _ (joined _ _ _ _ _ _ _ _ c.requires.1 c.put_held-behind.ensures c.put_varint.ensures) _ _ (omega arith) c.finish.ensures

@@ -13,13 +13,11 @@ pub loop-i-init : goal.loop-i-init
 loop-i-init c = roomy_start _ _ _ _ _ c.requires
 
 pub put_eight-at-requires : goal.put_eight-at-requires
-put_eight-at-requires c = let l = c.loop-i in roomy_here _ _ _ _ _ _ _ _ l.invariant c.loop-i-test.true
+put_eight-at-requires c = roomy_here _ _ _ _ _ _ _ _ c.loop-i.invariant c.loop-i-test.true
 
 pub loop-i-preserved : goal.loop-i-preserved
 loop-i-preserved c =
-    let l = c.loop-i in
-    let b = c.fp64_bits in
-    roomy_next (λ x. low_bytes 8 (to_bits binary64 x)) _ _ _ _ _ _ _ l.invariant _ _ _ _ c.loop-i-test.true (ap (low_bytes 8) b.ensures) (low_fits 8 _) c.put_eight-at.ensures
+    roomy_next (λ x. low_bytes 8 (to_bits binary64 x)) _ _ _ _ _ _ _ c.loop-i.invariant _ _ _ _ c.loop-i-test.true (ap (low_bytes 8) c.fp64_bits.ensures) (low_fits 8 _) c.put_eight-at.ensures
 
 pub shape_of-buf : goal.shape_of-buf
 shape_of-buf c = c.loop-i.invariant.left.size

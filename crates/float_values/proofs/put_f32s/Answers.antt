@@ -16,7 +16,7 @@ some : (x : Float) → 1 ≤ length (low_bytes 4 (to_bits binary32 x))
 some x = let e = length_low 4 (to_bits binary32 x) in omega arith
 
 start : (c : goal.After-evenly_out-out) → Resumed (λ x. low_bytes 4 (to_bits binary32 x)) c.args.items.now c.args.cursor c.args.buf.now c.args.buf.now c.args.cursor.pos c.evenly_out-out.result.whole c.evenly_out-out.result.part
-start c = let e = c.evenly_out-out.ensures in resumed_start (λ x. low_bytes 4 (to_bits binary32 x)) _ c.args.cursor _ _ _ c.requires (out_evenly (λ x. low_bytes 4 (to_bits binary32 x)) _ 4 (omega arith) (λ x. length_low 4 (to_bits binary32 x)) _ _ _ e.0 e.1 e.2)
+start c = resumed_start (λ x. low_bytes 4 (to_bits binary32 x)) _ c.args.cursor _ _ _ c.requires (out_evenly (λ x. low_bytes 4 (to_bits binary32 x)) _ 4 (omega arith) (λ x. length_low 4 (to_bits binary32 x)) _ _ _ c.evenly_out-out.ensures.0 c.evenly_out-out.ensures.1 c.evenly_out-out.ensures.2)
 
 pub returns-then-items-first : goal.returns-then-items-first
 returns-then-items-first c = resumed_end (λ x. low_bytes 4 (to_bits binary32 x)) _ _ _ _ _ _ _ (start c.before) c.if-items-first.true
@@ -28,7 +28,7 @@ begun : (c : goal.After-slice_known-2-1) → Resumed (λ x. low_bytes 4 (to_bits
 begun c = resumed_next (λ x. low_bytes 4 (to_bits binary32 x)) _ _ _ _ _ _ _ (start c.before.before.before.before.before.before.before) some _ _ _ _ c.if-items-first.false (ap (λ (v : ℕ). drop c.evenly_out-out.result.part (low_bytes 4 v)) c.fp32_bits.ensures) c.put_part-at.ensures
 
 pub put_four_floats-end-requires : goal.put_four_floats-end-requires
-put_four_floats-end-requires c = let n = c.least.result in let k : c.evenly_out-out.result.whole + 1 + n - (c.evenly_out-out.result.whole + 1) ≡ n = omega arith in rw k (run_fits (λ x. low_bytes 4 (to_bits binary32 x)) _ _ _ _ _ _ (begun c.before.before.before) 4 (omega arith) (λ x. length_low 4 (to_bits binary32 x)) n c.least.ensures)
+put_four_floats-end-requires c = let k : c.evenly_out-out.result.whole + 1 + (c.least.result) - (c.evenly_out-out.result.whole + 1) ≡ (c.least.result) = omega arith in rw k (run_fits (λ x. low_bytes 4 (to_bits binary32 x)) _ _ _ _ _ _ (begun c.before.before.before) 4 (omega arith) (λ x. length_low 4 (to_bits binary32 x)) (c.least.result) c.least.ensures)
 
 -- the whole ones, as the law has them
 whole : (c : goal.After-slice_known-3-1) → Puts c.put_part-at.new.0 c.put_part-at.result (each (λ x. low_bytes 4 (to_bits binary32 x)) (take c.least.result (drop (c.evenly_out-out.result.whole + 1) c.args.items.now))) c.put_four_floats-end.new.0 c.put_four_floats-end.result

@@ -13,13 +13,11 @@ pub loop-i-init : goal.loop-i-init
 loop-i-init c = roomy_start _ _ _ _ _ c.requires
 
 pub put_four-at-requires : goal.put_four-at-requires
-put_four-at-requires c = let l = c.loop-i in roomy_here _ _ _ _ _ _ _ _ l.invariant c.loop-i-test.true
+put_four-at-requires c = roomy_here _ _ _ _ _ _ _ _ c.loop-i.invariant c.loop-i-test.true
 
 pub loop-i-preserved : goal.loop-i-preserved
 loop-i-preserved c =
-    let l = c.loop-i in
-    let b = c.fp32_bits in
-    roomy_next (λ x. low_bytes 4 (to_bits binary32 x)) _ _ _ _ _ _ _ l.invariant _ _ _ _ c.loop-i-test.true (ap (low_bytes 4) b.ensures) (low_fits 4 _) c.put_four-at.ensures
+    roomy_next (λ x. low_bytes 4 (to_bits binary32 x)) _ _ _ _ _ _ _ c.loop-i.invariant _ _ _ _ c.loop-i-test.true (ap (low_bytes 4) c.fp32_bits.ensures) (low_fits 4 _) c.put_four-at.ensures
 
 pub shape_of-buf : goal.shape_of-buf
 shape_of-buf c = c.loop-i.invariant.left.size

@@ -12,12 +12,11 @@ pub loop-i-init : goal.loop-i-init
 loop-i-init c = roomy_start _ _ _ _ _ c.requires
 
 pub put_eight-at-requires : goal.put_eight-at-requires
-put_eight-at-requires c = let l = c.loop-i in roomy_here _ _ _ _ _ _ _ _ l.invariant c.loop-i-test.true
+put_eight-at-requires c = roomy_here _ _ _ _ _ _ _ _ c.loop-i.invariant c.loop-i-test.true
 
 pub loop-i-preserved : goal.loop-i-preserved
 loop-i-preserved c =
-    let l = c.loop-i in
-    roomy_next _ _ _ _ _ _ _ _ l.invariant 0 _ _ _ c.loop-i-test.true refl (low_fits 8 _) c.put_eight-at.ensures
+    roomy_next _ _ _ _ _ _ _ _ c.loop-i.invariant 0 _ _ _ c.loop-i-test.true refl (low_fits 8 _) c.put_eight-at.ensures
 
 pub shape_of-buf : goal.shape_of-buf
 shape_of-buf c = c.loop-i.invariant.left.size

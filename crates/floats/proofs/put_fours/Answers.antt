@@ -16,12 +16,11 @@ pub overflow_cast-bits : goal.overflow_cast-bits
 overflow_cast-bits c = omega (arith, c.shared_slice_known-in-loop-i-1.given c.loop-i.i)
 
 pub put_four-at-requires : goal.put_four-at-requires
-put_four-at-requires c = let l = c.loop-i in roomy_here _ _ _ _ _ _ _ _ l.invariant c.loop-i-test.true
+put_four-at-requires c = roomy_here _ _ _ _ _ _ _ _ c.loop-i.invariant c.loop-i-test.true
 
 pub loop-i-preserved : goal.loop-i-preserved
 loop-i-preserved c =
-    let l = c.loop-i in
-    roomy_next _ _ _ _ _ _ _ _ l.invariant 0 _ _ _ c.loop-i-test.true refl (low_fits 4 _) c.put_four-at.ensures
+    roomy_next _ _ _ _ _ _ _ _ c.loop-i.invariant 0 _ _ _ c.loop-i-test.true refl (low_fits 4 _) c.put_four-at.ensures
 
 pub shape_of-buf : goal.shape_of-buf
 shape_of-buf c = c.loop-i.invariant.left.size

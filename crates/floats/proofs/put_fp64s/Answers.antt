@@ -15,7 +15,7 @@ some : (x : ℕ) → 1 ≤ length (low_bytes 8 x)
 some x = let e = length_low 8 x in omega arith
 
 start : (c : goal.After-evenly_out-out) → Resumed (low_bytes 8) c.args.items.now c.args.cursor c.args.buf.now c.args.buf.now c.args.cursor.pos c.evenly_out-out.result.whole c.evenly_out-out.result.part
-start c = let e = c.evenly_out-out.ensures in resumed_start (low_bytes 8) _ c.args.cursor _ _ _ c.requires (out_evenly (low_bytes 8) _ 8 (omega arith) (λ x. length_low 8 x) _ _ _ e.0 e.1 e.2)
+start c = resumed_start (low_bytes 8) _ c.args.cursor _ _ _ c.requires (out_evenly (low_bytes 8) _ 8 (omega arith) (λ x. length_low 8 x) _ _ _ c.evenly_out-out.ensures.0 c.evenly_out-out.ensures.1 c.evenly_out-out.ensures.2)
 
 pub returns-then-items-first : goal.returns-then-items-first
 returns-then-items-first c = resumed_end (low_bytes 8) _ _ _ _ _ _ _ (start c.before) c.if-items-first.true
@@ -27,7 +27,7 @@ begun : (c : goal.After-slice_known-2-1) → Resumed (low_bytes 8) c.args.items.
 begun c = resumed_next (low_bytes 8) _ _ _ _ _ _ _ (start c.before.before.before.before.before.before) some 0 _ _ _ c.if-items-first.false refl c.put_part-at.ensures
 
 pub put_eights-end-requires : goal.put_eights-end-requires
-put_eights-end-requires c = let n = c.least.result in let k : c.evenly_out-out.result.whole + 1 + n - (c.evenly_out-out.result.whole + 1) ≡ n = omega arith in rw k (run_fits (low_bytes 8) _ _ _ _ _ _ (begun c.before.before.before) 8 (omega arith) (λ x. length_low 8 x) n c.least.ensures)
+put_eights-end-requires c = let k : c.evenly_out-out.result.whole + 1 + (c.least.result) - (c.evenly_out-out.result.whole + 1) ≡ (c.least.result) = omega arith in rw k (run_fits (low_bytes 8) _ _ _ _ _ _ (begun c.before.before.before) 8 (omega arith) (λ x. length_low 8 x) (c.least.result) c.least.ensures)
 
 -- the whole ones, as the law has them
 whole : (c : goal.After-slice_known-3-1) → Puts c.put_part-at.new.0 c.put_part-at.result (each (low_bytes 8) (take c.least.result (drop (c.evenly_out-out.result.whole + 1) c.args.items.now))) c.put_eights-end.new.0 c.put_eights-end.result

@@ -19,7 +19,7 @@ shifted a m n r q h = go (leb a (r - (m + pair_most))) refl
     go false e = let l : r - (m + pair_most) < a = leb-false _ _ e in sym (lt-leb (n + pair_most + a) r (omega arith))
 
 pub returns-then-room-head : goal.returns-then-room-head
-returns-then-room-head c = let a = c.args in let e = c.held_len-head.ensures.0 in sym (lt-leb (length (headers_of a.held a.places) + pair_most + a.more) (a.size - a.pos) (omega arith))
+returns-then-room-head c = sym (lt-leb (length (headers_of c.args.held c.args.places) + pair_most + c.args.more) (c.args.size - c.args.pos) (omega arith))
 
 pub returns : goal.returns
 returns c = shifted _ _ _ _ c.held_len-head.ensures.0 c.if-room-head.false

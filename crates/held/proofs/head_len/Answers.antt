@@ -12,28 +12,18 @@ use Rattle.held.proofs.head_len.Goals as goal
 pub overflow_add-result : goal.overflow_add-result
 overflow_add-result c =
     let h = length-longest base c.args.header c.ranges.header.fits in
-    let e = c.varint_len.ensures in
-    let l = c.held_len.ensures.1 in
     record { fits = omega arith }
 
 pub overflow_add-result-2 : goal.overflow_add-result-2
 overflow_add-result-2 c =
-    let a = c.args in
-    let g = length-longest base a.header c.ranges.header.fits in
-    let h = length-longest base a.second c.ranges.second.fits in
-    let d = c.varint_len.ensures in
-    let e = c.varint_len-2.ensures in
-    let l = c.held_len.ensures.1 in
+    let g = length-longest base c.args.header c.ranges.header.fits in
+    let h = length-longest base c.args.second c.ranges.second.fits in
     record { fits = omega arith }
 
 pub returns : goal.returns
 returns c =
-    let a = c.args in
-    let g = length-longest base a.header c.ranges.header.fits in
-    let h = length-longest base a.second c.ranges.second.fits in
-    let d = c.varint_len.ensures in
-    let e = c.varint_len-2.ensures in
-    let l = c.held_len.ensures in
-    let m = length-append (headers_of a.held a.places) (shortest a.header ++ shortest a.second) in
-    let n = length-append (shortest a.header) (shortest a.second) in
-    (omega (arith, l.0), omega (arith, l.1))
+    let g = length-longest base c.args.header c.ranges.header.fits in
+    let h = length-longest base c.args.second c.ranges.second.fits in
+    let m = length-append (headers_of c.args.held c.args.places) (shortest c.args.header ++ shortest c.args.second) in
+    let n = length-append (shortest c.args.header) (shortest c.args.second) in
+    (omega (arith, c.held_len.ensures.0), omega (arith, c.held_len.ensures.1))

@@ -22,21 +22,16 @@ short c =
     let h = length-longest base c.before.tagged.result c.before.tagged.type-inv in let e = c.varint-len.ensures in omega arith
 
 pub overflow_add-len : goal.overflow_add-len
-overflow_add-len c = let k = c.loop-i.invariant.3.most in let h = short c in record { fits = omega arith }
+overflow_add-len c = let h = short c in record { fits = omega arith }
 
 pub loop-i-preserved : goal.loop-i-preserved
 loop-i-preserved c =
-    let l = c.loop-i in
-    let a = c.args in
-    let n : length (take a.held a.t1) ≡ a.held = length-take-le _ _ (omega arith) in
-    let e = c.varint_len-len.ensures ∙ ap (λ (v : ℕ). length (shortest v)) (c.tagged.ensures ∙ ap (λ (x : ℕ). x * 8 + 6) (sym (get_or-take a.held a.t1 l.i 0 c.loop-i-test.true))) in
-    (l.invariant.0, l.invariant.1, l.invariant.2, count_next _ _ _ _ _ 0 _ l.invariant.3 (omega arith) e (short c))
+    let n : length (take c.args.held c.args.places) ≡ c.args.held = length-take-le _ _ (omega arith) in
+    let e = c.varint_len-len.ensures ∙ ap (λ (v : ℕ). length (shortest v)) (c.tagged.ensures ∙ ap (λ (x : ℕ). x * 8 + 6) (sym (get_or-take c.args.held c.args.places c.loop-i.i 0 c.loop-i-test.true))) in
+    (c.loop-i.invariant.0, c.loop-i.invariant.1, c.loop-i.invariant.2, count_next _ _ _ _ _ 0 _ c.loop-i.invariant.3 (omega arith) e (short c))
 
 pub returns : goal.returns
 unfolding headers_of
 returns c =
-    let l = c.loop-i in
-    let a = c.args in
-    let n : length (take a.held a.t1) ≡ a.held = length-take-le _ _ (omega arith) in
-    let m = l.invariant.3.most in
-    (count_end _ _ _ _ _ l.invariant.3 (omega arith), omega arith)
+    let n : length (take c.args.held c.args.places) ≡ c.args.held = length-take-le _ _ (omega arith) in
+    (count_end _ _ _ _ _ c.loop-i.invariant.3 (omega arith), omega arith)

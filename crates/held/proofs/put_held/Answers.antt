@@ -18,14 +18,11 @@ loop-i-init c = (search rules, refl, search rules, omega arith, owing_start _ _ 
 
 pub loop-i-preserved : goal.loop-i-preserved
 loop-i-preserved c =
-    let l = c.loop-i in
-    let a = c.args in
-    let n : length (take a.held a.t3) ≡ a.held = length-take-le _ _ (omega arith) in
-    let g = get_or-take a.held a.t3 l.i 0 c.loop-i-test.true in
-    let h = each_at (λ id. header id t_begin) (take a.held a.t3) l.i 0 (omega arith) in
+    let n : length (take c.args.held c.args.places) ≡ c.args.held = length-take-le _ _ (omega arith) in
+    let g = get_or-take c.args.held c.args.places c.loop-i.i 0 c.loop-i-test.true in
+    let h = each_at (λ id. header id t_begin) (take c.args.held c.args.places) c.loop-i.i 0 (omega arith) in
     let v = ap shortest (c.tagged.ensures ∙ ap (λ (x : ℕ). x * 8 + 6) (sym g)) in
-    let e = c.put_varint-cursor.ensures in
-    (l.invariant.0, l.invariant.1, l.invariant.2, omega arith, owing_next _ _ _ _ _ _ l.invariant.4 _ _ _ _ h (respelled _ _ _ _ _ _ v e))
+    (c.loop-i.invariant.0, c.loop-i.invariant.1, c.loop-i.invariant.2, omega arith, owing_next _ _ _ _ _ _ c.loop-i.invariant.4 _ _ _ _ h (respelled _ _ _ _ _ _ v (c.put_varint-cursor.ensures)))
 
 pub shape_of-buf : goal.shape_of-buf
 shape_of-buf c = c.loop-i.invariant.4.size
@@ -33,7 +30,5 @@ shape_of-buf c = c.loop-i.invariant.4.size
 pub returns : goal.returns
 unfolding headers_of
 returns c =
-    let l = c.loop-i in
-    let a = c.args in
-    let n : length (take a.held a.t3) ≡ a.held = length-take-le _ _ (omega arith) in
-    owing_end _ _ _ _ _ _ l.invariant.4 (each_end _ (take a.held a.t3) l.i (omega arith))
+    let n : length (take c.args.held c.args.places) ≡ c.args.held = length-take-le _ _ (omega arith) in
+    owing_end _ _ _ _ _ _ c.loop-i.invariant.4 (each_end _ (take c.args.held c.args.places) c.loop-i.i (omega arith))

@@ -4,11 +4,12 @@ use mathlib.Core.Path.{ap, ◌∙◌}
 use Rattle.lengths.specs.Lengths.{no_place}
 use Rattle.lengths.proofs.Answers.{array_sizes, array_else, behind, count_reads}
 use borrow.Author.Rules.{rules}
+use borrow.Enum.Refused.{opened}
 use Rattle.lengths.proofs.array_len.Goals as goal
 
 pub returns-in_default : goal.returns-in_default
 returns-in_default c =
-    array_else _ _ c.in_default.in_default-own.keys2 c.count_at-found.ensures (c.no_place.ensures ∙ ap no_place c.no_value.ensures)
+    array_else _ _ (opened c.in_default.in_default-own.keys2) c.count_at-found.ensures (c.no_place.ensures ∙ ap no_place c.no_value.ensures)
 
 pub overflow_add-len : goal.overflow_add-len
 overflow_add-len c =

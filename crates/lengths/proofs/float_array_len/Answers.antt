@@ -7,12 +7,13 @@ use Rattle.bodies.proofs.Landing.{count_small}
 use Rattle.lengths.specs.Lengths.{no_place, BodySizes}
 use Rattle.lengths.proofs.Answers.{floats_behind, floats_sizes, floats_else, floats_no_word, floats_nowhere}
 use borrow.Author.Rules.{rules}
+use borrow.Enum.Refused.{opened}
 use Rattle.lengths.proofs.float_array_len.Goals as goal
 
 pub returns-in_default : goal.returns-in_default
 returns-in_default c =
     subst (BodySizes _ _ t_floats _) (sym (c.no_place.ensures ∙ ap no_place c.no_value.ensures))
-    (floats_else _ c.in_default.in_default-own.keys2 c.count_at-count.ensures)
+    (floats_else _ (opened c.in_default.in_default-own.keys2) c.count_at-count.ensures)
 
 pub varint_at-found-requires : goal.varint_at-found-requires
 varint_at-found-requires c = reaches_inside c.in-Value.is c.count_at-count.ensures
@@ -20,7 +21,7 @@ varint_at-found-requires c = reaches_inside c.in-Value.is c.count_at-count.ensur
 pub returns-in_default-found : goal.returns-in_default-found
 returns-in_default-found c =
     subst (BodySizes _ _ t_floats _) (sym (c.no_place-in_default-found.ensures ∙ ap no_place c.no_value-in_default-found.ensures))
-    (floats_no_word c.in-Value.is c.count_at-count.ensures _ c.in_default-found.in_default-found-own.keys2 c.varint_at-found.ensures)
+    (floats_no_word c.in-Value.is c.count_at-count.ensures _ (opened c.in_default-found.in_default-found-own.keys2) c.varint_at-found.ensures)
 
 pub floats_at-land-requires : goal.floats_at-land-requires
 floats_at-land-requires c =
@@ -29,7 +30,7 @@ floats_at-land-requires c =
 pub returns-in_default-land : goal.returns-in_default-land
 returns-in_default-land c =
     subst (BodySizes _ _ t_floats _) (sym c.no_place-in_default-land.ensures)
-    (floats_nowhere c.in-Value.is c.count_at-count.ensures c.in-Value-found.is c.varint_at-found.ensures _ c.in_default-land.in_default-land-own.keys2 c.floats_at-land.ensures)
+    (floats_nowhere c.in-Value.is c.count_at-count.ensures c.in-Value-found.is c.varint_at-found.ensures _ (opened c.in_default-land.in_default-land-own.keys2) c.floats_at-land.ensures)
 
 pub overflow_add-result : goal.overflow_add-result
 overflow_add-result c =

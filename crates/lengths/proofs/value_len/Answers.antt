@@ -4,12 +4,13 @@ use mathlib.Core.Path.{sym, ap, ◌∙◌, subst}
 use Rattle.lengths.specs.Lengths.{no_place, Sizes}
 use Rattle.lengths.proofs.Answers.{value_sizes, else_sizes, behind, value_reads}
 use borrow.Author.Rules.{rules}
+use borrow.Enum.Refused.{opened}
 use Rattle.lengths.proofs.value_len.Goals as goal
 
 pub returns-in_default : goal.returns-in_default
 returns-in_default c =
     subst (Sizes _ _ _) (sym (c.no_place.ensures ∙ ap no_place c.no_value.ensures))
-    (else_sizes _ _ _ c.in_default.in_default-own.keys2 c.long_varint_at-found.ensures)
+    (else_sizes _ _ _ (opened c.in_default.in_default-own.keys2) c.long_varint_at-found.ensures)
 
 pub overflow_add-result : goal.overflow_add-result
 overflow_add-result c =

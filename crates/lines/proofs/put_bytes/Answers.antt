@@ -18,9 +18,8 @@ loop-i-init c = (omega arith, says _ _ _ _ _ _ (sym (each_none byte_line)) (noth
 
 pub loop-i-preserved : goal.loop-i-preserved
 loop-i-preserved c =
-    let l = c.loop-i in
-    let h : l.i < length c.args.bytes.now = omega (arith, ltb-true) in
-    (omega arith, says _ _ _ _ _ _ (each_more byte_line c.args.bytes.now l.i h) (joined _ _ _ _ _ _ _ _ l.invariant.1 c.put_byte-next.ensures))
+    let h : c.loop-i.i < length c.args.bytes.now = omega (arith, ltb-true) in
+    (omega arith, says _ _ _ _ _ _ (each_more byte_line c.args.bytes.now c.loop-i.i h) (joined _ _ _ _ _ _ _ _ c.loop-i.invariant.1 c.put_byte-next.ensures))
 
 pub shape_of-out : goal.shape_of-out
 shape_of-out c = length_kept _ _ _ _ _ c.loop-i.invariant.1

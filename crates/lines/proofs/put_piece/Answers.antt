@@ -17,9 +17,6 @@ within f t from to l p q =
 
 pub returns : goal.returns
 returns c =
-    let to = c.least-to.result in
-    let from = c.least-from.result in
-    let chunk = c.args.chunk.now in
-    let f : from ≡ min c.args.b.from to = c.least-from.ensures in
-    let t : to ≡ min c.args.b.to (length chunk) = c.least-to.ensures in
-    says _ _ _ _ _ _ (ap (each byte_line) (part_is from to chunk ∙ within _ _ from to chunk f t)) c.put_bytes.ensures
+    let f : (c.least-from.result) ≡ min c.args.b.from (c.least-to.result) = c.least-from.ensures in
+    let t : (c.least-to.result) ≡ min c.args.b.to (length (c.args.chunk.now)) = c.least-to.ensures in
+    says _ _ _ _ _ _ (ap (each byte_line) (part_is (c.least-from.result) (c.least-to.result) (c.args.chunk.now) ∙ within _ _ (c.least-from.result) (c.least-to.result) (c.args.chunk.now) f t)) c.put_bytes.ensures

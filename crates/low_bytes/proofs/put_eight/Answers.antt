@@ -10,16 +10,11 @@ use Rattle.low_bytes.proofs.put_eight.Goals as goal
 
 pub put_four-requires : goal.put_four-requires
 put_four-requires c =
-    let a = c.args in
-    let h = c.requires in
-    let w = c.put_four-mid.ensures in
-    let z = same_size a.buf.now a.pos (low_bytes 4 a.x) _ _ (omega arith) w in
-    let n = not_beyond a.buf.now a.pos (low_bytes 4 a.x) _ _ (omega arith) w in
-    let l = length_low 4 a.x in
+    let z = same_size c.args.buf.now c.args.pos (low_bytes 4 c.args.x) _ _ (omega arith) (c.put_four-mid.ensures) in
+    let n = not_beyond c.args.buf.now c.args.pos (low_bytes 4 c.args.x) _ _ (omega arith) (c.put_four-mid.ensures) in
+    let l = length_low 4 c.args.x in
     omega arith
 
 pub returns : goal.returns
 returns c =
-    let a = c.args in
-    let h = c.requires in
-    whole_as a.buf.now a.pos _ _ _ _ (eight_low a.x) (in_a_row a.buf.now a.pos (low_bytes 4 a.x) _ _ (omega arith) c.put_four-mid.ensures (low_bytes 4 (a.x / 4294967296)) _ _ c.put_four.ensures)
+    whole_as c.args.buf.now c.args.pos _ _ _ _ (eight_low c.args.x) (in_a_row c.args.buf.now c.args.pos (low_bytes 4 c.args.x) _ _ (omega arith) c.put_four-mid.ensures (low_bytes 4 (c.args.x / 4294967296)) _ _ c.put_four.ensures)

@@ -6,13 +6,13 @@ use borrow.Author.Rules.{rules}
 use Rattle.low_bytes.proofs.put_four.Goals as goal
 
 pub bounds-buf-pos-2 : goal.bounds-buf-pos-2
-bounds-buf-pos-2 c = let r = c.requires in simp length-set (omega arith)
+bounds-buf-pos-2 c = simp length-set (omega arith)
 
 pub bounds-buf-pos-3 : goal.bounds-buf-pos-3
-bounds-buf-pos-3 c = let r = c.requires in simp length-set (omega arith)
+bounds-buf-pos-3 c = simp length-set (omega arith)
 
 pub bounds-buf-pos-4 : goal.bounds-buf-pos-4
-bounds-buf-pos-4 c = let r = c.requires in simp length-set (omega arith)
+bounds-buf-pos-4 c = simp length-set (omega arith)
 
 pub returns : goal.returns
 returns c = four_low _ _ _ c.requires

@@ -12,33 +12,29 @@ use Rattle.low_bytes.proofs.put_part.Goals as goal
 
 -- the room for n bytes, as the test has it
 roomy : (c : goal.Then-n-buf) → c.args.n ≤ length c.args.buf.now - c.args.pos
-roomy c = leb-true _ _ c.if-n-buf.true
+roomy c = leb-true _ _ c.if-n-buf.true-raw
 
 pub put_four-requires : goal.put_four-requires
-put_four-requires c = let r = roomy c.before.before in let e = c.if-n-eq4.true in omega arith
+put_four-requires c = let r = roomy c.before.before in omega arith
 
 pub returns-then-n-eq4 : goal.returns-then-n-eq4
 returns-then-n-eq4 c =
-    let a = c.args in
-    let n : 4 ≡ a.n = sym c.if-n-eq4.true in
-    let z : 0 ≡ a.part = sym c.if-part-eq0.true in
-    whole_as a.buf.now a.pos _ _ _ _ (ap (λ (k : ℕ). low_bytes k a.x) n ∙ ap (λ (k : ℕ). drop k (low_bytes a.n a.x)) z) c.put_four.ensures
+    let n : 4 ≡ c.args.n = sym c.if-n-eq4.true in
+    let z : 0 ≡ c.args.part = sym c.if-part-eq0.true in
+    whole_as c.args.buf.now c.args.pos _ _ _ _ (ap (λ (k : ℕ). low_bytes k c.args.x) n ∙ ap (λ (k : ℕ). drop k (low_bytes c.args.n c.args.x)) z) c.put_four.ensures
 
 pub put_eight-requires : goal.put_eight-requires
-put_eight-requires c = let r = roomy c.before.before.before in let e = c.if-n-eq8.true in omega arith
+put_eight-requires c = let r = roomy c.before.before.before in omega arith
 
 pub returns-then-n-eq8 : goal.returns-then-n-eq8
 returns-then-n-eq8 c =
-    let a = c.args in
-    let n : 8 ≡ a.n = sym c.if-n-eq8.true in
-    let z : 0 ≡ a.part = sym c.if-part-eq0.true in
-    whole_as a.buf.now a.pos _ _ _ _ (ap (λ (k : ℕ). low_bytes k a.x) n ∙ ap (λ (k : ℕ). drop k (low_bytes a.n a.x)) z) c.put_eight.ensures
+    let n : 8 ≡ c.args.n = sym c.if-n-eq8.true in
+    let z : 0 ≡ c.args.part = sym c.if-part-eq0.true in
+    whole_as c.args.buf.now c.args.pos _ _ _ _ (ap (λ (k : ℕ). low_bytes k c.args.x) n ∙ ap (λ (k : ℕ). drop k (low_bytes c.args.n c.args.x)) z) c.put_eight.ensures
 
 pub returns : goal.returns
 returns c =
-    let a = c.args in
-    let h = c.requires.1 in
-    whole_as a.buf.now a.pos _ _ _ _ (sym (drop_low a.part a.n a.x (omega arith))) c.put_low.ensures
+    whole_as c.args.buf.now c.args.pos _ _ _ _ (sym (drop_low c.args.part c.args.n c.args.x (omega arith))) c.put_low.ensures
 
 pub overflow_sub-buf : goal.overflow_sub-buf
 overflow_sub-buf c = omega (arith, ltb-true)

@@ -9,10 +9,8 @@ returns-then-total-place c = reaches_beyond _ _ _ _ (omega arith)
 
 pub returns-then-owed-room : goal.returns-then-owed-room
 returns-then-owed-room c =
-    let m = c.least-out.ensures in
     reaches_through _ _ _ _ _ (omega arith) (omega arith) (omega arith)
 
 pub returns-else-owed-room : goal.returns-else-owed-room
 returns-else-owed-room c =
-    let m = c.least-out.ensures in
     reaches_full _ _ _ _ _ (omega arith) (omega arith) (omega arith)

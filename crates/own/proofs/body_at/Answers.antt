@@ -19,7 +19,7 @@ pub returns-in-5 : goal.returns-in-5
 returns-in-5 c = ends_as c.float_array_at.ensures (λ bs. with_header _ _ t_floats bs c.requires.1 c.in-5.is)
 
 pub returns-then-depth : goal.returns-then-depth
-returns-then-depth c = let p = c.requires in open_ends _ _ _ _ p.0 p.1 c.in-6.is c.if-depth.true
+returns-then-depth c = open_ends _ _ _ _ c.requires.0 c.requires.1 c.in-6.is c.if-depth.true
 
 pub returns-else-depth : goal.returns-else-depth
 returns-else-depth c = none

@@ -5,5 +5,4 @@ use Rattle.own.proofs.elements.Goals as goal
 
 pub returns : goal.returns
 returns c =
-    let r = c.row_at-row.ensures in
-    (r.0, r.1, stretch_take _ r.2 r.0)
+    (c.row_at-row.ensures.0, c.row_at-row.ensures.1, stretch_take _ c.row_at-row.ensures.2 c.row_at-row.ensures.0)

@@ -5,7 +5,7 @@ use borrow.Author.Rules.{rules}
 use Rattle.own.proofs.field_at.Goals as goal
 
 pub returns-then-at-small : goal.returns-then-at-small
-returns-then-at-small c = let s = c.smalls_at-small.ensures in reaches s.0 (stretch_as s.1 (λ bs f. f _))
+returns-then-at-small c = reaches c.smalls_at-small.ensures.0 (stretch_as c.smalls_at-small.ensures.1 (λ bs f. f _))
 
 pub returns-then-i-eq0 : goal.returns-then-i-eq0
 returns-then-i-eq0 c = none

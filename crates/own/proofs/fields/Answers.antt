@@ -11,13 +11,11 @@ loop-at-init c = ran_start _ _
 
 pub returns-then-i-at : goal.returns-then-i-at
 returns-then-i-at c =
-    let r = c.loop-at.invariant in
-    (r.0, stretch_take _ r.1 r.0)
+    (c.loop-at.invariant.0, stretch_take _ c.loop-at.invariant.1 c.loop-at.invariant.0)
 
 pub loop-at-preserved : goal.loop-at-preserved
 loop-at-preserved c = ran_next c.loop-at.invariant c.if-i-at.false c.field_at-next.ensures
 
 pub returns : goal.returns
 returns c =
-    let r = c.loop-at.invariant in
-    (r.0, stretch_take _ r.1 r.0)
+    (c.loop-at.invariant.0, stretch_take _ c.loop-at.invariant.1 c.loop-at.invariant.0)

@@ -17,11 +17,9 @@ turn d at s k hd hs = paste-suc d at s k 0 hd hs ∙ ap (paste d at s) (sym (add
 
 pub loop-k-preserved : goal.loop-k-preserved
 loop-k-preserved c =
-    let a = c.args in
-    let l = c.loop-k in
-    let hd : a.pos + l.k < length a.buf.now = omega arith in
-    let hs : l.k < length a.src.now = omega arith in
-    (omega arith, simp length-set l.invariant.1, ap (λ (b : List ℕ). set b (a.pos + l.k) (get_or a.src.now l.k 0)) l.invariant.2 ∙ turn _ _ _ _ hd hs)
+    let hd : c.args.pos + c.loop-k.k < length c.args.buf.now = omega arith in
+    let hs : c.loop-k.k < length c.args.src.now = omega arith in
+    (omega arith, simp length-set c.loop-k.invariant.1, ap (λ (b : List ℕ). set b (c.args.pos + c.loop-k.k) (get_or c.args.src.now c.loop-k.k 0)) c.loop-k.invariant.2 ∙ turn _ _ _ _ hd hs)
 
 pub shape_of-buf : goal.shape_of-buf
 shape_of-buf c = c.loop-k.invariant.1

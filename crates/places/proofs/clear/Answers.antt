@@ -15,12 +15,11 @@ loop-i-init c =
     (omega arith, c.requires, l, refl)
 
 pub bounds-cleared-i : goal.bounds-cleared-i
-bounds-cleared-i c = let i = c.loop-i.invariant in omega (arith, ap length i.3, length-zeroed c.args.places c.loop-i.i (omega arith))
+bounds-cleared-i c = omega (arith, ap length c.loop-i.invariant.3, length-zeroed c.args.places c.loop-i.i (omega arith))
 
 pub loop-i-preserved : goal.loop-i-preserved
 loop-i-preserved c =
-    let i = c.loop-i.invariant in
-    (omega arith, i.1, i.2, ap (λ (l : List ℕ). set l c.loop-i.i 0) i.3 ∙ zeroed-more c.args.places c.loop-i.i (omega arith))
+    (omega arith, c.loop-i.invariant.1, c.loop-i.invariant.2, ap (λ (l : List ℕ). set l c.loop-i.i 0) c.loop-i.invariant.3 ∙ zeroed-more c.args.places c.loop-i.i (omega arith))
 
 pub returns : goal.returns
 returns c =

@@ -17,14 +17,12 @@ loop-i-init c = (omega arith, refl)
 pub returns-then-pending-i-gt-ID_MAX : goal.returns-then-pending-i-gt-ID_MAX
 returns-then-pending-i-gt-ID_MAX c =
     let l : length c.args.pending ≡ lazy_depth = search rules in
-    let i = c.loop-i.invariant in
-    first_fails _ _ _ _ (omega arith) c.loop-i-test.true (lt-leb _ _ c.if-pending-i-gt-ID_MAX.true) ∙ i.1
+    first_fails _ _ _ _ (omega arith) c.loop-i-test.true (lt-leb _ _ c.if-pending-i-gt-ID_MAX.true) ∙ c.loop-i.invariant.1
 
 pub loop-i-preserved : goal.loop-i-preserved
 loop-i-preserved c =
     let l : length c.args.pending ≡ lazy_depth = search rules in
-    let i = c.loop-i.invariant in
-    (omega arith, sym (first_on _ _ _ _ (omega arith) c.loop-i-test.true (le-leb _ _ c.if-pending-i-gt-ID_MAX.false)) ∙ i.1)
+    (omega arith, sym (first_on _ _ _ _ (omega arith) c.loop-i-test.true (le-leb _ _ c.if-pending-i-gt-ID_MAX.false)) ∙ c.loop-i.invariant.1)
 
 pub returns : goal.returns
 returns c =

@@ -16,14 +16,12 @@ loop-i-init c = (omega arith, refl)
 pub returns-then-pending-i-ne0 : goal.returns-then-pending-i-ne0
 returns-then-pending-i-ne0 c =
     let l : length c.args.pending ≡ lazy_depth = search rules in
-    let i = c.loop-i.invariant in
-    every_fails (λ x. eqb x 0) c.args.pending c.loop-i.i (omega arith) (ne_eqb _ _ c.if-pending-i-ne0.true) ∙ i.1
+    every_fails (λ x. eqb x 0) c.args.pending c.loop-i.i (omega arith) (ne_eqb _ _ c.if-pending-i-ne0.true) ∙ c.loop-i.invariant.1
 
 pub loop-i-preserved : goal.loop-i-preserved
 loop-i-preserved c =
     let l : length c.args.pending ≡ lazy_depth = search rules in
-    let i = c.loop-i.invariant in
-    (omega arith, sym (every_on (λ x. eqb x 0) c.args.pending c.loop-i.i (omega arith) (eq-eqb _ _ c.if-pending-i-ne0.false)) ∙ i.1)
+    (omega arith, sym (every_on (λ x. eqb x 0) c.args.pending c.loop-i.i (omega arith) (eq-eqb _ _ c.if-pending-i-ne0.false)) ∙ c.loop-i.invariant.1)
 
 pub returns : goal.returns
 returns c =

@@ -3,11 +3,12 @@ use mathlib.Core.Path.{sym, ap, ◌∙◌}
 use Rattle.read_at_once.specs.AtOnce.{raised_of}
 use Rattle.read_at_once.proofs.AtOnce.{none_raised}
 use borrow.Author.Rules.{rules}
+use borrow.Enum.Refused.{opened}
 use Rattle.read_at_once.proofs.raised.Goals as goal
 
 pub returns-in_default : goal.returns-in_default
 returns-in_default c =
-    none_raised c.args.n c.args.s c.in_default.in_default-own.keys2
+    none_raised c.args.n c.args.s (opened c.in_default.in_default-own.keys2)
 
 pub returns : goal.returns
 returns c =

@@ -11,6 +11,7 @@ use Rattle.machine.specs.Calls.{call}
 use Rattle.phase.specs.Phases.{state_at}
 use Rattle.phase.specs.Sound.{AtBytes}
 use Rattle.read_slowly.proofs.Calls.{scan_on, call-scan, turn-ends, turn_goes, turn_last}
+use borrow.Enum.Refused.{opened}
 use Rattle.read_slowly.proofs.scan.Given as goal
 
 abbrev pub invariant-loop-n : goal.invariant-loop-n

@@ -22,11 +22,9 @@ returns-in-Unsigned c c' = ap (shown_text c') c.with_id.ensures ∙ shows c' _ _
 
 pub returns-in-Signed : goal.returns-in-Signed
 returns-in-Signed c c' =
-    let g = c.e-in-Signed-1.given in
-    let z = g.0.1.0 in
-    let f : to_z w64 (of_z w64 z) ≡ z = search rules in
-    ap (shown_text c') c.with_id-in-Signed.ensures ∙ ap (λ (t : List ℕ). 83 ∷ ((32 ∷ decimal g.0.0) ++ (t ++ (10 ∷ [])))) c.signed_part.ensures
-    ∙ ap (λ (v : ℤ). 83 ∷ ((32 ∷ decimal g.0.0) ++ ((32 ∷ signed v) ++ (10 ∷ [])))) f ∙ shows c' _ _ g.1
+    let f : to_z w64 (of_z w64 (c.in-Signed.v)) ≡ (c.in-Signed.v) = search rules in
+    ap (shown_text c') c.with_id-in-Signed.ensures ∙ ap (λ (t : List ℕ). 83 ∷ ((32 ∷ decimal c.in-Signed.id) ++ (t ++ (10 ∷ [])))) c.signed_part.ensures
+    ∙ ap (λ (v : ℤ). 83 ∷ ((32 ∷ decimal c.in-Signed.id) ++ ((32 ∷ signed v) ++ (10 ∷ [])))) f ∙ shows c' _ _ c.in-Signed.is
 
 pub returns-in-Fp32 : goal.returns-in-Fp32
 returns-in-Fp32 c c' = ap (shown_text c') c.with_id-in-Fp32.ensures ∙ ap (λ (n : ℕ). shown_text c' (lined 70 c.in-Fp32.id (Bits32 n) Nothing)) c.fp32_bits.ensures ∙ shows c' _ _ c.in-Fp32.is

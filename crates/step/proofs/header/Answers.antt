@@ -5,12 +5,13 @@ use Rattle.step.proofs.Steps.{over_in, more_in, value_in}
 use Rattle.headers.proofs.Headers.{id_beyond, header_in}
 use Rattle.machine.specs.Machine.{step}
 use borrow.Author.Rules.{rules}
+use borrow.Enum.Refused.{opened}
 use Rattle.step.proofs.header.Goals as goal
 
 pub returns-in_default-p : goal.returns-in_default-p
 unfolding step
 returns-in_default-p c =
-    over_in base c.args.a c.args.b c.requires c.push-p.result c.push-p.ensures _ _ _ c.in_default.in_default-own.keys2 c.in_default-p.in_default-p-own.keys2
+    over_in base c.args.a c.args.b c.requires c.push-p.result c.push-p.ensures _ _ _ (opened c.in_default.in_default-own.keys2) (opened c.in_default-p.in_default-p-own.keys2)
 
 pub returns-in_default : goal.returns-in_default
 unfolding step

@@ -5,6 +5,7 @@ use Rattle.phase.specs.Phases.{state_at}
 use Rattle.copying.specs.Owed.{due_in}
 use Rattle.turns.proofs.Tests.{none-due}
 use borrow.Author.Rules.{rules}
+use borrow.Enum.Refused.{opened}
 use Rattle.turns.proofs.due.Goals as goal
 
 pub returns-in-Unsigned : goal.returns-in-Unsigned
@@ -20,4 +21,4 @@ unfolding due_in
 returns-in-Float c = sym (ap (λ (p : Phase). due_in (state_at c.args.reader.carried.depth p)) c.in-Float.is)
 
 pub returns-in_default : goal.returns-in_default
-returns-in_default c = none-due c.args.reader c.in_default.in_default-own.keys4
+returns-in_default c = none-due c.args.reader (opened c.in_default.in_default-own.keys4)

@@ -16,7 +16,7 @@ pub one_turn-t-requires : goal.one_turn-t-requires
 one_turn-t-requires c = (c.loop-next.invariant.sound, (c.loop-next.invariant.live, c.loop-next.invariant.within))
 
 pub overflow_add-used : goal.overflow_add-used
-overflow_add-used c = let w = (turned_on c.loop-next.at c.loop-next.pos c.loop-next.used c.args.chunk.now c.loop-next.buf _ _ _ c.in-On.is c.one_turn-t.ensures) in let k = w.few in let u = c.loop-next.invariant.used in let l = length-drop c.loop-next.used c.args.chunk.now in let g : length c.args.chunk.now < 18446744073709551616 = c.well_formed.1.1.0.0 in record { fits = omega arith }
+overflow_add-used c = let w = (turned_on c.loop-next.at c.loop-next.pos c.loop-next.used c.args.chunk.now c.loop-next.buf _ _ _ c.in-On.is c.one_turn-t.ensures) in let k = w.few in let l = length-drop c.loop-next.used c.args.chunk.now in let g : length c.args.chunk.now < 18446744073709551616 = c.well_formed.1.1.0.0 in record { fits = omega arith }
 
 pub loop-next-smaller : goal.loop-next-smaller
 loop-next-smaller c = going_less c.args.reader c.args.start c.args.chunk.now c.args.buf.now c.loop-next.buf c.loop-next.at c.loop-next.pos c.loop-next.used c.loop-next.invariant _ _ _ _ (turned_on c.loop-next.at c.loop-next.pos c.loop-next.used c.args.chunk.now c.loop-next.buf _ _ _ c.in-On.is c.one_turn-t.ensures)

@@ -27,4 +27,4 @@ returns-in-3 c =
 
 pub returns-in_default : goal.returns-in_default
 returns-in_default c =
-    let n = c.in_default.in_default-own.rest in sym (ap (λ (s : Subtyped). stepped (at_subtype base c.args.carried.depth c.args.id c.args.len s)) (none c.args.subtype n.0.0.0.1 n.0.0.1 n.0.1 n.1))
+    sym (ap (λ (s : Subtyped). stepped (at_subtype base c.args.carried.depth c.args.id c.args.len s)) (none c.args.subtype c.in_default.in_default-own.rest.0.0.0.1 c.in_default.in_default-own.rest.0.0.1 c.in_default.in_default-own.rest.0.1 c.in_default.in_default-own.rest.1))

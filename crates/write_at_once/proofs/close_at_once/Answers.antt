@@ -14,10 +14,8 @@ use borrow.Author.Rules.{rules}
 use Rattle.write_at_once.proofs.close_at_once.Goals as goal
 
 pub returns-then-not-closes_at_ease : goal.returns-then-not-closes_at_ease
-returns-then-not-closes_at_ease c = let a = c.args in refused _ (closes_at a.depth a.held) (ltb a.pos (length a.buf.now) && clean a.places) a.buf.now a.pos (7 ∷ []) c.closes_at_ease.ensures c.if-not-closes_at_ease.true
+returns-then-not-closes_at_ease c = refused _ (closes_at c.args.depth c.args.held) (ltb c.args.pos (length c.args.buf.now) && clean c.args.places) c.args.buf.now c.args.pos (7 ∷ []) c.closes_at_ease.ensures c.if-not-closes_at_ease.true-raw
 
 pub returns : goal.returns
 returns c =
-    let a = c.args in
-    let w = c.put_end.ensures in
-    behind _ (closes_at a.depth a.held) (ltb a.pos (length a.buf.now) && clean a.places) a.buf.now a.pos (7 ∷ []) c.closes_at_ease.ensures _ _ c.if-not-closes_at_ease.false (w.0, w.1, λ t. let h : a.pos < length a.buf.now = ltb-true _ _ (both _ _ t).0 in (omega arith, omega arith))
+    behind _ (closes_at c.args.depth c.args.held) (ltb c.args.pos (length c.args.buf.now) && clean c.args.places) c.args.buf.now c.args.pos (7 ∷ []) c.closes_at_ease.ensures _ _ c.if-not-closes_at_ease.false-raw (c.put_end.ensures.0, c.put_end.ensures.1, λ t. let h : c.args.pos < length c.args.buf.now = ltb-true _ _ (both _ _ t).0 in (omega arith, omega arith))

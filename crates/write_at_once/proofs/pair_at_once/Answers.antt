@@ -10,11 +10,9 @@ use borrow.Author.Rules.{rules}
 use Rattle.write_at_once.proofs.pair_at_once.Goals as goal
 
 pub returns-then-not-at_ease : goal.returns-then-not-at_ease
-returns-then-not-at_ease c = let a = c.args in refused _ (easy_at a.depth a.held a.id) (roomy_at (length a.buf.now) a.pos a.places 0) a.buf.now a.pos (shortest (a.id * 8 + a.wire) ++ shortest a.value) c.at_ease.ensures c.if-not-at_ease.true
+returns-then-not-at_ease c = refused _ (easy_at c.args.depth c.args.held c.args.id) (roomy_at (length c.args.buf.now) c.args.pos c.args.places 0) c.args.buf.now c.args.pos (shortest (c.args.id * 8 + c.args.wire) ++ shortest c.args.value) c.at_ease.ensures c.if-not-at_ease.true-raw
 
 pub returns : goal.returns
 returns c =
-    let a = c.args in
-    let h = c.tagged in
-    behind _ (easy_at a.depth a.held a.id) _ a.buf.now a.pos (shortest (a.id * 8 + a.wire) ++ shortest a.value) c.at_ease.ensures _ _ c.if-not-at_ease.false
-    (pair_whole a.buf.now a.pos h.result (a.id * 8 + a.wire) a.places _ _ h.ensures h.type-inv a.value c.ranges.value.fits c.put_pair.ensures)
+    behind _ (easy_at c.args.depth c.args.held c.args.id) _ c.args.buf.now c.args.pos (shortest (c.args.id * 8 + c.args.wire) ++ shortest c.args.value) c.at_ease.ensures _ _ c.if-not-at_ease.false-raw
+    (pair_whole c.args.buf.now c.args.pos c.tagged.result (c.args.id * 8 + c.args.wire) c.args.places _ _ c.tagged.ensures c.tagged.type-inv c.args.value c.ranges.value.fits c.put_pair.ensures)

@@ -9,24 +9,22 @@ use Rattle.write_at_once.proofs.Rows.{second_fits, pair_made}
 use Rattle.write_at_once.proofs.put_pair.Goals as goal
 
 tested : (c : goal.Else-not-unused_zero) → Tested (length c.args.buf.now) c.args.pos 0 c.args.places
-tested c = passed _ _ _ _ c.args.places c.has_room.ensures c.if-not-has_room.false _ c.unused_zero.ensures c.if-not-unused_zero.false
+tested c = passed _ _ _ _ c.args.places c.has_room.ensures c.if-not-has_room.false-raw _ c.unused_zero.ensures c.if-not-unused_zero.false-raw
 
 pub returns-then-not-has_room : goal.returns-then-not-has_room
-returns-then-not-has_room c = let a = c.args in unmade _ a.buf.now a.pos (shortest a.header ++ shortest a.second) (tight _ _ _ 0 a.places c.has_room.ensures c.if-not-has_room.true)
+returns-then-not-has_room c = unmade _ c.args.buf.now c.args.pos (shortest c.args.header ++ shortest c.args.second) (tight _ _ _ 0 c.args.places c.has_room.ensures c.if-not-has_room.true-raw)
 
 pub returns-then-not-unused_zero : goal.returns-then-not-unused_zero
-returns-then-not-unused_zero c = let a = c.args in unmade _ a.buf.now a.pos (shortest a.header ++ shortest a.second) (unclean _ _ _ 0 a.places c.has_room.ensures c.if-not-has_room.false _ c.unused_zero.ensures c.if-not-unused_zero.true)
+returns-then-not-unused_zero c = unmade _ c.args.buf.now c.args.pos (shortest c.args.header ++ shortest c.args.second) (unclean _ _ _ 0 c.args.places c.has_room.ensures c.if-not-has_room.false-raw _ c.unused_zero.ensures c.if-not-unused_zero.true-raw)
 
 pub put_fitting-mid-requires : goal.put_fitting-mid-requires
 put_fitting-mid-requires c = let h = has_room _ _ _ (tested c.before).0 in omega arith
 
 pub put_fitting-requires : goal.put_fitting-requires
 put_fitting-requires c =
-    let a = c.args in
-    second_fits a.buf.now a.pos 0 a.header _ _ (tested c.before.before.before.before.before).0 c.ranges.header.fits c.put_fitting-mid.ensures
+    second_fits c.args.buf.now c.args.pos 0 c.args.header _ _ (tested c.before.before.before.before.before).0 c.ranges.header.fits c.put_fitting-mid.ensures
 
 pub returns : goal.returns
 returns c =
-    let a = c.args in
     let t = tested c.before.before.before.before.before.before.before.before in
-    made _ _ _ _ _ _ t.1 (pair_made a.buf.now a.pos 0 a.header _ _ t.0 c.ranges.header.fits c.put_fitting-mid.ensures _ _ _ c.put_fitting.ensures)
+    made _ _ _ _ _ _ t.1 (pair_made c.args.buf.now c.args.pos 0 c.args.header _ _ t.0 c.ranges.header.fits c.put_fitting-mid.ensures _ _ _ c.put_fitting.ensures)

@@ -13,17 +13,15 @@ use borrow.Author.Rules.{rules}
 use Rattle.write_at_once.proofs.unsigneds_at_once.Goals as goal
 
 pub returns-then-not-at_ease_with : goal.returns-then-not-at_ease_with
-returns-then-not-at_ease_with c = let a = c.args in refused _ (easy_with a.depth a.held a.id (length a.items.now) base.count) (roomy_at (length a.buf.now) a.pos a.places (elements_most (length a.items.now))) a.buf.now a.pos (field_bytes (unsigned_array a.id a.items.now)) c.at_ease_with.ensures c.if-not-at_ease_with.true
+returns-then-not-at_ease_with c = refused _ (easy_with c.args.depth c.args.held c.args.id (length c.args.items.now) base.count) (roomy_at (length c.args.buf.now) c.args.pos c.args.places (elements_most (length c.args.items.now))) c.args.buf.now c.args.pos (field_bytes (unsigned_array c.args.id c.args.items.now)) c.at_ease_with.ensures c.if-not-at_ease_with.true-raw
 
 pub put_unsigneds-requires : goal.put_unsigneds-requires
 put_unsigneds-requires c =
-    let a = c.args in
-    within _ a.depth a.held a.id (length a.items.now) base.count c.at_ease_with.ensures c.if-not-at_ease_with.false
+    within _ c.args.depth c.args.held c.args.id (length c.args.items.now) base.count c.at_ease_with.ensures c.if-not-at_ease_with.false-raw
 
 pub returns : goal.returns
 unfolding field_bytes
 returns c =
-    let a = c.args in
-    let t = roomy_at (length a.buf.now) a.pos a.places (elements_most (length a.items.now)) in
-    behind _ (easy_with a.depth a.held a.id (length a.items.now) base.count) t a.buf.now a.pos (field_bytes (unsigned_array a.id a.items.now)) c.at_ease_with.ensures _ _ c.if-not-at_ease_with.false
-    (row-whole t a.buf.now a.pos _ (a.id * 8 + 3) shortest a.items.now _ _ c.tagged.ensures c.put_unsigneds.ensures)
+    let t = roomy_at (length c.args.buf.now) c.args.pos c.args.places (elements_most (length c.args.items.now)) in
+    behind _ (easy_with c.args.depth c.args.held c.args.id (length c.args.items.now) base.count) t c.args.buf.now c.args.pos (field_bytes (unsigned_array c.args.id c.args.items.now)) c.at_ease_with.ensures _ _ c.if-not-at_ease_with.false-raw
+    (row-whole t c.args.buf.now c.args.pos _ (c.args.id * 8 + 3) shortest c.args.items.now _ _ c.tagged.ensures c.put_unsigneds.ensures)

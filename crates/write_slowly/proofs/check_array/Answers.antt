@@ -11,5 +11,4 @@ use Rattle.write_slowly.proofs.check_array.Goals as goal
 
 pub returns : goal.returns
 returns c =
-    let a = c.args in
-    c.check_sized.ensures ∙ ap (λ (sound : Bool). check_of (judged (tests sound a.id (array_too_long a.count ∷ [])))) c.sound_for.ensures
+    c.check_sized.ensures ∙ ap (λ (sound : Bool). check_of (judged (tests sound c.args.id (array_too_long c.args.count ∷ [])))) c.sound_for.ensures

@@ -11,5 +11,4 @@ use Rattle.write_slowly.proofs.check_payload.Goals as goal
 
 pub returns : goal.returns
 returns c =
-    let a = c.args in
-    c.check_sized.ensures ∙ ap (λ (sound : Bool). check_of (judged (tests sound a.id (payload_too_long a.len ∷ [])))) c.sound_for.ensures
+    c.check_sized.ensures ∙ ap (λ (sound : Bool). check_of (judged (tests sound c.args.id (payload_too_long c.args.len ∷ [])))) c.sound_for.ensures

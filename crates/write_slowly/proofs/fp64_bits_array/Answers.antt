@@ -12,15 +12,12 @@ use Rattle.write_slowly.proofs.fp64_bits_array.Goals as goal
 
 pub returns-then-not-tests : goal.returns-then-not-tests
 returns-then-not-tests c =
-    let a = c.args in
-    refuses a.pos a.depth a.held a.places a.buf.now a.id (array_too_long (length a.items.now) ∷ []) _ c.check_array-tests.ensures (field_bytes (float_array a.id fp64 a.items.now)) a.place c.if-not-tests.true
+    refuses c.args.pos c.args.depth c.args.held c.args.places c.args.buf.now c.args.id (array_too_long (length c.args.items.now) ∷ []) _ c.check_array-tests.ensures (field_bytes (float_array c.args.id fp64 c.args.items.now)) c.args.place c.if-not-tests.true
 
 pub put_fp64_bits_array-requires : goal.put_fp64_bits_array-requires
 put_fp64_bits_array-requires c =
-    let a = c.args in
-    sized_goes a.pos a.depth a.held a.places a.buf.now a.id base.count (length a.items.now) _ c.check_array-tests.ensures c.if-not-tests.false
+    sized_goes c.args.pos c.args.depth c.args.held c.args.places c.args.buf.now c.args.id base.count (length c.args.items.now) _ c.check_array-tests.ensures c.if-not-tests.false
 
 pub returns : goal.returns
 returns c =
-    let a = c.args in
-    goes a.pos a.depth a.held a.places a.buf.now a.id (array_too_long (length a.items.now) ∷ []) _ c.check_array-tests.ensures (field_bytes (float_array a.id fp64 a.items.now)) a.place _ _ _ c.if-not-tests.false refl c.put_fp64_bits_array.ensures
+    goes c.args.pos c.args.depth c.args.held c.args.places c.args.buf.now c.args.id (array_too_long (length c.args.items.now) ∷ []) _ c.check_array-tests.ensures (field_bytes (float_array c.args.id fp64 c.args.items.now)) c.args.place _ _ _ c.if-not-tests.false refl c.put_fp64_bits_array.ensures

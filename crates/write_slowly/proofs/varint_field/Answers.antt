@@ -19,17 +19,14 @@ judges c = c.check_field-tests.ensures ∙ ap (λ (sound : Bool). check_of (judg
 
 pub returns-then-not-tests : goal.returns-then-not-tests
 returns-then-not-tests c =
-    let a = c.args in
-    refuses a.pos a.depth a.held a.places a.buf.now a.id [] _ (judges c.before.before) (shortest (a.id * 8 + a.wire) ++ shortest a.value) a.place c.if-not-tests.true
+    refuses c.args.pos c.args.depth c.args.held c.args.places c.args.buf.now c.args.id [] _ (judges c.before.before) (shortest (c.args.id * 8 + c.args.wire) ++ shortest c.args.value) c.args.place c.if-not-tests.true
 
 pub put_varint_field-requires : goal.put_varint_field-requires
 put_varint_field-requires c =
-    let a = c.args in
-    may_go a.pos a.depth a.held a.places a.buf.now a.id [] _ (judges c.before.before.before.before) c.if-not-tests.false
+    may_go c.args.pos c.args.depth c.args.held c.args.places c.args.buf.now c.args.id [] _ (judges c.before.before.before.before) c.if-not-tests.false
 
 pub returns : goal.returns
 returns c =
-    let a = c.args in
-    goes a.pos a.depth a.held a.places a.buf.now a.id [] _ (judges c.before.before.before.before.before.before.before) (shortest (a.id * 8 + a.wire) ++ shortest a.value) a.place _ _ _ c.if-not-tests.false
-    (ap (λ (h : ℕ). headers_of a.held a.places ++ (shortest h ++ shortest a.value)) c.tagged.ensures)
+    goes c.args.pos c.args.depth c.args.held c.args.places c.args.buf.now c.args.id [] _ (judges c.before.before.before.before.before.before.before) (shortest (c.args.id * 8 + c.args.wire) ++ shortest c.args.value) c.args.place _ _ _ c.if-not-tests.false
+    (ap (λ (h : ℕ). headers_of c.args.held c.args.places ++ (shortest h ++ shortest c.args.value)) c.tagged.ensures)
     c.put_varint_field.ensures

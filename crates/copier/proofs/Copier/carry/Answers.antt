@@ -14,13 +14,13 @@ pub put-end-requires : goal.put-end-requires
 put-end-requires c = ready_within c.args.self _ c.requires.1.1
 
 pub overflow_sub-result : goal.overflow_sub-result
-overflow_sub-result c = let e = c.put-end.ensures.0 in let r = reached_is c.args.buf.now c.args.self.writer.offset (drop c.args.self.place (output_bytes c.output-output.result)) in omega arith
+overflow_sub-result c = let r = reached_is c.args.buf.now c.args.self.writer.offset (drop c.args.self.place (output_bytes c.output-output.result)) in omega arith
 
 pub overflow_add-result : goal.overflow_add-result
-overflow_add-result c = let e = c.put-end.ensures.0 in let r = reached_is c.args.buf.now c.args.self.writer.offset (drop c.args.self.place (output_bytes c.output-output.result)) in let d = length-drop c.args.self.place (output_bytes c.output-output.result) in let l = c.len-len.ensures.0 in let m = c.len-len.ensures.1 in let t = c.if-room-place.true in record { fits = omega arith }
+overflow_add-result c = let r = reached_is c.args.buf.now c.args.self.writer.offset (drop c.args.self.place (output_bytes c.output-output.result)) in let d = length-drop c.args.self.place (output_bytes c.output-output.result) in record { fits = omega arith }
 
 pub overflow_cast-result : goal.overflow_cast-result
-overflow_cast-result c = let e = c.put-end.ensures.0 in let r = reached_is c.args.buf.now c.args.self.writer.offset (drop c.args.self.place (output_bytes c.output-output.result)) in let d = length-drop c.args.self.place (output_bytes c.output-output.result) in let l = c.len-len.ensures.0 in let m = c.len-len.ensures.1 in let t = c.if-room-place.true in record { fits = omega arith }
+overflow_cast-result c = let r = reached_is c.args.buf.now c.args.self.writer.offset (drop c.args.self.place (output_bytes c.output-output.result)) in let d = length-drop c.args.self.place (output_bytes c.output-output.result) in record { fits = omega arith }
 
 pub returns-then-room-place : goal.returns-then-room-place
 returns-then-room-place c = carry_full c.args.self c.args.chunk.now c.args.buf.now c.put-end.result c.len-len.result _ c.output-output.result c.output-output.ensures c.len-len.ensures.0 c.put-end.ensures c.requires.1.0 c.if-room-place.true

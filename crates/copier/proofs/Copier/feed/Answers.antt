@@ -12,7 +12,7 @@ use borrow.Author.Rules.{rules}
 use Rattle.copier.proofs.Copier.feed.Goals as goal
 
 abbrev tests : goal.After-check_copier-check → Judgement
-tests c = let k = c.args.self in judged_by k.reader k.writer k.owed k.place (length c.args.buf.now)
+tests c = judged_by c.args.self.reader c.args.self.writer c.args.self.owed c.args.self.place (length c.args.buf.now)
 
 passes : (c : goal.Else-not-check) → tests c.before.before ≡ accepted
 passes c = check_passes (tests c.before.before) _ c.check_copier-check.ensures c.if-not-check.false
@@ -25,15 +25,13 @@ small c = search rules
 
 pub returns-then-not-check : goal.returns-then-not-check
 returns-then-not-check c =
-    let a = c.args in
     let f = small-then c in
-    feed-refused a.self a.chunk.now a.buf.now (omega (arith, f.fits)) _ (check_fails (tests c.before.before) _ c.check_copier-check.ensures c.if-not-check.true)
+    feed-refused c.args.self c.args.chunk.now c.args.buf.now (omega (arith, f.fits)) _ (check_fails (tests c.before.before) _ c.check_copier-check.ensures c.if-not-check.true)
 
 pub carry-requires : goal.carry-requires
 carry-requires c = feed_ready c.args.self _ (passes c.before)
 
 pub returns : goal.returns
 returns c =
-    let a = c.args in
     let f = small c.before.before.before.before.before in
-    feed_runs a.self a.chunk.now a.buf.now (omega (arith, f.fits)) (passes c.before.before.before.before.before) _ _ c.carry.ensures _ c.finish.ensures
+    feed_runs c.args.self c.args.chunk.now c.args.buf.now (omega (arith, f.fits)) (passes c.before.before.before.before.before) _ _ c.carry.ensures _ c.finish.ensures

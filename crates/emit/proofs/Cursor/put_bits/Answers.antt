@@ -9,13 +9,10 @@ use Rattle.emit.proofs.Cursor.put_bits.Goals as goal
 
 pub returns-then-n-skip : goal.returns-then-n-skip
 returns-then-n-skip c =
-    let a = c.args in
-    let l = length_low a.n a.x in
-    none_left a.self _ (low_bytes a.n a.x) _ (omega arith) (omega arith)
+    let l = length_low c.args.n c.args.x in
+    none_left c.args.self _ (low_bytes c.args.n c.args.x) _ (omega arith) (omega arith)
 
 pub returns : goal.returns
 returns c =
-    let a = c.args in
-    let l = length_low a.n a.x in
-    let e = c.put_part-end.ensures in
-    some_left a.self _ (low_bytes a.n a.x) _ _ _ _ (omega arith) refl e.0 e.1
+    let l = length_low c.args.n c.args.x in
+    some_left c.args.self _ (low_bytes c.args.n c.args.x) _ _ _ _ (omega arith) refl c.put_part-end.ensures.0 c.put_part-end.ensures.1

@@ -13,26 +13,20 @@ use Rattle.emit.proofs.Cursor.put_varint.Goals as goal
 
 pub returns-then-skip-eq0 : goal.returns-then-skip-eq0
 returns-then-skip-eq0 c =
-    let a = c.args in
-    let z : 0 ≡ a.self.skip = sym c.if-skip-eq0.true in
-    let e = c.put_whole-end.ensures in
-    some_left a.self _ (shortest a.v) _ _ _ _ (omega arith) (ap (λ (k : ℕ). drop k (shortest a.v)) z) e.0 e.1
+    let z : 0 ≡ c.args.self.skip = sym c.if-skip-eq0.true in
+    some_left c.args.self _ (shortest c.args.v) _ _ _ _ (omega arith) (ap (λ (k : ℕ). drop k (shortest c.args.v)) z) c.put_whole-end.ensures.0 c.put_whole-end.ensures.1
 
 pub returns-then-len-skip : goal.returns-then-len-skip
 returns-then-len-skip c =
-    let l = c.varint_len-len.ensures in
     none_left c.args.self _ (shortest c.args.v) _ (omega arith) (omega arith)
 
 pub overflow_mul-skip : goal.overflow_mul-skip
-overflow_mul-skip c = let h = length-longest base c.args.v c.ranges.v.fits in let l = c.varint_len-len.ensures in record { fits = omega arith }
+overflow_mul-skip c = let h = length-longest base c.args.v c.ranges.v.fits in record { fits = omega arith }
 
 pub overflow_shr-v : goal.overflow_shr-v
-overflow_shr-v c = let h = length-longest base c.args.v c.ranges.v.fits in let l = c.varint_len-len.ensures in omega arith
+overflow_shr-v c = let h = length-longest base c.args.v c.ranges.v.fits in omega arith
 
 pub returns : goal.returns
 returns c =
-    let a = c.args in
-    let l = c.varint_len-len.ensures in
-    let k : a.self.skip < length (shortest a.v) = omega arith in
-    let e = c.put_whole-end-2.ensures in
-    some_left a.self _ (shortest a.v) _ _ _ _ (omega arith) (sym (drop-shortest a.self.skip a.v k ∙ ap (λ (p : ℕ). shortest (a.v / p)) (pow128 a.self.skip))) e.0 e.1
+    let k : c.args.self.skip < length (shortest c.args.v) = omega arith in
+    some_left c.args.self _ (shortest c.args.v) _ _ _ _ (omega arith) (sym (drop-shortest c.args.self.skip c.args.v k ∙ ap (λ (p : ℕ). shortest (c.args.v / p)) (pow128 c.args.self.skip))) c.put_whole-end-2.ensures.0 c.put_whole-end-2.ensures.1

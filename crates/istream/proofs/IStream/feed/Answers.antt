@@ -21,14 +21,12 @@ returns-then-sound_payload c =
 
 pub returns-in-Done : goal.returns-in-Done
 returns-in-Done c =
-    let a = c.args in
-    let f : Fits w8 a.self.carried.depth = search rules in
+    let f : Fits w8 c.args.self.carried.depth = search rules in
     c.answered.ensures
-    ∙ from_once base a.self a.chunk.now _ _ _ _ (omega (arith, f.fits)) (subst (λ (x : Once). RightFrom base a.self.carried.depth a.self.phase x a.chunk.now) c.in-Done.is c.at_once-q.ensures)
+    ∙ from_once base c.args.self c.args.chunk.now _ _ _ _ (omega (arith, f.fits)) (subst (λ (x : Once). RightFrom base c.args.self.carried.depth c.args.self.phase x c.args.chunk.now) c.in-Done.is c.at_once-q.ensures)
 
 pub returns-in-Spent : goal.returns-in-Spent
 returns-in-Spent c =
-    let a = c.args in
-    let f : Fits w8 a.self.carried.depth = search rules in
+    let f : Fits w8 c.args.self.carried.depth = search rules in
     c.answered-in-Spent.ensures
-    ∙ from_spent base a.self a.chunk.now _ _ (omega (arith, f.fits)) c.verdict-status.ensures c.rebuilt.ensures (subst (λ (x : Once). RightFrom base a.self.carried.depth a.self.phase x a.chunk.now) c.in-Spent.is c.at_once-q.ensures)
+    ∙ from_spent base c.args.self c.args.chunk.now _ _ (omega (arith, f.fits)) c.verdict-status.ensures c.rebuilt.ensures (subst (λ (x : Once). RightFrom base c.args.self.carried.depth c.args.self.phase x c.args.chunk.now) c.in-Spent.is c.at_once-q.ensures)

@@ -10,18 +10,15 @@ use Rattle.istream.proofs.IStream.sound.Goals as goal
 
 pub returns-in-Payload : goal.returns-in-Payload
 returns-in-Payload c =
-    let s = c.args.self in
-    let f : Fits w8 s.carried.depth = search rules in
-    c.sound_payload.ensures ∙ sound_in base s _ (omega (arith, f.fits)) c.in-Payload.is
+    let f : Fits w8 c.args.self.carried.depth = search rules in
+    c.sound_payload.ensures ∙ sound_in base (c.args.self) _ (omega (arith, f.fits)) c.in-Payload.is
 
 pub returns-in-Header : goal.returns-in-Header
 returns-in-Header c =
-    let s = c.args.self in
-    let f : Fits w8 s.carried.depth = search rules in
-    c.sound.ensures ∙ sound_in base s _ (omega (arith, f.fits)) c.in-Header.is
+    let f : Fits w8 c.args.self.carried.depth = search rules in
+    c.sound.ensures ∙ sound_in base (c.args.self) _ (omega (arith, f.fits)) c.in-Header.is
 
 pub returns : goal.returns
 returns c =
-    let s = c.args.self in
-    let f : Fits w8 s.carried.depth = search rules in
-    c.sound-2.ensures ∙ sound_in base s _ (omega (arith, f.fits)) refl
+    let f : Fits w8 c.args.self.carried.depth = search rules in
+    c.sound-2.ensures ∙ sound_in base (c.args.self) _ (omega (arith, f.fits)) refl

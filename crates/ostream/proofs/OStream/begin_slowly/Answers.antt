@@ -22,17 +22,17 @@ use borrow.Author.Rules.{rules}
 use Rattle.ostream.proofs.OStream.begin_slowly.Goals as goal
 
 abbrev judgement : goal.After-check_begin-check → Judgement
-judgement c = let a = c.args in judged (begin_call a.self (length a.buf.now) a.id).tests
+judgement c = judged (begin_call c.args.self (length c.args.buf.now) c.args.id).tests
 
 judges : (c : goal.After-check_begin-check) → c.check_begin-check.result ≡ check_of (judgement c)
-judges c = let a = c.args in c.check_begin-check.ensures ∙ ap (λ (sound : Bool). check_of (judged (unsound_writer sound ∷ deepest a.self.depth ∷ id_too_large a.id ∷ []))) c.sound.ensures
+judges c = c.check_begin-check.ensures ∙ ap (λ (sound : Bool). check_of (judged (unsound_writer sound ∷ deepest c.args.self.depth ∷ id_too_large c.args.id ∷ []))) c.sound.ensures
 
 passes : (c : goal.Else-not-check) → judgement c.before.before ≡ accepted
 passes c = check_passes (judgement c.before.before) _ (judges c.before.before) c.if-not-check.false
 
 -- the state is sound, and not too deep
-knows : (c : goal.Else-not-check) → let a = c.args in Sound a.self (length a.buf.now) × (a.self.depth < base.depth)
-knows c = let a = c.args in begin_knows a.self (length a.buf.now) a.id (passes c)
+knows : (c : goal.Else-not-check) → Sound c.args.self (length c.args.buf.now) × (c.args.self.depth < base.depth)
+knows c = let (c.args) = c.args in begin_knows c.args.self (length c.args.buf.now) c.args.id (passes c)
 
 pub returns-then-not-check : goal.returns-then-not-check
 returns-then-not-check c = refuses _ _ _ _ _ _ (check_fails (judgement c.before.before.before) _ (judges c.before.before.before) c.if-not-check.true) c.refuse.ensures
@@ -43,9 +43,8 @@ hold-requires c = (c.if-self.true, (knows c.before.before).1)
 pub returns-then-self : goal.returns-then-self
 unfolding holding
 returns-then-self c =
-    let a = c.args in
-    let n = lt-ltb a.self.npending lazy_depth c.if-self.true in
-    alters (begin_call a.self (length a.buf.now) a.id) _ _ _ _ (holding a.self a.id) (simp n) (simp n) (passes c.before.before.before.before) (knows c.before.before.before.before).0.inside refl (c.alter.ensures ∙ ap (λ (x : OStream). unwritten a.self a.place x) c.hold.ensures)
+    let n = lt-ltb c.args.self.npending lazy_depth c.if-self.true in
+    alters (begin_call c.args.self (length c.args.buf.now) c.args.id) _ _ _ _ (holding c.args.self c.args.id) (simp n) (simp n) (passes c.before.before.before.before) (knows c.before.before.before.before).0.inside refl (c.alter.ensures ∙ ap (λ (x : OStream). unwritten c.args.self c.args.place x) c.hold.ensures)
 
 pub put_marker-outcome-requires : goal.put_marker-outcome-requires
 put_marker-outcome-requires c = let k = (knows c.before.before.before.before.before).0 in (k.few, k.inside)
@@ -59,6 +58,5 @@ settle-requires c = few_clears c.args.self (knows c.before.before.before.before.
 pub returns : goal.returns
 unfolding held_bytes field_bytes
 returns c =
-    let a = c.args in
-    let n = le-ltb a.self.npending lazy_depth c.if-self.false in
-    settles (begin_call a.self (length a.buf.now) a.id) _ _ _ _ _ _ _ _ (simp n (ap (λ (h : ℕ). held_bytes a.self ++ shortest h) c.tagged-header.ensures)) (simp n) (passes c.before.before.before.before.before.before.before.before.before.before) c.put_marker-outcome.ensures c.settle.ensures
+    let n = le-ltb c.args.self.npending lazy_depth c.if-self.false in
+    settles (begin_call c.args.self (length c.args.buf.now) c.args.id) _ _ _ _ _ _ _ _ (simp n (ap (λ (h : ℕ). held_bytes c.args.self ++ shortest h) c.tagged-header.ensures)) (simp n) (passes c.before.before.before.before.before.before.before.before.before.before) c.put_marker-outcome.ensures c.settle.ensures

@@ -14,6 +14,5 @@ use Rattle.ostream.proofs.OStream.buffer_set.Goals as goal
 pub returns : goal.returns
 unfolding sound_stream changing
 returns c =
-    let a = c.args in
-    c.count.ensures ∙ ap (counted_at a.self) c.change-moved.ensures
-    ∙ counted-at (judged (bad_buffer (length a.new.now) a.offset a.drained ∷ unsound a.self (length a.old.now) ∷ [])) a.self a.offset
+    c.count.ensures ∙ ap (counted_at c.args.self) c.change-moved.ensures
+    ∙ counted-at (judged (bad_buffer (length c.args.new.now) c.args.offset c.args.drained ∷ unsound c.args.self (length c.args.old.now) ∷ [])) c.args.self c.args.offset

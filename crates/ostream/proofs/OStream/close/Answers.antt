@@ -17,5 +17,4 @@ settle-requires c = few_clears c.args.self (is_sound c.args.self (length c.args.
 pub returns : goal.returns
 unfolding held_bytes
 returns c =
-    let d = c.requires.1 in
     settles _ _ _ _ _ _ _ _ _ refl refl (simp (c.requires.0, ne_eqb c.args.self.depth 0 (λ e. omega arith))) c.put_close-outcome.ensures c.settle.ensures

@@ -9,5 +9,4 @@ use Rattle.ostream.proofs.OStream.commit.Goals as goal
 pub returns : goal.returns
 unfolding committed
 returns c =
-    let a = c.args in
-    ap (λ (l : List ℕ). record { offset = a.self.offset; depth = a.depth; pending = l; npending = 0 }) c.clear-cleared.ensures
+    ap (λ (l : List ℕ). record { offset = c.args.self.offset; depth = c.args.depth; pending = l; npending = 0 }) c.clear-cleared.ensures

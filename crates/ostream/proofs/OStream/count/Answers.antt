@@ -5,7 +5,7 @@ use borrow.Author.Rules.{rules}
 use Rattle.ostream.proofs.OStream.count.Goals as goal
 
 pub returns-in-To : goal.returns-in-To
-returns-in-To c = let a = c.args in sym (ap (counted_at a.self) c.in-To.is)
+returns-in-To c = sym (ap (counted_at c.args.self) c.in-To.is)
 
 pub returns-in-Refused : goal.returns-in-Refused
-returns-in-Refused c = let a = c.args in sym (ap (counted_at a.self) c.in-Refused.is)
+returns-in-Refused c = sym (ap (counted_at c.args.self) c.in-Refused.is)

@@ -21,10 +21,10 @@ use borrow.Author.Rules.{rules}
 use Rattle.ostream.proofs.OStream.end_slowly.Goals as goal
 
 abbrev judgement : goal.After-check_end-check → Judgement
-judgement c = let a = c.args in judged (end_call a.self (length a.buf.now)).tests
+judgement c = judged (end_call c.args.self (length c.args.buf.now)).tests
 
 judges : (c : goal.After-check_end-check) → c.check_end-check.result ≡ check_of (judgement c)
-judges c = let a = c.args in c.check_end-check.ensures ∙ ap (λ (sound : Bool). check_of (judged (unsound_writer sound ∷ outermost a.self.depth ∷ []))) c.sound.ensures
+judges c = c.check_end-check.ensures ∙ ap (λ (sound : Bool). check_of (judged (unsound_writer sound ∷ outermost c.args.self.depth ∷ []))) c.sound.ensures
 
 passes : (c : goal.Else-not-check) → judgement c.before.before ≡ accepted
 passes c = check_passes (judgement c.before.before) _ (judges c.before.before) c.if-not-check.false
@@ -33,29 +33,24 @@ pub returns-then-not-check : goal.returns-then-not-check
 returns-then-not-check c = refuses _ _ _ _ _ _ (check_fails (judgement c.before.before.before) _ (judges c.before.before.before) c.if-not-check.true) c.refuse.ensures
 
 pub close-requires : goal.close-requires
-close-requires c = let a = c.args in end_knows a.self (length a.buf.now) (passes c.before.before.before)
+close-requires c = end_knows c.args.self (length c.args.buf.now) (passes c.before.before.before)
 
 pub returns-then-self-eq0 : goal.returns-then-self-eq0
 returns-then-self-eq0 c =
-    let a = c.args in
-    let n = c.if-self-eq0.true in
     c.close.ensures
-    ∙ recalled (end_keep_call a.self (length a.buf.now)) (end_call a.self (length a.buf.now)) _ _ _ refl
-    (ap (λ (l : List ℕ). l ++ field_bytes (end 0)) (none_held a.self n) ∙ sym (simp (eq-eqb _ _ n)))
-    (sym (simp (eq-eqb _ _ n)))
+    ∙ recalled (end_keep_call c.args.self (length c.args.buf.now)) (end_call c.args.self (length c.args.buf.now)) _ _ _ refl
+    (ap (λ (l : List ℕ). l ++ field_bytes (end 0)) (none_held c.args.self (c.if-self-eq0.true)) ∙ sym (simp (eq-eqb _ _ (c.if-self-eq0.true))))
+    (sym (simp (eq-eqb _ _ (c.if-self-eq0.true))))
 
 pub unhold-requires : goal.unhold-requires
 unhold-requires c =
-    let a = c.args in
-    let h = is_sound a.self (length a.buf.now) (end_knows a.self (length a.buf.now) (passes c.before.before)).0 in
-    let n = c.if-self-eq0.false in
+    let h = is_sound c.args.self (length c.args.buf.now) (end_knows c.args.self (length c.args.buf.now) (passes c.before.before)).0 in
     (omega arith, h.few, h.nested)
 
 pub returns : goal.returns
 unfolding dropped
 returns c =
-    let a = c.args in
     let v = passes c.before.before.before.before in
-    let h = is_sound a.self (length a.buf.now) (end_knows a.self (length a.buf.now) v).0 in
+    let h = is_sound c.args.self (length c.args.buf.now) (end_knows c.args.self (length c.args.buf.now) v).0 in
     let n = ne_eqb _ _ c.if-self-eq0.false in
-    alters (end_call a.self (length a.buf.now)) _ _ _ _ (dropped a.self) (simp n) (simp n) v h.inside refl (c.alter.ensures ∙ ap (λ (x : OStream). unwritten a.self a.place x) c.unhold.ensures)
+    alters (end_call c.args.self (length c.args.buf.now)) _ _ _ _ (dropped c.args.self) (simp n) (simp n) v h.inside refl (c.alter.ensures ∙ ap (λ (x : OStream). unwritten c.args.self c.args.place x) c.unhold.ensures)

@@ -14,5 +14,4 @@ use Rattle.ostream.proofs.OStream.flush.Goals as goal
 pub returns : goal.returns
 unfolding sound_stream draining
 returns c =
-    let a = c.args in
-    c.count.ensures ∙ ap (counted_at a.self) c.drain-moved.ensures ∙ counted-at (judged (unsound a.self (length a.buf.now) ∷ [])) a.self 0
+    c.count.ensures ∙ ap (counted_at c.args.self) c.drain-moved.ensures ∙ counted-at (judged (unsound c.args.self (length c.args.buf.now) ∷ [])) c.args.self 0

@@ -9,5 +9,4 @@ use Rattle.ostream.proofs.OStream.hold.Goals as goal
 pub returns : goal.returns
 unfolding holding
 returns c =
-    let a = c.args in
-    ap (λ (l : List ℕ). record { offset = a.self.offset; depth = a.self.depth + 1; pending = l; npending = a.self.npending + 1 }) c.add_id-more.ensures
+    ap (λ (l : List ℕ). record { offset = c.args.self.offset; depth = c.args.self.depth + 1; pending = l; npending = c.args.self.npending + 1 }) c.add_id-more.ensures

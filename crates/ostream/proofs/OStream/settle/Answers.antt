@@ -13,15 +13,12 @@ commit-next-requires c = subst (Clears c.args.self) c.in-Through.is c.requires
 
 pub returns-in-Through : goal.returns-in-Through
 returns-in-Through c =
-    let a = c.args in
-    ap (λ (n : OStream). record { answer = Done; stream = at n c.in-Through.end }) c.commit-next.ensures ∙ sym (ap (λ (o : Outcome). settled a.self a.size (committed a.self a.depth) o) c.in-Through.is)
+    ap (λ (n : OStream). record { answer = Done; stream = at n c.in-Through.end }) c.commit-next.ensures ∙ sym (ap (λ (o : Outcome). settled c.args.self c.args.size (committed c.args.self c.args.depth) o) c.in-Through.is)
 
 pub returns-in-Full : goal.returns-in-Full
 returns-in-Full c =
-    let a = c.args in
-    sym (ap (λ (o : Outcome). settled a.self a.size (committed a.self a.depth) o) c.in-Full.is)
+    sym (ap (λ (o : Outcome). settled c.args.self c.args.size (committed c.args.self c.args.depth) o) c.in-Full.is)
 
 pub returns-in-Refused : goal.returns-in-Refused
 returns-in-Refused c =
-    let a = c.args in
-    c.refuse.ensures ∙ sym (ap (λ (o : Outcome). settled a.self a.size (committed a.self a.depth) o) c.in-Refused.is)
+    c.refuse.ensures ∙ sym (ap (λ (o : Outcome). settled c.args.self c.args.size (committed c.args.self c.args.depth) o) c.in-Refused.is)

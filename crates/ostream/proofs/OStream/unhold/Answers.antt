@@ -9,5 +9,4 @@ use Rattle.ostream.proofs.OStream.unhold.Goals as goal
 pub returns : goal.returns
 unfolding dropped
 returns c =
-    let a = c.args in
-    ap (λ (l : List ℕ). record { offset = a.self.offset; depth = a.self.depth - 1; pending = l; npending = a.self.npending - 1 }) c.drop_id-fewer.ensures
+    ap (λ (l : List ℕ). record { offset = c.args.self.offset; depth = c.args.self.depth - 1; pending = l; npending = c.args.self.npending - 1 }) c.drop_id-fewer.ensures

@@ -11,10 +11,9 @@ use borrow.Author.Rules.{rules}
 use Rattle.ostream.proofs.OStream.write_array_fp32_bits.Goals as goal
 
 pub settle-requires : goal.settle-requires
-settle-requires c = let a = c.args in field_clears a.self a.buf.now a.id (array_too_long (length a.items.now) ∷ []) (field_bytes (float_array a.id fp32 a.items.now)) a.place _ _ c.fp32_bits_array-outcome.ensures
+settle-requires c = field_clears c.args.self c.args.buf.now c.args.id (array_too_long (length c.args.items.now) ∷ []) (field_bytes (float_array c.args.id fp32 c.args.items.now)) c.args.place _ _ c.fp32_bits_array-outcome.ensures
 
 pub returns : goal.returns
 unfolding held_bytes
 returns c =
-    let a = c.args in
-    goes a.self a.buf.now a.id (array_too_long (length a.items.now) ∷ []) (field_bytes (float_array a.id fp32 a.items.now)) a.place _ _ c.fp32_bits_array-outcome.ensures _ _ refl refl refl c.settle.ensures
+    goes c.args.self c.args.buf.now c.args.id (array_too_long (length c.args.items.now) ∷ []) (field_bytes (float_array c.args.id fp32 c.args.items.now)) c.args.place _ _ c.fp32_bits_array-outcome.ensures _ _ refl refl refl c.settle.ensures

@@ -14,10 +14,9 @@ use borrow.Author.Rules.{rules}
 use Rattle.ostream.proofs.OStream.write_array_fp64.Goals as goal
 
 pub settle-requires : goal.settle-requires
-settle-requires c = let a = c.args in field_clears a.self a.buf.now a.id (array_too_long (length a.items.now) ∷ []) (field_bytes (float_array a.id fp64 (map (to_bits binary64) a.items.now))) a.place _ _ c.fp64_array-outcome.ensures
+settle-requires c = field_clears c.args.self c.args.buf.now c.args.id (array_too_long (length c.args.items.now) ∷ []) (field_bytes (float_array c.args.id fp64 (map (to_bits binary64) c.args.items.now))) c.args.place _ _ c.fp64_array-outcome.ensures
 
 pub returns : goal.returns
 unfolding held_bytes
 returns c =
-    let a = c.args in
-    goes a.self a.buf.now a.id (array_too_long (length a.items.now) ∷ []) (field_bytes (float_array a.id fp64 (map (to_bits binary64) a.items.now))) a.place _ _ c.fp64_array-outcome.ensures _ _ (ap (λ (n : ℕ). judged (array_call a.self (length a.buf.now) a.id n []).tests) (sym (length-map a.items.now (to_bits binary64)))) refl refl c.settle.ensures
+    goes c.args.self c.args.buf.now c.args.id (array_too_long (length c.args.items.now) ∷ []) (field_bytes (float_array c.args.id fp64 (map (to_bits binary64) c.args.items.now))) c.args.place _ _ c.fp64_array-outcome.ensures _ _ (ap (λ (n : ℕ). judged (array_call c.args.self (length c.args.buf.now) c.args.id n []).tests) (sym (length-map c.args.items.now (to_bits binary64)))) refl refl c.settle.ensures

@@ -14,20 +14,17 @@ use Rattle.ostream.proofs.OStream.write_array_signed.Goals as goal
 
 pub returns-then-place-gt0 : goal.returns-then-place-gt0
 returns-then-place-gt0 c =
-    let a = c.args in
-    by_slow_form (λ s n. signed_array_call s n a.id a.items.now) a.self _ a.buf.now a.buf.now a.place _ _ _ c.rebuilt.ensures refl c.rebuilt-then-place-gt0.ensures c.write_array_signed_slowly.ensures
+    by_slow_form (λ s n. signed_array_call s n c.args.id c.args.items.now) c.args.self _ c.args.buf.now c.args.buf.now c.args.place _ _ _ c.rebuilt.ensures refl c.rebuilt-then-place-gt0.ensures c.write_array_signed_slowly.ensures
 
 pub returns-then-self-end : goal.returns-then-self-end
 returns-then-self-end c =
-    let a = c.args in
-    goes_at_once (signed_array_call a.self (length a.buf.now) a.id a.items.now) a.self a.buf.now (field_bytes (signed_array a.id a.items.now)) a.place _ _ _ _ c.signeds_at_once-end.ensures c.if-self-end.true (omega arith)
+    goes_at_once (signed_array_call c.args.self (length c.args.buf.now) c.args.id c.args.items.now) c.args.self c.args.buf.now (field_bytes (signed_array c.args.id c.args.items.now)) c.args.place _ _ _ _ c.signeds_at_once-end.ensures c.if-self-end.true (omega arith)
     (λ t.
     let q = both _ _ t in
-    let e = easy_with_lem a.self a.id (length a.items.now) base.count q.0 in
-    let y = is_ready a.self (length a.buf.now) a.id _ e.0 q.1 in
-    (ready_array a.self (length a.buf.now) a.id (length a.items.now) _ y e.1, spelled a.self y.none (field_bytes (signed_array a.id a.items.now)), committed-none a.self a.self.depth y.none))
+    let e = easy_with_lem c.args.self c.args.id (length c.args.items.now) base.count q.0 in
+    let y = is_ready c.args.self (length c.args.buf.now) c.args.id _ e.0 q.1 in
+    (ready_array c.args.self (length c.args.buf.now) c.args.id (length c.args.items.now) _ y e.1, spelled c.args.self y.none (field_bytes (signed_array c.args.id c.args.items.now)), committed-none c.args.self c.args.self.depth y.none))
 
 pub returns : goal.returns
 returns c =
-    let a = c.args in
-    by_slow_form (λ s n. signed_array_call s n a.id a.items.now) a.self _ a.buf.now _ a.place _ _ _ c.rebuilt-2.ensures (stayed _ a.buf.now a.self.offset (field_bytes (signed_array a.id a.items.now)) _ _ c.signeds_at_once-end.ensures c.if-self-end.false) c.rebuilt-3.ensures c.write_array_signed_slowly-2.ensures
+    by_slow_form (λ s n. signed_array_call s n c.args.id c.args.items.now) c.args.self _ c.args.buf.now _ c.args.place _ _ _ c.rebuilt-2.ensures (stayed _ c.args.buf.now c.args.self.offset (field_bytes (signed_array c.args.id c.args.items.now)) _ _ c.signeds_at_once-end.ensures c.if-self-end.false) c.rebuilt-3.ensures c.write_array_signed_slowly-2.ensures

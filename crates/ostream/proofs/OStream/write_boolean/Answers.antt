@@ -9,7 +9,4 @@ use Rattle.ostream.proofs.OStream.write_boolean.Goals as goal
 
 pub returns : goal.returns
 returns c =
-    let a = c.args in
-    let e = c.write_unsigned.ensures in
-    let b = c.bit.ensures in
-    e ∙ ap (λ (n : ℕ). written (unsigned_call a.self (length a.buf.now) a.id n) a.self a.buf.now a.place) b
+    (c.write_unsigned.ensures) ∙ ap (λ (n : ℕ). written (unsigned_call c.args.self (length c.args.buf.now) c.args.id n) c.args.self c.args.buf.now c.args.place) (c.bit.ensures)

@@ -13,17 +13,16 @@ use borrow.Author.Rules.{rules}
 use Rattle.ostream.proofs.OStream.write_fixlen.Goals as goal
 
 abbrev judgement : goal.After-check_fixlen-check → Judgement
-judgement c = let a = c.args in judged (fixlen_call a.self (length a.buf.now) a.id a.bytes.now a.subtype).tests
+judgement c = judged (fixlen_call c.args.self (length c.args.buf.now) c.args.id c.args.bytes.now c.args.subtype).tests
 
 judges : (c : goal.After-check_fixlen-check) → c.check_fixlen-check.result ≡ check_of (judgement c)
-judges c = let a = c.args in c.check_fixlen-check.ensures ∙ ap (λ (sound : Bool). check_of (judged (unsound_writer sound ∷ string_subtype a.subtype ∷ id_too_large a.id ∷ payload_too_long (length a.bytes.now) ∷ []))) c.sound.ensures
+judges c = c.check_fixlen-check.ensures ∙ ap (λ (sound : Bool). check_of (judged (unsound_writer sound ∷ string_subtype c.args.subtype ∷ id_too_large c.args.id ∷ payload_too_long (length c.args.bytes.now) ∷ []))) c.sound.ensures
 
 pub returns-then-not-check : goal.returns-then-not-check
 returns-then-not-check c = refuses _ _ _ _ _ _ (check_fails (judgement c.before.before.before) _ (judges c.before.before.before) c.if-not-check.true) c.refuse.ensures
 
 pub returns : goal.returns
 returns c =
-    let a = c.args in
     let v = check_passes (judgement c.before.before.before.before.before.before) _ (judges c.before.before.before.before.before.before) c.if-not-check.false in
     c.write_fixlen_raw.ensures
-    ∙ recalled _ _ _ _ _ (without (unsound a.self (length a.buf.now)) (string_subtype a.subtype) (id_too_large a.id ∷ payload_too_long (length a.bytes.now) ∷ []) v ∙ sym v) refl refl
+    ∙ recalled _ _ _ _ _ (without (unsound c.args.self (length c.args.buf.now)) (string_subtype c.args.subtype) (id_too_large c.args.id ∷ payload_too_long (length c.args.bytes.now) ∷ []) v ∙ sym v) refl refl

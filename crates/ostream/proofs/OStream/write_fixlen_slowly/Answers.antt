@@ -12,14 +12,10 @@ use Rattle.ostream.proofs.OStream.write_fixlen_slowly.Goals as goal
 
 pub settle-requires : goal.settle-requires
 settle-requires c =
-    let a = c.args in
-    let s = c.rebuilt-s.result in
-    field_clears s a.buf.now a.id (payload_too_long (length a.bytes.now) ∷ []) (fixlen_bytes a.id (subtype a.subtype) a.bytes.now) a.place _ _ c.fixlen_field-outcome.ensures
+    field_clears (c.rebuilt-s.result) c.args.buf.now c.args.id (payload_too_long (length c.args.bytes.now) ∷ []) (fixlen_bytes c.args.id (subtype c.args.subtype) c.args.bytes.now) c.args.place _ _ c.fixlen_field-outcome.ensures
 
 pub returns : goal.returns
 unfolding held_bytes
 returns c =
-    let a = c.args in
-    let s = c.rebuilt-s.result in
-    by_slow_form (λ s n. raw_call s n a.id a.bytes.now a.subtype) a.self s a.buf.now a.buf.now a.place _ _ _ c.rebuilt-s.ensures refl refl
-    (goes s a.buf.now a.id (payload_too_long (length a.bytes.now) ∷ []) (fixlen_bytes a.id (subtype a.subtype) a.bytes.now) a.place _ _ c.fixlen_field-outcome.ensures _ _ refl refl refl c.settle.ensures)
+    by_slow_form (λ (c.rebuilt-s.result) n. raw_call (c.rebuilt-s.result) n c.args.id c.args.bytes.now c.args.subtype) c.args.self (c.rebuilt-s.result) c.args.buf.now c.args.buf.now c.args.place _ _ _ c.rebuilt-s.ensures refl refl
+    (goes (c.rebuilt-s.result) c.args.buf.now c.args.id (payload_too_long (length c.args.bytes.now) ∷ []) (fixlen_bytes c.args.id (subtype c.args.subtype) c.args.bytes.now) c.args.place _ _ c.fixlen_field-outcome.ensures _ _ refl refl refl c.settle.ensures)

@@ -10,7 +10,4 @@ use Rattle.ostream.proofs.OStream.write_fp32.Goals as goal
 
 pub returns : goal.returns
 returns c =
-    let a = c.args in
-    let e = c.write_fp32_bits.ensures in
-    let b = c.fp32_bits.ensures in
-    e ∙ ap (λ (n : ℕ). written (float_call a.self (length a.buf.now) a.id fp32 n) a.self a.buf.now a.place) b
+    (c.write_fp32_bits.ensures) ∙ ap (λ (n : ℕ). written (float_call c.args.self (length c.args.buf.now) c.args.id fp32 n) c.args.self c.args.buf.now c.args.place) (c.fp32_bits.ensures)

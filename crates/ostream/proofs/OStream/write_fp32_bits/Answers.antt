@@ -8,5 +8,4 @@ use Rattle.ostream.proofs.OStream.write_fp32_bits.Goals as goal
 
 pub returns : goal.returns
 returns c =
-    let a = c.args in
-    c.write_fixlen_raw.ensures ∙ float_call_lem fp32 a.self a.buf.now (length a.buf.now) a.place a.id a.bits c.le32-bytes.result c.le32-bytes.ensures
+    c.write_fixlen_raw.ensures ∙ float_call_lem fp32 c.args.self c.args.buf.now (length c.args.buf.now) c.args.place c.args.id c.args.bits c.le32-bytes.result c.le32-bytes.ensures

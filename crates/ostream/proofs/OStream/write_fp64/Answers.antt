@@ -10,7 +10,4 @@ use Rattle.ostream.proofs.OStream.write_fp64.Goals as goal
 
 pub returns : goal.returns
 returns c =
-    let a = c.args in
-    let e = c.write_fp64_bits.ensures in
-    let b = c.fp64_bits.ensures in
-    e ∙ ap (λ (n : ℕ). written (float_call a.self (length a.buf.now) a.id fp64 n) a.self a.buf.now a.place) b
+    (c.write_fp64_bits.ensures) ∙ ap (λ (n : ℕ). written (float_call c.args.self (length c.args.buf.now) c.args.id fp64 n) c.args.self c.args.buf.now c.args.place) (c.fp64_bits.ensures)

@@ -21,15 +21,13 @@ hold-requires c = let h = held c in (h.few, h.shallow)
 pub returns-then-can_hold : goal.returns-then-can_hold
 unfolding holding
 returns-then-can_hold c =
-    let a = c.args in
     let h = held c.before in
     let n = h.few in
-    let i = (is_sound a.self (length a.buf.now) h.sound).inside in
-    let z = c.if-place-eq0.true in
-    alters (begin_call a.self (length a.buf.now) a.id) a.self a.buf.now a.place _ (holding a.self a.id)
-    (simp (lt-ltb a.self.npending lazy_depth n))
-    (simp (lt-ltb a.self.npending lazy_depth n))
+    let i = (is_sound c.args.self (length c.args.buf.now) h.sound).inside in
+    alters (begin_call c.args.self (length c.args.buf.now) c.args.id) c.args.self c.args.buf.now c.args.place _ (holding c.args.self c.args.id)
+    (simp (lt-ltb c.args.self.npending lazy_depth n))
+    (simp (lt-ltb c.args.self.npending lazy_depth n))
     (simp (h.sound, lt-leb _ _ h.shallow, le-ltb _ _ h.legal))
     i
     refl
-    (ap (λ (x : OStream). record { answer = Done; stream = x }) c.hold.ensures ∙ sym (simp (le-ltb 0 a.place (omega arith))))
+    (ap (λ (x : OStream). record { answer = Done; stream = x }) c.hold.ensures ∙ sym (simp (le-ltb 0 c.args.place (omega arith))))

@@ -13,10 +13,10 @@ use borrow.Author.Rules.{rules}
 use Rattle.ostream.proofs.OStream.write_sequence_end_keep.Goals as goal
 
 abbrev judgement : goal.After-check_end-check → Judgement
-judgement c = let a = c.args in judged (end_keep_call a.self (length a.buf.now)).tests
+judgement c = judged (end_keep_call c.args.self (length c.args.buf.now)).tests
 
 judges : (c : goal.After-check_end-check) → c.check_end-check.result ≡ check_of (judgement c)
-judges c = let a = c.args in c.check_end-check.ensures ∙ ap (λ (sound : Bool). check_of (judged (unsound_writer sound ∷ outermost a.self.depth ∷ []))) c.sound.ensures
+judges c = c.check_end-check.ensures ∙ ap (λ (sound : Bool). check_of (judged (unsound_writer sound ∷ outermost c.args.self.depth ∷ []))) c.sound.ensures
 
 passes : (c : goal.Else-not-check) → judgement c.before.before ≡ accepted
 passes c = check_passes (judgement c.before.before) _ (judges c.before.before) c.if-not-check.false
@@ -25,4 +25,4 @@ pub returns-then-not-check : goal.returns-then-not-check
 returns-then-not-check c = refuses _ _ _ _ _ _ (check_fails (judgement c.before.before.before) _ (judges c.before.before.before) c.if-not-check.true) c.refuse.ensures
 
 pub close-requires : goal.close-requires
-close-requires c = let a = c.args in end_knows a.self (length a.buf.now) (passes c.before)
+close-requires c = end_knows c.args.self (length c.args.buf.now) (passes c.before)

@@ -14,7 +14,5 @@ use Rattle.ostream.proofs.OStream.write_signed.Goals as goal
 pub returns : goal.returns
 unfolding field_bytes
 returns c =
-    let a = c.args in
-    let e = c.write_varint_field.ensures in
-    let b = c.zigzag_encode.ensures ∙ ap zigzag (to_z-of_z w64 a.value c.ranges.value) in
-    e ∙ ap (λ (n : ℕ). written (varint_call a.self (length a.buf.now) a.id 1 n) a.self a.buf.now a.place) b
+    let b = c.zigzag_encode.ensures ∙ ap zigzag (to_z-of_z w64 c.args.value c.ranges.value) in
+    (c.write_varint_field.ensures) ∙ ap (λ (n : ℕ). written (varint_call c.args.self (length c.args.buf.now) c.args.id 1 n) c.args.self c.args.buf.now c.args.place) b

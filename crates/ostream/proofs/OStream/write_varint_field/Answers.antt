@@ -14,19 +14,16 @@ use Rattle.ostream.proofs.OStream.write_varint_field.Goals as goal
 
 pub returns-then-place-gt0 : goal.returns-then-place-gt0
 returns-then-place-gt0 c =
-    let a = c.args in
-    by_slow_form (λ s n. varint_call s n a.id a.wire a.value) a.self _ a.buf.now a.buf.now a.place _ _ _ c.rebuilt.ensures refl c.rebuilt-then-place-gt0.ensures c.write_varint_field_slowly.ensures
+    by_slow_form (λ s n. varint_call s n c.args.id c.args.wire c.args.value) c.args.self _ c.args.buf.now c.args.buf.now c.args.place _ _ _ c.rebuilt.ensures refl c.rebuilt-then-place-gt0.ensures c.write_varint_field_slowly.ensures
 
 pub returns-then-self-end : goal.returns-then-self-end
 returns-then-self-end c =
-    let a = c.args in
-    goes_at_once (varint_call a.self (length a.buf.now) a.id a.wire a.value) a.self a.buf.now (shortest (a.id * 8 + a.wire) ++ shortest a.value) a.place _ _ _ _ c.pair_at_once-end.ensures c.if-self-end.true (omega arith)
+    goes_at_once (varint_call c.args.self (length c.args.buf.now) c.args.id c.args.wire c.args.value) c.args.self c.args.buf.now (shortest (c.args.id * 8 + c.args.wire) ++ shortest c.args.value) c.args.place _ _ _ _ c.pair_at_once-end.ensures c.if-self-end.true (omega arith)
     (λ t.
     let e = both _ _ t in
-    let y = is_ready a.self (length a.buf.now) a.id 0 (is_easy a.self a.id e.0) e.1 in
-    (ready_scalar a.self (length a.buf.now) a.id 0 y, spelled a.self y.none (shortest (a.id * 8 + a.wire) ++ shortest a.value), committed-none a.self a.self.depth y.none))
+    let y = is_ready c.args.self (length c.args.buf.now) c.args.id 0 (is_easy c.args.self c.args.id e.0) e.1 in
+    (ready_scalar c.args.self (length c.args.buf.now) c.args.id 0 y, spelled c.args.self y.none (shortest (c.args.id * 8 + c.args.wire) ++ shortest c.args.value), committed-none c.args.self c.args.self.depth y.none))
 
 pub returns : goal.returns
 returns c =
-    let a = c.args in
-    by_slow_form (λ s n. varint_call s n a.id a.wire a.value) a.self _ a.buf.now _ a.place _ _ _ c.rebuilt-2.ensures (stayed _ a.buf.now a.self.offset (shortest (a.id * 8 + a.wire) ++ shortest a.value) _ _ c.pair_at_once-end.ensures c.if-self-end.false) c.rebuilt-3.ensures c.write_varint_field_slowly-2.ensures
+    by_slow_form (λ s n. varint_call s n c.args.id c.args.wire c.args.value) c.args.self _ c.args.buf.now _ c.args.place _ _ _ c.rebuilt-2.ensures (stayed _ c.args.buf.now c.args.self.offset (shortest (c.args.id * 8 + c.args.wire) ++ shortest c.args.value) _ _ c.pair_at_once-end.ensures c.if-self-end.false) c.rebuilt-3.ensures c.write_varint_field_slowly-2.ensures

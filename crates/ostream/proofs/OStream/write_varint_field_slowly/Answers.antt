@@ -12,14 +12,10 @@ use Rattle.ostream.proofs.OStream.write_varint_field_slowly.Goals as goal
 
 pub settle-requires : goal.settle-requires
 settle-requires c =
-    let a = c.args in
-    let s = c.rebuilt-s.result in
-    field_clears s a.buf.now a.id [] (shortest (a.id * 8 + a.wire) ++ shortest a.value) a.place _ _ c.varint_field-outcome.ensures
+    field_clears (c.rebuilt-s.result) c.args.buf.now c.args.id [] (shortest (c.args.id * 8 + c.args.wire) ++ shortest c.args.value) c.args.place _ _ c.varint_field-outcome.ensures
 
 pub returns : goal.returns
 unfolding held_bytes
 returns c =
-    let a = c.args in
-    let s = c.rebuilt-s.result in
-    by_slow_form (λ s n. varint_call s n a.id a.wire a.value) a.self s a.buf.now a.buf.now a.place _ _ _ c.rebuilt-s.ensures refl refl
-    (goes s a.buf.now a.id [] (shortest (a.id * 8 + a.wire) ++ shortest a.value) a.place _ _ c.varint_field-outcome.ensures _ _ refl refl refl c.settle.ensures)
+    by_slow_form (λ (c.rebuilt-s.result) n. varint_call (c.rebuilt-s.result) n c.args.id c.args.wire c.args.value) c.args.self (c.rebuilt-s.result) c.args.buf.now c.args.buf.now c.args.place _ _ _ c.rebuilt-s.ensures refl refl
+    (goes (c.rebuilt-s.result) c.args.buf.now c.args.id [] (shortest (c.args.id * 8 + c.args.wire) ++ shortest c.args.value) c.args.place _ _ c.varint_field-outcome.ensures _ _ refl refl refl c.settle.ensures)

@@ -15,22 +15,22 @@ use borrow.Author.Rules.{rules}
 use Rattle.output.proofs.Output.len.Goals as goal
 
 pub overflow_add-result : goal.overflow_add-result
-overflow_add-result c = let l0 = (let f : Fits w64 c.in-Two.a = search rules in length-longest base c.in-Two.a f.fits) in let l1 = (let f : Fits w64 c.in-Two.b = search rules in length-longest base c.in-Two.b f.fits) in let e = c.varint_len-in-Two.ensures in let g = c.varint_len-in-Two-2.ensures in record { fits = omega arith }
+overflow_add-result c = let l0 = (let f : Fits w64 c.in-Two.a = search rules in length-longest base c.in-Two.a f.fits) in let l1 = (let f : Fits w64 c.in-Two.b = search rules in length-longest base c.in-Two.b f.fits) in record { fits = omega arith }
 
 pub overflow_add-result-in-Three : goal.overflow_add-result-in-Three
-overflow_add-result-in-Three c = let l0 = (let f : Fits w64 c.in-Three.a = search rules in length-longest base c.in-Three.a f.fits) in let l1 = (let f : Fits w64 c.in-Three.b = search rules in length-longest base c.in-Three.b f.fits) in let e = c.varint_len-in-Three.ensures in let g = c.varint_len-in-Three-2.ensures in record { fits = omega arith }
+overflow_add-result-in-Three c = let l0 = (let f : Fits w64 c.in-Three.a = search rules in length-longest base c.in-Three.a f.fits) in let l1 = (let f : Fits w64 c.in-Three.b = search rules in length-longest base c.in-Three.b f.fits) in record { fits = omega arith }
 
 pub overflow_add-result-in-Three-2 : goal.overflow_add-result-in-Three-2
-overflow_add-result-in-Three-2 c = let l0 = (let f : Fits w64 c.in-Three.a = search rules in length-longest base c.in-Three.a f.fits) in let l1 = (let f : Fits w64 c.in-Three.b = search rules in length-longest base c.in-Three.b f.fits) in let l2 = (let f : Fits w64 c.in-Three.c = search rules in length-longest base c.in-Three.c f.fits) in let e = c.varint_len-in-Three.ensures in let g = c.varint_len-in-Three-2.ensures in let h = c.varint_len-in-Three-3.ensures in record { fits = omega arith }
+overflow_add-result-in-Three-2 c = let l0 = (let f : Fits w64 c.in-Three.a = search rules in length-longest base c.in-Three.a f.fits) in let l1 = (let f : Fits w64 c.in-Three.b = search rules in length-longest base c.in-Three.b f.fits) in let l2 = (let f : Fits w64 c.in-Three.c = search rules in length-longest base c.in-Three.c f.fits) in record { fits = omega arith }
 
 pub returns-in-One : goal.returns-in-One
-returns-in-One c = let l0 = (let f : Fits w64 c.in-One.a = search rules in length-longest base c.in-One.a f.fits) in let e = c.varint_len.ensures in (e ∙ sym (ap (λ (o : Output). length (output_bytes o)) c.in-One.is), omega arith)
+returns-in-One c = let l0 = (let f : Fits w64 c.in-One.a = search rules in length-longest base c.in-One.a f.fits) in ((c.varint_len.ensures) ∙ sym (ap (λ (o : Output). length (output_bytes o)) c.in-One.is), omega arith)
 
 pub returns-in-Two : goal.returns-in-Two
-returns-in-Two c = let l0 = (let f : Fits w64 c.in-Two.a = search rules in length-longest base c.in-Two.a f.fits) in let l1 = (let f : Fits w64 c.in-Two.b = search rules in length-longest base c.in-Two.b f.fits) in let e = c.varint_len-in-Two.ensures in let g = c.varint_len-in-Two-2.ensures in let q = ap (λ (o : Output). length (output_bytes o)) c.in-Two.is ∙ length-append (shortest c.in-Two.a) (shortest c.in-Two.b) in (omega arith, omega arith)
+returns-in-Two c = let l0 = (let f : Fits w64 c.in-Two.a = search rules in length-longest base c.in-Two.a f.fits) in let l1 = (let f : Fits w64 c.in-Two.b = search rules in length-longest base c.in-Two.b f.fits) in let q = ap (λ (o : Output). length (output_bytes o)) c.in-Two.is ∙ length-append (shortest c.in-Two.a) (shortest c.in-Two.b) in (omega arith, omega arith)
 
 pub returns-in-Three : goal.returns-in-Three
-returns-in-Three c = let l0 = (let f : Fits w64 c.in-Three.a = search rules in length-longest base c.in-Three.a f.fits) in let l1 = (let f : Fits w64 c.in-Three.b = search rules in length-longest base c.in-Three.b f.fits) in let l2 = (let f : Fits w64 c.in-Three.c = search rules in length-longest base c.in-Three.c f.fits) in let e = c.varint_len-in-Three.ensures in let g = c.varint_len-in-Three-2.ensures in let h = c.varint_len-in-Three-3.ensures in let q = ap (λ (o : Output). length (output_bytes o)) c.in-Three.is ∙ length-append (shortest c.in-Three.a) (shortest c.in-Three.b ++ shortest c.in-Three.c) in let w = length-append (shortest c.in-Three.b) (shortest c.in-Three.c) in (omega arith, omega arith)
+returns-in-Three c = let l0 = (let f : Fits w64 c.in-Three.a = search rules in length-longest base c.in-Three.a f.fits) in let l1 = (let f : Fits w64 c.in-Three.b = search rules in length-longest base c.in-Three.b f.fits) in let l2 = (let f : Fits w64 c.in-Three.c = search rules in length-longest base c.in-Three.c f.fits) in let q = ap (λ (o : Output). length (output_bytes o)) c.in-Three.is ∙ length-append (shortest c.in-Three.a) (shortest c.in-Three.b ++ shortest c.in-Three.c) in let w = length-append (shortest c.in-Three.b) (shortest c.in-Three.c) in (omega arith, omega arith)
 
 pub returns-in-Four : goal.returns-in-Four
 returns-in-Four c = (sym (ap (λ (o : Output). length (output_bytes o)) c.in-Four.is ∙ length_low 4 _), omega arith)

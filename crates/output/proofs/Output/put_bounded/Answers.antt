@@ -4,4 +4,4 @@ use borrow.Author.Rules.{rules}
 use Rattle.output.proofs.Output.put_bounded.Goals as goal
 
 pub returns-then-len-gt-OUTPUT_MAX : goal.returns-then-len-gt-OUTPUT_MAX
-returns-then-len-gt-OUTPUT_MAX c = let l = c.len-len.ensures.1 in absurd (omega arith)
+returns-then-len-gt-OUTPUT_MAX c = absurd (omega arith)

@@ -11,12 +11,10 @@ returns-then-buf-held c = unsound _ _ _ _ _ c.if-buf-held.true
 
 pub accept-requires : goal.accept-requires
 accept-requires c =
-    let a = c.args in
-    begun-within (state_of a.self) _ a.offset _ c.begin-acc.ensures c.if-buf-held.false
+    begun-within (state_of c.args.self) _ c.args.offset _ c.begin-acc.ensures c.if-buf-held.false
 
 pub returns : goal.returns
 returns c =
-    let a = c.args in
     c.accept.ensures
-    ∙ ap (λ (x : Gatherer). accepted x a.buf.now a.total a.offset a.chunk.now) c.begin-acc.ensures
-    ∙ sym (in_order (state_of a.self) a.buf.now a.total a.offset a.chunk.now c.if-buf-held.false)
+    ∙ ap (λ (x : Gatherer). accepted x c.args.buf.now c.args.total c.args.offset c.args.chunk.now) c.begin-acc.ensures
+    ∙ sym (in_order (state_of c.args.self) c.args.buf.now c.args.total c.args.offset c.args.chunk.now c.if-buf-held.false)

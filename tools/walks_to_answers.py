@@ -344,7 +344,7 @@ def convert(root, crate, folder, info):
             places[m.group(1)] = j
             return f"({m.group(1)} : goal.{named(j)})"
 
-        text2 = re.sub(rf"\(({ID}) : tie\.({ID})\)", place_of, whole)
+        text2 = re.sub(rf"\(({ID}) : tie\.({ID})(?: (?:invariant|decreases)-[\w-]+)*\)", place_of, whole)
         m3 = re.match(rf"((?:(?:abbrev|pub)\s+)*{re.escape(name)} : )tie\.({ID}) →", text2)
         if m3:
             j = walk.index.get(norm(m3.group(2)))

@@ -9,11 +9,13 @@ use Rattle.places.specs.Places.{sound_for}
 use Rattle.buffers.specs.Moved.{moved_by}
 use borrow.Author.Rules.{rules}
 use Rattle.buffers.proofs.change.Goals as goal
+use Rattle.buffers.proofs.change.Lts as lts
+use Rattle.buffers.proofs.change.Reads as reads
 
-abbrev judgement : goal.After-check_change-check → Judgement
+abbrev judgement : lts.After-check_change reads.Pre reads.Post → Judgement
 judgement c = judged (change_tests (sound_for c.args.pos c.args.depth c.args.held c.args.places c.args.old) c.args.new c.args.offset c.args.drained)
 
-judges : (c : goal.After-check_change-check) → c.check_change-check.result ≡ check_of (judgement c)
+judges : (c : lts.After-check_change reads.Pre reads.Post) → c.check_change-check.result ≡ check_of (judgement c)
 judges c = c.check_change-check.ensures ∙ ap (λ (sound : Bool). check_of (judged (change_tests sound c.args.new c.args.offset c.args.drained))) c.sound_for.ensures
 
 pub returns-then-check : goal.returns-then-check

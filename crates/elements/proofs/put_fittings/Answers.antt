@@ -9,20 +9,20 @@ use Rattle.layout.specs.Varint.{shortest}
 use Rattle.varint.proofs.Shortest.{length-longest}
 use Rattle.elements.proofs.Room.{Roomy, roomy_start, roomy_here, roomy_next, roomy_end, roomy_fits}
 use Rattle.elements.proofs.put_fittings.Goals as goal
+use Rattle.elements.proofs.put_fittings.Lts as lts
+use Rattle.elements.proofs.put_fittings.Reads as reads
+use Rattle.elements.proofs.put_fittings.Tie as tie
 
 -- one element more
-first : (c : tie.After-put-fitting invariant-loop decreases-loop) → Roomy shortest (longest base) c.before.before.before.before.before.before.before.before.args.items.now c.before.before.before.before.before.before.before.before.args.buf.now c.before.before.before.before.before.before.before.before.args.pos c.put-fitting.new.0 c.put-fitting.result (c.before.before.before.before.before.loop.i + 1)
+first : (c : lts.After-put_fitting tie.the-claims reads.Pre reads.Post goal.the-invariant-loop-i goal.the-decreases-loop-i) → Roomy shortest (longest base) c.args.items.now c.args.buf.now c.args.pos c.put_fitting-mid.new.0 c.put_fitting-mid.result (c.loop-i.i + 1)
 first c =
-    let l = c.before.before.before.before.before.loop in
-    let t = c.before.before.before.before.loop-test.true in
-    let v : ℕ = get_or c.before.before.before.before.before.before.before.before.args.items.now l.i 0 in
-    roomy_next _ _ _ _ _ _ _ _ l.invariant.0 0 _ _ _ (omega arith) refl (length-longest base v (c.before.before.before.shared-slice-known2.given l.i).fits) c.put-fitting.ensures
+    let v : ℕ = get_or c.args.items.now c.loop-i.i 0 in
+    roomy_next _ _ _ _ _ _ _ _ c.loop-i.invariant.0 0 _ _ _ (omega arith) refl (length-longest base v (c.shared_slice_known-in-loop-i-1.given c.loop-i.i).fits) c.put_fitting-mid.ensures
 
-last : (c : tie.After-put-fitting3 invariant-loop decreases-loop) → Roomy shortest (longest base) c.before.before.before.before.before.before.before.before.args.items.now c.before.before.before.before.before.before.before.before.args.buf.now c.before.before.before.before.before.before.before.before.args.pos c.put-fitting3.new.0 c.put-fitting3.result (c.before.before.before.before.before.loop.i + 1)
+last : (c : lts.After-put_fitting3 tie.the-claims reads.Pre reads.Post goal.the-invariant-loop-i goal.the-decreases-loop-i) → Roomy shortest (longest base) c.args.items.now c.args.buf.now c.args.pos c.put_fitting.new.0 c.put_fitting.result (c.loop-i.i + 1)
 last c =
-    let l = c.before.before.before.before.before.loop in
-    let v : ℕ = get_or c.before.before.before.before.before.before.before.before.args.items.now l.i 0 in
-    roomy_next _ _ _ _ _ _ _ _ l.invariant.0 0 _ _ _ c.before.before.before.if1.true refl (length-longest base v (c.before.before.shared-slice-known4.given l.i).fits) c.put-fitting3.ensures
+    let v : ℕ = get_or c.args.items.now c.loop-i.i 0 in
+    roomy_next _ _ _ _ _ _ _ _ c.loop-i.invariant.0 0 _ _ _ c.if-i-items.true refl (length-longest base v (c.shared_slice_known-then-i-items-1.given c.loop-i.i).fits) c.put_fitting.ensures
 
 pub loop-i-init : goal.loop-i-init
 loop-i-init c = (roomy_start _ _ _ _ _ c.requires, omega arith)

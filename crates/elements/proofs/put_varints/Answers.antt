@@ -10,6 +10,9 @@ use Rattle.varint.proofs.Shortest.{length-longest, length_some}
 use Rattle.emit.proofs.Segments.{all_left}
 use Rattle.elements.proofs.Resumed.{Resumed, drop_shifted, resumed_start, resumed_next, resumed_end, resumed_went}
 use Rattle.elements.proofs.put_varints.Goals as goal
+use Rattle.elements.proofs.put_varints.Lts as lts
+use Rattle.elements.proofs.put_varints.Reads as reads
+use Rattle.elements.proofs.put_varints.Tie as tie
 
 pub returns-then-skip-eq0 : goal.returns-then-skip-eq0
 returns-then-skip-eq0 c = all_left c.args.cursor _ _ _ _ c.if-skip-eq0.true c.varints_from-end.ensures
@@ -25,7 +28,7 @@ few : (c : goal.After-put_whole-arg-1) → c.varints_out-out.result.part < longe
 few c = let k = short c in let l = length-longest base (get_or c.args.items.now (c.varints_out-out.result.whole) 0) (c.shared_slice_known-2-1.given (c.varints_out-out.result.whole)).fits in omega arith
 
 -- the first is out
-begun : (c : goal.After-slice_known-2-1) → Resumed shortest c.args.items.now c.args.cursor c.args.buf.now c.put_whole-next.new.0 c.put_whole-next.result (c.varints_out-out.result.whole + 1) 0
+begun : (c : lts.After-slice_known3 tie.the-claims reads.Pre reads.Post) → Resumed shortest c.args.items.now c.args.cursor c.args.buf.now c.put_whole-next.new.0 c.put_whole-next.result (c.varints_out-out.result.whole + 1) 0
 begun c =
     resumed_next shortest _ _ _ _ _ _ _ (resumed_start shortest _ c.args.cursor _ _ _ c.requires c.varints_out-out.ensures) length_some 0 _ _ _ c.if-items-first.false (sym (drop_shifted c.varints_out-out.result.part _ (short c.before.before.before))) c.put_whole-next.ensures
 

@@ -14,6 +14,9 @@ use Rattle.varint.proofs.Shortest.{length-longest, length_some}
 use Rattle.emit.proofs.Segments.{all_left}
 use Rattle.elements.proofs.Resumed.{Resumed, drop_shifted, resumed_start, resumed_next, resumed_end, resumed_went}
 use Rattle.elements.proofs.put_zigzags.Goals as goal
+use Rattle.elements.proofs.put_zigzags.Lts as lts
+use Rattle.elements.proofs.put_zigzags.Reads as reads
+use Rattle.elements.proofs.put_zigzags.Tie as tie
 
 pub returns-then-skip-eq0 : goal.returns-then-skip-eq0
 returns-then-skip-eq0 c = all_left c.args.cursor _ _ _ _ c.if-skip-eq0.true c.zigzags_from-end.ensures
@@ -35,7 +38,7 @@ few : (c : goal.After-zigzag_encode) → c.zigzags_out-out.result.part < longest
 few c = let k = short c in let l = length-longest base _ c.zigzag_encode.type-inv in omega arith
 
 -- the first is out
-begun : (c : goal.After-slice_known-2-1) → Resumed (λ z. shortest (zigzag z)) c.args.items.now c.args.cursor c.args.buf.now c.put_whole-next.new.0 c.put_whole-next.result (c.zigzags_out-out.result.whole + 1) 0
+begun : (c : lts.After-slice_known3 tie.the-claims reads.Pre reads.Post) → Resumed (λ z. shortest (zigzag z)) c.args.items.now c.args.cursor c.args.buf.now c.put_whole-next.new.0 c.put_whole-next.result (c.zigzags_out-out.result.whole + 1) 0
 begun c =
     resumed_next (λ z. shortest (zigzag z)) _ _ _ _ _ _ _ (resumed_start (λ z. shortest (zigzag z)) _ c.args.cursor _ _ _ c.requires c.zigzags_out-out.ensures) (λ z. length_some (zigzag z)) (pos 0) _ _ _ c.if-items-first.false (sym (drop_shifted c.zigzags_out-out.result.part _ (short c.before.before.before)) ∙ ap (λ (v : ℕ). drop c.zigzags_out-out.result.part (shortest v)) (number c.before.before.before)) c.put_whole-next.ensures
 

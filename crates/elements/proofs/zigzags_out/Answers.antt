@@ -13,18 +13,20 @@ use Rattle.layout.specs.Zigzag.{zigzag}
 use Rattle.varint.proofs.Shortest.{length-longest}
 use Rattle.elements.proofs.Resumed.{Counting, out-start, out-next, out_stop, out_end}
 use Rattle.elements.proofs.zigzags_out.Goals as goal
+use Rattle.elements.proofs.zigzags_out.Lts as lts
+use Rattle.elements.proofs.zigzags_out.Reads as reads
 
 pub loop-i-init : goal.loop-i-init
 loop-i-init c = out-start _ _ _
 
 -- the length that the code takes is that of the element's varint
-long : (c : tie.After-width invariant-loop decreases-loop) → c.width.result ≡ length (shortest (zigzag (get_or c.before.before.before.before.before.args.items.now c.before.before.before.before.loop.i (pos 0))))
+long : (c : lts.After-width reads.Pre reads.Post goal.the-invariant-loop-i goal.the-decreases-loop-i) → c.width-len.result ≡ length (shortest (zigzag (get_or c.args.items.now c.loop-i.i (pos 0))))
 long c =
-    let z : ℤ = get_or c.before.before.before.before.before.args.items.now c.before.before.before.before.loop.i (pos 0) in
-    c.width.ensures ∙ ap (λ (v : ℕ). length (shortest v)) (c.before.zigzag-encode.ensures ∙ ap zigzag (to_z-of_z w64 z (sfits_of c.before.before.v.given)))
+    let z : ℤ = get_or c.args.items.now c.loop-i.i (pos 0) in
+    c.width-len.ensures ∙ ap (λ (v : ℕ). length (shortest v)) (c.zigzag_encode.ensures ∙ ap zigzag (to_z-of_z w64 z (sfits_of c.v-1.given)))
 
-most : (c : tie.After-width invariant-loop decreases-loop) → c.width.result ≤ longest base
-most c = let e = c.width.ensures in let l = length-longest base _ c.before.zigzag-encode.type-inv in omega arith
+most : (c : lts.After-width reads.Pre reads.Post goal.the-invariant-loop-i goal.the-decreases-loop-i) → c.width-len.result ≤ longest base
+most c = let l = length-longest base _ c.zigzag_encode.type-inv in omega arith
 
 pub returns-then-left-len : goal.returns-then-left-len
 returns-then-left-len c = out_stop _ _ _ _ _ c.loop-i.invariant (pos 0) _ c.loop-i-test.true (long c.before) (most c.before) c.if-left-len.true

@@ -10,11 +10,14 @@ use Rattle.putting.proofs.Turns.{whole_as}
 use Rattle.putting.specs.Put.{Puts}
 use Rattle.elements.proofs.Resumed.{Resumed, out_evenly, resumed_start, resumed_next, resumed_part, resumed_run, run_fits, run_ends, resumed_last, resumed_end}
 use Rattle.floats.proofs.put_fp32s.Goals as goal
+use Rattle.floats.proofs.put_fp32s.Lts as lts
+use Rattle.floats.proofs.put_fp32s.Reads as reads
+use Rattle.floats.proofs.put_fp32s.Tie as tie
 
 some : (x : ℕ) → 1 ≤ length (low_bytes 4 x)
 some x = let e = length_low 4 x in omega arith
 
-start : (c : goal.After-evenly_out-out) → Resumed (low_bytes 4) c.args.items.now c.args.cursor c.args.buf.now c.args.buf.now c.args.cursor.pos c.evenly_out-out.result.whole c.evenly_out-out.result.part
+start : (c : lts.After-evenly_out tie.the-claims reads.Pre reads.Post) → Resumed (low_bytes 4) c.args.items.now c.args.cursor c.args.buf.now c.args.buf.now c.args.cursor.pos c.evenly_out-out.result.whole c.evenly_out-out.result.part
 start c = resumed_start (low_bytes 4) _ c.args.cursor _ _ _ c.requires (out_evenly (low_bytes 4) _ 4 (omega arith) (λ x. length_low 4 x) _ _ _ c.evenly_out-out.ensures.0 c.evenly_out-out.ensures.1 c.evenly_out-out.ensures.2)
 
 pub returns-then-items-first : goal.returns-then-items-first
@@ -30,13 +33,13 @@ pub put_fours-end-requires : goal.put_fours-end-requires
 put_fours-end-requires c = let k : c.evenly_out-out.result.whole + 1 + (c.least.result) - (c.evenly_out-out.result.whole + 1) ≡ (c.least.result) = omega arith in rw k (run_fits (low_bytes 4) _ _ _ _ _ _ (begun c.before.before.before) 4 (omega arith) (λ x. length_low 4 x) (c.least.result) c.least.ensures)
 
 -- the whole ones, as the law has them
-whole : (c : goal.After-slice_known-3-1) → Puts c.put_part-at.new.0 c.put_part-at.result (each (low_bytes 4) (take c.least.result (drop (c.evenly_out-out.result.whole + 1) c.args.items.now))) c.put_fours-end.new.0 c.put_fours-end.result
+whole : (c : lts.After-slice_known3 tie.the-claims reads.Pre reads.Post) → Puts c.put_part-at.new.0 c.put_part-at.result (each (low_bytes 4) (take c.least.result (drop (c.evenly_out-out.result.whole + 1) c.args.items.now))) c.put_fours-end.new.0 c.put_fours-end.result
 whole c =
     let i = c.evenly_out-out.result.whole + 1 in
     let k : i + c.least.result - i ≡ c.least.result = omega arith in
     whole_as _ _ _ _ _ _ (ap (λ (m : ℕ). each (low_bytes 4) (take m (drop i c.args.items.now))) k) c.put_fours-end.ensures
 
-ran : (c : goal.After-slice_known-3-1) → Resumed (low_bytes 4) c.args.items.now c.args.cursor c.args.buf.now c.put_fours-end.new.0 c.put_fours-end.result (c.evenly_out-out.result.whole + 1 + c.least.result) 0
+ran : (c : lts.After-slice_known3 tie.the-claims reads.Pre reads.Post) → Resumed (low_bytes 4) c.args.items.now c.args.cursor c.args.buf.now c.put_fours-end.new.0 c.put_fours-end.result (c.evenly_out-out.result.whole + 1 + c.least.result) 0
 ran c = resumed_run (low_bytes 4) _ _ _ _ _ _ (begun c.before.before.before.before.before.before) some _ _ _ (whole c)
 
 pub returns-then-items-last : goal.returns-then-items-last

@@ -17,9 +17,9 @@ use Rattle.held.proofs.held_len.Goals as goal
 pub loop-i-init : goal.loop-i-init
 loop-i-init c = (search rules, refl, search rules, count_start _ _ _)
 
-short : (c : tie.After-varint-len invariant-loop decreases-loop) → c.varint-len.result ≤ longest base
+short : (c : goal.After-varint_len-len) → c.varint_len-len.result ≤ longest base
 short c =
-    let h = length-longest base c.before.tagged.result c.before.tagged.type-inv in let e = c.varint-len.ensures in omega arith
+    let h = length-longest base c.tagged.result c.tagged.type-inv in omega arith
 
 pub overflow_add-len : goal.overflow_add-len
 overflow_add-len c = let h = short c in record { fits = omega arith }

@@ -12,6 +12,9 @@ use Rattle.host.proofs.Numbers.{is_complete, not_copied, as_complete}
 use Rattle.host.proofs.Own.{own_copied}
 use borrow.Author.Rules.{rules}
 use Rattle.host.proofs.sofab_copy.Goals as goal
+use Rattle.host.proofs.sofab_copy.Lts as lts
+use Rattle.host.proofs.sofab_copy.Reads as reads
+use Rattle.host.proofs.sofab_copy.Tie as tie
 
 pub returns-then-is_own : goal.returns-then-is_own
 returns-then-is_own c = let f : to_z w64 (of_z w64 c.block.result) ≡ c.block.result = search rules in ap (λ (x : ℤ). result_of x c.block.new.1.0) f ∙ c.block.ensures ∙ own_copied _ _ _ _ (c.is_own.ensures c.if-is_own.true)
@@ -25,7 +28,7 @@ returns-then-n-lt0 c =
     ap (λ (x : ℤ). result_of x c.args.out.now) (f ∙ e) ∙ not_copied _ g.0 _ _ (sym e ∙ g.1)
 
 -- a number that isn't below 0 is a complete message's
-whole-message : (c : goal.Else-n-lt0) → verdict_of base c.args.ticket.now ≡ complete
+whole-message : (c : lts.Else2 tie.the-claims reads.Pre reads.Post) → verdict_of base c.args.ticket.now ≡ complete
 whole-message c =
     let s : SFits w64 c.refusal-n.result = search rules in
     let e = c.refusal-n.ensures _ c.verdict_of.ensures in

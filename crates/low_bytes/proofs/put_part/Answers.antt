@@ -9,9 +9,12 @@ use Rattle.layout.specs.Field.{low_bytes}
 use Rattle.low_bytes.proofs.Low.{drop_low}
 use Rattle.putting.proofs.Turns.{whole_as}
 use Rattle.low_bytes.proofs.put_part.Goals as goal
+use Rattle.low_bytes.proofs.put_part.Lts as lts
+use Rattle.low_bytes.proofs.put_part.Reads as reads
+use Rattle.low_bytes.proofs.put_part.Tie as tie
 
 -- the room for n bytes, as the test has it
-roomy : (c : goal.Then-n-buf) → c.args.n ≤ length c.args.buf.now - c.args.pos
+roomy : (c : lts.Then3 tie.the-claims reads.Pre reads.Post) → c.args.n ≤ length c.args.buf.now - c.args.pos
 roomy c = leb-true _ _ c.if-n-buf.true-raw
 
 pub put_four-requires : goal.put_four-requires

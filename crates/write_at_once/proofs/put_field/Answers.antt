@@ -7,8 +7,11 @@ use Rattle.layout.specs.Varint.{shortest}
 use Rattle.at_ease.proofs.AtOnce.{Tested, has_room, tight, unclean, passed, made, unmade}
 use Rattle.write_at_once.proofs.Rows.{second_fits, row_made}
 use Rattle.write_at_once.proofs.put_field.Goals as goal
+use Rattle.write_at_once.proofs.put_field.Lts as lts
+use Rattle.write_at_once.proofs.put_field.Reads as reads
+use Rattle.write_at_once.proofs.put_field.Tie as tie
 
-tested : (c : goal.Else-not-unused_zero) → Tested (length c.args.buf.now) c.args.pos (length c.args.bytes.now) c.args.places
+tested : (c : lts.Else2 tie.the-claims reads.Pre reads.Post) → Tested (length c.args.buf.now) c.args.pos (length c.args.bytes.now) c.args.places
 tested c = passed _ _ _ _ c.args.places c.has_room.ensures c.if-not-has_room.false-raw _ c.unused_zero.ensures c.if-not-unused_zero.false-raw
 
 pub returns-then-not-has_room : goal.returns-then-not-has_room

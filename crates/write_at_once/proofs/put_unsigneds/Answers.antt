@@ -9,8 +9,11 @@ use Rattle.elements.specs.OutAfter.{elements_most}
 use Rattle.at_ease.proofs.AtOnce.{Tested, has_room, tight, unclean, passed, unmade_whole}
 use Rattle.write_at_once.proofs.Rows.{second_fits, rest-fits, array_made}
 use Rattle.write_at_once.proofs.put_unsigneds.Goals as goal
+use Rattle.write_at_once.proofs.put_unsigneds.Lts as lts
+use Rattle.write_at_once.proofs.put_unsigneds.Reads as reads
+use Rattle.write_at_once.proofs.put_unsigneds.Tie as tie
 
-tested : (c : goal.Else-not-unused_zero) → Tested (length c.args.buf.now) c.args.pos (elements_most (length c.args.items.now)) c.args.places
+tested : (c : lts.Else2 tie.the-claims reads.Pre reads.Post) → Tested (length c.args.buf.now) c.args.pos (elements_most (length c.args.items.now)) c.args.places
 tested c = passed _ _ _ _ c.args.places c.has_room.ensures c.if-not-has_room.false-raw _ c.unused_zero.ensures c.if-not-unused_zero.false-raw
 
 pub returns-then-not-has_room : goal.returns-then-not-has_room

@@ -12,9 +12,12 @@ use Rattle.write_slowly.specs.Went.{tests, judgement_of}
 use Rattle.write_slowly.proofs.Went.{may_go, refuses, goes}
 use borrow.Author.Rules.{rules}
 use Rattle.write_slowly.proofs.varint_field.Goals as goal
+use Rattle.write_slowly.proofs.varint_field.Lts as lts
+use Rattle.write_slowly.proofs.varint_field.Reads as reads
+use Rattle.write_slowly.proofs.varint_field.Tie as tie
 
 -- the tests, with the state's own
-judges : (c : goal.After-check_field-tests) → c.check_field-tests.result ≡ check_of (judgement_of c.args.pos c.args.depth c.args.held c.args.places (length c.args.buf.now) c.args.id [])
+judges : (c : lts.After-check_field tie.the-claims reads.Pre reads.Post) → c.check_field-tests.result ≡ check_of (judgement_of c.args.pos c.args.depth c.args.held c.args.places (length c.args.buf.now) c.args.id [])
 judges c = c.check_field-tests.ensures ∙ ap (λ (sound : Bool). check_of (judged (tests sound c.args.id []))) c.sound_for.ensures
 
 pub returns-then-not-tests : goal.returns-then-not-tests

@@ -10,17 +10,20 @@ use Rattle.copier_refusals.specs.Checked.{judged_by}
 use Rattle.copier.proofs.Calls.{feed-refused, feed_ready, feed_runs}
 use borrow.Author.Rules.{rules}
 use Rattle.copier.proofs.Copier.feed.Goals as goal
+use Rattle.copier.proofs.Copier.feed.Lts as lts
+use Rattle.copier.proofs.Copier.feed.Reads as reads
+use Rattle.copier.proofs.Copier.feed.Tie as tie
 
-abbrev tests : goal.After-check_copier-check → Judgement
+abbrev tests : lts.After-check_copier tie.the-claims reads.Pre reads.Post → Judgement
 tests c = judged_by c.args.self.reader c.args.self.writer c.args.self.owed c.args.self.place (length c.args.buf.now)
 
-passes : (c : goal.Else-not-check) → tests c.before.before ≡ accepted
+passes : (c : lts.Else1 tie.the-claims reads.Pre reads.Post) → tests c.before.before ≡ accepted
 passes c = check_passes (tests c.before.before) _ c.check_copier-check.ensures c.if-not-check.false
 
 small-then : (c : goal.Then-not-check) → Fits w8 c.args.self.reader.carried.depth
 small-then c = search rules
 
-small : (c : goal.Else-not-check) → Fits w8 c.args.self.reader.carried.depth
+small : (c : lts.Else1 tie.the-claims reads.Pre reads.Post) → Fits w8 c.args.self.reader.carried.depth
 small c = search rules
 
 pub returns-then-not-check : goal.returns-then-not-check

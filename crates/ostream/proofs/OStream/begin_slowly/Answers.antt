@@ -20,11 +20,14 @@ use Rattle.ostream.specs.Private.{unwritten}
 use Rattle.ostream.specs.Calls.{begin_call}
 use borrow.Author.Rules.{rules}
 use Rattle.ostream.proofs.OStream.begin_slowly.Goals as goal
+use Rattle.ostream.proofs.OStream.begin_slowly.Lts as lts
+use Rattle.ostream.proofs.OStream.begin_slowly.Reads as reads
+use Rattle.ostream.proofs.OStream.begin_slowly.Tie as tie
 
-abbrev judgement : goal.After-check_begin-check → Judgement
+abbrev judgement : lts.After-check_begin tie.the-claims reads.Pre reads.Post → Judgement
 judgement c = judged (begin_call c.args.self (length c.args.buf.now) c.args.id).tests
 
-judges : (c : goal.After-check_begin-check) → c.check_begin-check.result ≡ check_of (judgement c)
+judges : (c : lts.After-check_begin tie.the-claims reads.Pre reads.Post) → c.check_begin-check.result ≡ check_of (judgement c)
 judges c = c.check_begin-check.ensures ∙ ap (λ (sound : Bool). check_of (judged (unsound_writer sound ∷ deepest c.args.self.depth ∷ id_too_large c.args.id ∷ []))) c.sound.ensures
 
 passes : (c : goal.Else-not-check) → judgement c.before.before ≡ accepted

@@ -19,14 +19,17 @@ use Rattle.ostream.specs.Calls.{end_call, end_keep_call}
 use Rattle.layout.specs.Field.{end}
 use borrow.Author.Rules.{rules}
 use Rattle.ostream.proofs.OStream.end_slowly.Goals as goal
+use Rattle.ostream.proofs.OStream.end_slowly.Lts as lts
+use Rattle.ostream.proofs.OStream.end_slowly.Reads as reads
+use Rattle.ostream.proofs.OStream.end_slowly.Tie as tie
 
-abbrev judgement : goal.After-check_end-check → Judgement
+abbrev judgement : lts.After-check_end tie.the-claims reads.Pre reads.Post → Judgement
 judgement c = judged (end_call c.args.self (length c.args.buf.now)).tests
 
-judges : (c : goal.After-check_end-check) → c.check_end-check.result ≡ check_of (judgement c)
+judges : (c : lts.After-check_end tie.the-claims reads.Pre reads.Post) → c.check_end-check.result ≡ check_of (judgement c)
 judges c = c.check_end-check.ensures ∙ ap (λ (sound : Bool). check_of (judged (unsound_writer sound ∷ outermost c.args.self.depth ∷ []))) c.sound.ensures
 
-passes : (c : goal.Else-not-check) → judgement c.before.before ≡ accepted
+passes : (c : lts.Else1 tie.the-claims reads.Pre reads.Post) → judgement c.before.before ≡ accepted
 passes c = check_passes (judgement c.before.before) _ (judges c.before.before) c.if-not-check.false
 
 pub returns-then-not-check : goal.returns-then-not-check

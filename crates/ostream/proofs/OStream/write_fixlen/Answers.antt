@@ -11,11 +11,14 @@ use Rattle.ostream.proofs.Calls.{refuses, recalled, without}
 use Rattle.ostream.specs.Calls.{fixlen_call, unsound}
 use borrow.Author.Rules.{rules}
 use Rattle.ostream.proofs.OStream.write_fixlen.Goals as goal
+use Rattle.ostream.proofs.OStream.write_fixlen.Lts as lts
+use Rattle.ostream.proofs.OStream.write_fixlen.Reads as reads
+use Rattle.ostream.proofs.OStream.write_fixlen.Tie as tie
 
-abbrev judgement : goal.After-check_fixlen-check → Judgement
+abbrev judgement : lts.After-check_fixlen tie.the-claims reads.Pre reads.Post → Judgement
 judgement c = judged (fixlen_call c.args.self (length c.args.buf.now) c.args.id c.args.bytes.now c.args.subtype).tests
 
-judges : (c : goal.After-check_fixlen-check) → c.check_fixlen-check.result ≡ check_of (judgement c)
+judges : (c : lts.After-check_fixlen tie.the-claims reads.Pre reads.Post) → c.check_fixlen-check.result ≡ check_of (judgement c)
 judges c = c.check_fixlen-check.ensures ∙ ap (λ (sound : Bool). check_of (judged (unsound_writer sound ∷ string_subtype c.args.subtype ∷ id_too_large c.args.id ∷ payload_too_long (length c.args.bytes.now) ∷ []))) c.sound.ensures
 
 pub returns-then-not-check : goal.returns-then-not-check

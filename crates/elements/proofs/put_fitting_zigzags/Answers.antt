@@ -23,7 +23,7 @@ pub loop-i-preserved : goal.loop-i-preserved
 loop-i-preserved c =
     let z : ℤ = get_or c.args.items.now c.loop-i.i (pos 0) in
     let e = c.zigzag_encode.ensures ∙ ap zigzag (to_z-of_z w64 z (sfits_of c.v-1.given)) in
-    roomy_next _ _ _ _ _ _ _ _ c.loop-i.invariant (pos 0) _ _ _ c.loop-i-test.true (ap shortest e) (length-longest base c.zigzag_encode.result c.zigzag_encode.type-inv) c.put_fitting-at.ensures
+    roomy_next _ _ _ _ _ _ _ _ c.loop-i.invariant (pos 0) _ _ _ c.loop-i-test.true (ap shortest e) (length-longest base c.zigzag_encode.result c.zigzag_encode.type_inv) c.put_fitting-at.ensures
 
 pub shape_of-buf : goal.shape_of-buf
 shape_of-buf c = c.loop-i.invariant.left.size

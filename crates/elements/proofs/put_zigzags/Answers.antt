@@ -35,7 +35,7 @@ short : (c : goal.After-zigzag_encode) → c.zigzags_out-out.result.part < lengt
 short c = let k = c.zigzags_out-out.ensures.short (pos 0) c.if-items-first.false in let e = ap (λ (v : ℕ). length (shortest v)) (number c) in omega arith
 
 few : (c : goal.After-zigzag_encode) → c.zigzags_out-out.result.part < longest base
-few c = let k = short c in let l = length-longest base _ c.zigzag_encode.type-inv in omega arith
+few c = let k = short c in let l = length-longest base _ c.zigzag_encode.type_inv in omega arith
 
 -- the first is out
 begun : (c : lts.After-slice_known3 tie.the-claims reads.Pre reads.Post) → Resumed (λ z. shortest (zigzag z)) c.args.items.now c.args.cursor c.args.buf.now c.put_whole-next.new.0 c.put_whole-next.result (c.zigzags_out-out.result.whole + 1) 0

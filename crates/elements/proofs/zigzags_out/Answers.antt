@@ -26,7 +26,7 @@ long c =
     c.width-len.ensures ∙ ap (λ (v : ℕ). length (shortest v)) (c.zigzag_encode.ensures ∙ ap zigzag (to_z-of_z w64 z (sfits_of c.v-1.given)))
 
 most : (c : lts.After-width reads.Pre reads.Post goal.the-invariant-loop-i goal.the-decreases-loop-i) → c.width-len.result ≤ longest base
-most c = let l = length-longest base _ c.zigzag_encode.type-inv in omega arith
+most c = let l = length-longest base _ c.zigzag_encode.type_inv in omega arith
 
 pub returns-then-left-len : goal.returns-then-left-len
 returns-then-left-len c = out_stop _ _ _ _ _ c.loop-i.invariant (pos 0) _ c.loop-i-test.true (long c.before) (most c.before) c.if-left-len.true

@@ -19,7 +19,7 @@ loop-i-init c = (search rules, refl, search rules, count_start _ _ _)
 
 short : (c : goal.After-varint_len-len) → c.varint_len-len.result ≤ longest base
 short c =
-    let h = length-longest base c.tagged.result c.tagged.type-inv in omega arith
+    let h = length-longest base c.tagged.result c.tagged.type_inv in omega arith
 
 pub overflow_add-len : goal.overflow_add-len
 overflow_add-len c = let h = short c in record { fits = omega arith }

@@ -22,4 +22,4 @@ pub returns : goal.returns
 unfolding fixlen_bytes
 returns c =
     behind _ (easy_with c.args.depth c.args.held c.args.id (length c.args.bytes.now) base.size) (roomy_at (length c.args.buf.now) c.args.pos c.args.places (length c.args.bytes.now)) c.args.buf.now c.args.pos (fixlen_bytes c.args.id (subtype c.args.t) c.args.bytes.now) c.at_ease_with.ensures _ _ c.if-not-at_ease_with.false-raw
-    (field-whole c.args.buf.now c.args.pos c.tagged.result (c.args.id * 8 + 2) c.args.places _ _ c.tagged.ensures c.tagged.type-inv c.tagged-word.result (length c.args.bytes.now * 8 + fixlen_raw c.args.t) c.args.bytes.now (c.tagged-word.ensures ∙ ap (λ (n : ℕ). length c.args.bytes.now * 8 + n) c.raw.ensures) c.tagged-word.type-inv c.put_field.ensures)
+    (field-whole c.args.buf.now c.args.pos c.tagged.result (c.args.id * 8 + 2) c.args.places _ _ c.tagged.ensures c.tagged.type_inv c.tagged-word.result (length c.args.bytes.now * 8 + fixlen_raw c.args.t) c.args.bytes.now (c.tagged-word.ensures ∙ ap (λ (n : ℕ). length c.args.bytes.now * 8 + n) c.raw.ensures) c.tagged-word.type_inv c.put_field.ensures)

@@ -15,4 +15,4 @@ returns-then-not-at_ease c = refused _ (easy_at c.args.depth c.args.held c.args.
 pub returns : goal.returns
 returns c =
     behind _ (easy_at c.args.depth c.args.held c.args.id) _ c.args.buf.now c.args.pos (shortest (c.args.id * 8 + c.args.wire) ++ shortest c.args.value) c.at_ease.ensures _ _ c.if-not-at_ease.false-raw
-    (pair_whole c.args.buf.now c.args.pos c.tagged.result (c.args.id * 8 + c.args.wire) c.args.places _ _ c.tagged.ensures c.tagged.type-inv c.args.value c.ranges.value.fits c.put_pair.ensures)
+    (pair_whole c.args.buf.now c.args.pos c.tagged.result (c.args.id * 8 + c.args.wire) c.args.places _ _ c.tagged.ensures c.tagged.type_inv c.args.value c.ranges.value.fits c.put_pair.ensures)

@@ -9,19 +9,11 @@ use Rattle.places.specs.Places.{sound_for}
 use Rattle.buffers.specs.Moved.{moved_by}
 use borrow.Author.Rules.{rules}
 use Rattle.buffers.proofs.change.Goals as goal
-use Rattle.buffers.proofs.change.Lts as lts
-use Rattle.buffers.proofs.change.Reads as reads
-
-abbrev judgement : lts.After-check_change reads.Pre reads.Post → Judgement
-judgement c = judged (change_tests (sound_for c.args.pos c.args.depth c.args.held c.args.places c.args.old) c.args.new c.args.offset c.args.drained)
-
-judges : (c : lts.After-check_change reads.Pre reads.Post) → c.check_change-check.result ≡ check_of (judgement c)
-judges c = c.check_change-check.ensures ∙ ap (λ (sound : Bool). check_of (judged (change_tests sound c.args.new c.args.offset c.args.drained))) c.sound_for.ensures
 
 pub returns-then-check : goal.returns-then-check
 returns-then-check c =
-    sym (ap (λ (v : Judgement). moved_by v c.args.pos c.args.offset) (check_passes (judgement c.before) _ (judges c.before) (ap not c.if-check.true)))
+    sym (ap (λ (v : Judgement). moved_by v c.args.pos c.args.offset) (check_passes (judged (change_tests (sound_for c.args.pos c.args.depth c.args.held c.args.places c.args.old) c.args.new c.args.offset c.args.drained)) _ (let judges : c.check_change-check.result ≡ check_of (judged (change_tests (sound_for c.args.pos c.args.depth c.args.held c.args.places c.args.old) c.args.new c.args.offset c.args.drained)) = c.check_change-check.ensures ∙ ap (λ (sound : Bool). check_of (judged (change_tests sound c.args.new c.args.offset c.args.drained))) c.sound_for.ensures in judges) (ap not c.if-check.true)))
 
 pub returns-else-check : goal.returns-else-check
 returns-else-check c =
-    sym (ap (λ (v : Judgement). moved_by v c.args.pos c.args.offset) (check_fails (judgement c.before) _ (judges c.before) (ap not c.if-check.false)))
+    sym (ap (λ (v : Judgement). moved_by v c.args.pos c.args.offset) (check_fails (judged (change_tests (sound_for c.args.pos c.args.depth c.args.held c.args.places c.args.old) c.args.new c.args.offset c.args.drained)) _ (let judges : c.check_change-check.result ≡ check_of (judged (change_tests (sound_for c.args.pos c.args.depth c.args.held c.args.places c.args.old) c.args.new c.args.offset c.args.drained)) = c.check_change-check.ensures ∙ ap (λ (sound : Bool). check_of (judged (change_tests sound c.args.new c.args.offset c.args.drained))) c.sound_for.ensures in judges) (ap not c.if-check.false)))

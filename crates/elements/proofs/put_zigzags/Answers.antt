@@ -14,9 +14,6 @@ use Rattle.varint.proofs.Shortest.{length-longest, length_some}
 use Rattle.emit.proofs.Segments.{all_left}
 use Rattle.elements.proofs.Resumed.{Resumed, drop_shifted, resumed_start, resumed_next, resumed_end, resumed_went}
 use Rattle.elements.proofs.put_zigzags.Goals as goal
-use Rattle.elements.proofs.put_zigzags.Lts as lts
-use Rattle.elements.proofs.put_zigzags.Reads as reads
-use Rattle.elements.proofs.put_zigzags.Tie as tie
 
 pub returns-then-skip-eq0 : goal.returns-then-skip-eq0
 returns-then-skip-eq0 c = all_left c.args.cursor _ _ _ _ c.if-skip-eq0.true c.zigzags_from-end.ensures
@@ -37,13 +34,8 @@ short c = let k = c.zigzags_out-out.ensures.short (pos 0) c.if-items-first.false
 few : (c : goal.After-zigzag_encode) → c.zigzags_out-out.result.part < longest base
 few c = let k = short c in let l = length-longest base _ c.zigzag_encode.type_inv in omega arith
 
--- the first is out
-begun : (c : lts.After-slice_known3 tie.the-claims reads.Pre reads.Post) → Resumed (λ z. shortest (zigzag z)) c.args.items.now c.args.cursor c.args.buf.now c.put_whole-next.new.buf c.put_whole-next.result (c.zigzags_out-out.result.whole + 1) 0
-begun c =
-    resumed_next (λ z. shortest (zigzag z)) _ _ _ _ _ _ _ (resumed_start (λ z. shortest (zigzag z)) _ c.args.cursor _ _ _ c.requires c.zigzags_out-out.ensures) (λ z. length_some (zigzag z)) (pos 0) _ _ _ c.if-items-first.false (sym (drop_shifted c.zigzags_out-out.result.part _ (short c.before.before.before)) ∙ ap (λ (v : ℕ). drop c.zigzags_out-out.result.part (shortest v)) (number c.before.before.before)) c.put_whole-next.ensures
-
 pub returns : goal.returns
-returns c = resumed_went (λ z. shortest (zigzag z)) _ _ _ _ _ _ (begun c.before.before.before.before) _ _ c.zigzags_from-end-2.ensures
+returns c = resumed_went (λ z. shortest (zigzag z)) _ _ _ _ _ _ (let begun : Resumed (λ z. shortest (zigzag z)) c.args.items.now c.args.cursor c.args.buf.now c.put_whole-next.new.buf c.put_whole-next.result (c.zigzags_out-out.result.whole + 1) 0 = resumed_next (λ z. shortest (zigzag z)) _ _ _ _ _ _ _ (resumed_start (λ z. shortest (zigzag z)) _ c.args.cursor _ _ _ c.requires c.zigzags_out-out.ensures) (λ z. length_some (zigzag z)) (pos 0) _ _ _ c.if-items-first.false (sym (drop_shifted c.zigzags_out-out.result.part _ (short c.before.before.before)) ∙ ap (λ (v : ℕ). drop c.zigzags_out-out.result.part (shortest v)) (number c.before.before.before)) c.put_whole-next.ensures in begun) _ _ c.zigzags_from-end-2.ensures
 
 pub overflow_mul-part : goal.overflow_mul-part
 overflow_mul-part c = let k = few c in record { fits = omega arith }
@@ -52,4 +44,4 @@ pub overflow_shr-zigzag_encode : goal.overflow_shr-zigzag_encode
 overflow_shr-zigzag_encode c = let k = few c in omega arith
 
 pub zigzags_from-end-requires-2 : goal.zigzags_from-end-requires-2
-zigzags_from-end-requires-2 c = (begun c.before).inside
+zigzags_from-end-requires-2 c = (let begun : Resumed (λ z. shortest (zigzag z)) c.args.items.now c.args.cursor c.args.buf.now c.put_whole-next.new.buf c.put_whole-next.result (c.zigzags_out-out.result.whole + 1) 0 = resumed_next (λ z. shortest (zigzag z)) _ _ _ _ _ _ _ (resumed_start (λ z. shortest (zigzag z)) _ c.args.cursor _ _ _ c.requires c.zigzags_out-out.ensures) (λ z. length_some (zigzag z)) (pos 0) _ _ _ c.if-items-first.false (sym (drop_shifted c.zigzags_out-out.result.part _ (short c.before.before.before)) ∙ ap (λ (v : ℕ). drop c.zigzags_out-out.result.part (shortest v)) (number c.before.before.before)) c.put_whole-next.ensures in begun).inside

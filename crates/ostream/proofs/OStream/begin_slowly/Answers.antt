@@ -20,25 +20,16 @@ use Rattle.ostream.specs.Private.{unwritten}
 use Rattle.ostream.specs.Calls.{begin_call}
 use borrow.Author.Rules.{rules}
 use Rattle.ostream.proofs.OStream.begin_slowly.Goals as goal
-use Rattle.ostream.proofs.OStream.begin_slowly.Lts as lts
-use Rattle.ostream.proofs.OStream.begin_slowly.Reads as reads
-use Rattle.ostream.proofs.OStream.begin_slowly.Tie as tie
 
-abbrev judgement : lts.After-check_begin tie.the-claims reads.Pre reads.Post → Judgement
-judgement c = judged (begin_call c.args.self (length c.args.buf.now) c.args.id).tests
-
-judges : (c : lts.After-check_begin tie.the-claims reads.Pre reads.Post) → c.check_begin-check.result ≡ check_of (judgement c)
-judges c = c.check_begin-check.ensures ∙ ap (λ (sound : Bool). check_of (judged (unsound_writer sound ∷ deepest c.args.self.depth ∷ id_too_large c.args.id ∷ []))) c.sound.ensures
-
-passes : (c : goal.Else-not-check) → judgement c.before.before ≡ accepted
-passes c = check_passes (judgement c.before.before) _ (judges c.before.before) c.if-not-check.false
+passes : (c : goal.Else-not-check) → (judged (begin_call c.args.self (length c.args.buf.now) c.args.id).tests) ≡ accepted
+passes c = check_passes (judged (begin_call c.args.self (length c.args.buf.now) c.args.id).tests) _ (let judges : c.check_begin-check.result ≡ check_of (judged (begin_call c.args.self (length c.args.buf.now) c.args.id).tests) = c.check_begin-check.ensures ∙ ap (λ (sound : Bool). check_of (judged (unsound_writer sound ∷ deepest c.args.self.depth ∷ id_too_large c.args.id ∷ []))) c.sound.ensures in judges) c.if-not-check.false
 
 -- the state is sound, and not too deep
 knows : (c : goal.Else-not-check) → Sound c.args.self (length c.args.buf.now) × (c.args.self.depth < base.depth)
-knows c = let (c.args) = c.args in begin_knows c.args.self (length c.args.buf.now) c.args.id (passes c)
+knows c = begin_knows c.args.self (length c.args.buf.now) c.args.id (passes c)
 
 pub returns-then-not-check : goal.returns-then-not-check
-returns-then-not-check c = refuses _ _ _ _ _ _ (check_fails (judgement c.before.before.before) _ (judges c.before.before.before) c.if-not-check.true) c.refuse.ensures
+returns-then-not-check c = refuses _ _ _ _ _ _ (check_fails (judged (begin_call c.args.self (length c.args.buf.now) c.args.id).tests) _ (let judges : c.check_begin-check.result ≡ check_of (judged (begin_call c.args.self (length c.args.buf.now) c.args.id).tests) = c.check_begin-check.ensures ∙ ap (λ (sound : Bool). check_of (judged (unsound_writer sound ∷ deepest c.args.self.depth ∷ id_too_large c.args.id ∷ []))) c.sound.ensures in judges) c.if-not-check.true) c.refuse.ensures
 
 pub hold-requires : goal.hold-requires
 hold-requires c = (c.if-self.true, (knows c.before.before).1)

@@ -19,24 +19,12 @@ use Rattle.ostream.specs.Calls.{end_call, end_keep_call}
 use Rattle.layout.specs.Field.{end}
 use borrow.Author.Rules.{rules}
 use Rattle.ostream.proofs.OStream.end_slowly.Goals as goal
-use Rattle.ostream.proofs.OStream.end_slowly.Lts as lts
-use Rattle.ostream.proofs.OStream.end_slowly.Reads as reads
-use Rattle.ostream.proofs.OStream.end_slowly.Tie as tie
-
-abbrev judgement : lts.After-check_end tie.the-claims reads.Pre reads.Post → Judgement
-judgement c = judged (end_call c.args.self (length c.args.buf.now)).tests
-
-judges : (c : lts.After-check_end tie.the-claims reads.Pre reads.Post) → c.check_end-check.result ≡ check_of (judgement c)
-judges c = c.check_end-check.ensures ∙ ap (λ (sound : Bool). check_of (judged (unsound_writer sound ∷ outermost c.args.self.depth ∷ []))) c.sound.ensures
-
-passes : (c : lts.Else1 tie.the-claims reads.Pre reads.Post) → judgement c.before.before ≡ accepted
-passes c = check_passes (judgement c.before.before) _ (judges c.before.before) c.if-not-check.false
 
 pub returns-then-not-check : goal.returns-then-not-check
-returns-then-not-check c = refuses _ _ _ _ _ _ (check_fails (judgement c.before.before.before) _ (judges c.before.before.before) c.if-not-check.true) c.refuse.ensures
+returns-then-not-check c = refuses _ _ _ _ _ _ (check_fails (judged (end_call c.args.self (length c.args.buf.now)).tests) _ (let judges : c.check_end-check.result ≡ check_of (judged (end_call c.args.self (length c.args.buf.now)).tests) = c.check_end-check.ensures ∙ ap (λ (sound : Bool). check_of (judged (unsound_writer sound ∷ outermost c.args.self.depth ∷ []))) c.sound.ensures in judges) c.if-not-check.true) c.refuse.ensures
 
 pub close-requires : goal.close-requires
-close-requires c = end_knows c.args.self (length c.args.buf.now) (passes c.before.before.before)
+close-requires c = end_knows c.args.self (length c.args.buf.now) (let passes : (judged (end_call c.args.self (length c.args.buf.now)).tests) ≡ accepted = check_passes (judged (end_call c.args.self (length c.args.buf.now)).tests) _ (let judges : c.check_end-check.result ≡ check_of (judged (end_call c.args.self (length c.args.buf.now)).tests) = c.check_end-check.ensures ∙ ap (λ (sound : Bool). check_of (judged (unsound_writer sound ∷ outermost c.args.self.depth ∷ []))) c.sound.ensures in judges) c.if-not-check.false in passes)
 
 pub returns-then-self-eq0 : goal.returns-then-self-eq0
 returns-then-self-eq0 c =
@@ -47,13 +35,13 @@ returns-then-self-eq0 c =
 
 pub unhold-requires : goal.unhold-requires
 unhold-requires c =
-    let h = is_sound c.args.self (length c.args.buf.now) (end_knows c.args.self (length c.args.buf.now) (passes c.before.before)).0 in
+    let h = is_sound c.args.self (length c.args.buf.now) (end_knows c.args.self (length c.args.buf.now) (let passes : (judged (end_call c.args.self (length c.args.buf.now)).tests) ≡ accepted = check_passes (judged (end_call c.args.self (length c.args.buf.now)).tests) _ (let judges : c.check_end-check.result ≡ check_of (judged (end_call c.args.self (length c.args.buf.now)).tests) = c.check_end-check.ensures ∙ ap (λ (sound : Bool). check_of (judged (unsound_writer sound ∷ outermost c.args.self.depth ∷ []))) c.sound.ensures in judges) c.if-not-check.false in passes)).0 in
     (omega arith, h.few, h.nested)
 
 pub returns : goal.returns
 unfolding dropped
 returns c =
-    let v = passes c.before.before.before.before in
+    let v = (let passes : (judged (end_call c.args.self (length c.args.buf.now)).tests) ≡ accepted = check_passes (judged (end_call c.args.self (length c.args.buf.now)).tests) _ (let judges : c.check_end-check.result ≡ check_of (judged (end_call c.args.self (length c.args.buf.now)).tests) = c.check_end-check.ensures ∙ ap (λ (sound : Bool). check_of (judged (unsound_writer sound ∷ outermost c.args.self.depth ∷ []))) c.sound.ensures in judges) c.if-not-check.false in passes) in
     let h = is_sound c.args.self (length c.args.buf.now) (end_knows c.args.self (length c.args.buf.now) v).0 in
     let n = ne_eqb _ _ c.if-self-eq0.false in
     alters (end_call c.args.self (length c.args.buf.now)) _ _ _ _ (dropped c.args.self) (simp n) (simp n) v h.inside refl (c.alter.ensures ∙ ap (λ (x : OStream). unwritten c.args.self c.args.place x) c.unhold.ensures)

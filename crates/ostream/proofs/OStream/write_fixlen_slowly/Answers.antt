@@ -17,5 +17,5 @@ settle-requires c =
 pub returns : goal.returns
 unfolding held_bytes
 returns c =
-    by_slow_form (λ (c.rebuilt-s.result) n. raw_call (c.rebuilt-s.result) n c.args.id c.args.bytes.now c.args.subtype) c.args.self (c.rebuilt-s.result) c.args.buf.now c.args.buf.now c.args.place _ _ _ c.rebuilt-s.ensures refl refl
+    by_slow_form (λ s n. raw_call s n c.args.id c.args.bytes.now c.args.subtype) c.args.self (c.rebuilt-s.result) c.args.buf.now c.args.buf.now c.args.place _ _ _ c.rebuilt-s.ensures refl refl
     (goes (c.rebuilt-s.result) c.args.buf.now c.args.id (payload_too_long (length c.args.bytes.now) ∷ []) (fixlen_bytes c.args.id (subtype c.args.subtype) c.args.bytes.now) c.args.place _ _ c.fixlen_field-outcome.ensures _ _ refl refl refl c.settle.ensures)

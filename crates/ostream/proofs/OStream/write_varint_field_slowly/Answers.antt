@@ -17,5 +17,5 @@ settle-requires c =
 pub returns : goal.returns
 unfolding held_bytes
 returns c =
-    by_slow_form (λ (c.rebuilt-s.result) n. varint_call (c.rebuilt-s.result) n c.args.id c.args.wire c.args.value) c.args.self (c.rebuilt-s.result) c.args.buf.now c.args.buf.now c.args.place _ _ _ c.rebuilt-s.ensures refl refl
+    by_slow_form (λ s n. varint_call s n c.args.id c.args.wire c.args.value) c.args.self (c.rebuilt-s.result) c.args.buf.now c.args.buf.now c.args.place _ _ _ c.rebuilt-s.ensures refl refl
     (goes (c.rebuilt-s.result) c.args.buf.now c.args.id [] (shortest (c.args.id * 8 + c.args.wire) ++ shortest c.args.value) c.args.place _ _ c.varint_field-outcome.ensures _ _ refl refl refl c.settle.ensures)

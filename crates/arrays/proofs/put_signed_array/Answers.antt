@@ -20,7 +20,7 @@ put_zigzags-end-requires c = (stays_in _ _ _ _ _ c.requires.1 c.put_head-start.e
 pub returns-then-end-size : goal.returns-then-end-size
 unfolding field_bytes
 returns-then-end-size c =
-    stopped c.args.held c.args.places _ (λ c.before.before.before.before.before.before.before.before.before.before.before.before.before.before. shortest (zigzag (c.before.before.before.before.before.before.before.before.before.before.before.before.before.before))) c.args.items.now _ (ap (λ (h : ℕ). shortest h ++ (shortest (length c.args.items.now) ++ each (λ c.before.before.before.before.before.before.before.before.before.before.before.before.before.before. shortest (zigzag (c.before.before.before.before.before.before.before.before.before.before.before.before.before.before))) c.args.items.now)) c.tagged-header.ensures) c.args.pos c.args.buf.now c.args.place _ _ _ _ c.requires.1 c.put_head-start.ensures c.put_zigzags-end.ensures c.if-end-eq0.true (ltb-true _ _ c.if-end-size.true-raw)
+    stopped c.args.held c.args.places _ (λ z. shortest (zigzag z)) c.args.items.now _ (ap (λ (h : ℕ). shortest h ++ (shortest (length c.args.items.now) ++ each (λ z. shortest (zigzag z)) c.args.items.now)) c.tagged-header.ensures) c.args.pos c.args.buf.now c.args.place _ _ _ _ c.requires.1 c.put_head-start.ensures c.put_zigzags-end.ensures c.if-end-eq0.true (ltb-true _ _ c.if-end-size.true-raw)
 
 pub finish_counted-requires : goal.finish_counted-requires
 finish_counted-requires c =
@@ -29,4 +29,4 @@ finish_counted-requires c =
 pub returns : goal.returns
 unfolding field_bytes
 returns c =
-    counted-out c.args.held c.args.places _ (λ c.before.before.before.before.before.before.before.before.before.before.before.before.before.before.before. shortest (zigzag (c.before.before.before.before.before.before.before.before.before.before.before.before.before.before.before))) c.args.items.now _ (ap (λ (h : ℕ). shortest h ++ (shortest (length c.args.items.now) ++ each (λ c.before.before.before.before.before.before.before.before.before.before.before.before.before.before.before. shortest (zigzag (c.before.before.before.before.before.before.before.before.before.before.before.before.before.before.before))) c.args.items.now)) c.tagged-header.ensures) c.args.pos c.args.buf.now c.args.place _ _ _ _ c.requires.1 c.put_head-start.ensures c.put_zigzags-end.ensures _ _ _ _ _ c.requires.2 c.farthest-most.ensures c.zigzags_out-out.ensures refl c.finish_counted.ensures
+    counted-out c.args.held c.args.places _ (λ z. shortest (zigzag z)) c.args.items.now _ (ap (λ (h : ℕ). shortest h ++ (shortest (length c.args.items.now) ++ each (λ z. shortest (zigzag z)) c.args.items.now)) c.tagged-header.ensures) c.args.pos c.args.buf.now c.args.place _ _ _ _ c.requires.1 c.put_head-start.ensures c.put_zigzags-end.ensures _ _ _ _ _ c.requires.2 c.farthest-most.ensures c.zigzags_out-out.ensures refl c.finish_counted.ensures

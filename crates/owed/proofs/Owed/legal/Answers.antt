@@ -1,7 +1,6 @@
 -- `owed::Owed::legal`: the numbers that it has.
 use Rattle.owed.proofs.Laws.{legal_else}
 use borrow.Author.Rules.{rules}
-use borrow.Enum.Refused.{opened}
 use Rattle.owed.proofs.Owed.legal.Goals as goal
 
 pub returns-in-Unsigned : goal.returns-in-Unsigned
@@ -23,4 +22,4 @@ pub returns-in-Begin : goal.returns-in-Begin
 returns-in-Begin c = simp c.in-Begin.is
 
 pub returns-in_default : goal.returns-in_default
-returns-in_default c = legal_else c.args.self (opened c.in_default.in_default-own.keys7)
+returns-in_default c = legal_else c.args.self c.in_default.in_default-own.keys7

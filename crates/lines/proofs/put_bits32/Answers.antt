@@ -8,4 +8,4 @@ use Rattle.lines.proofs.put_bits32.Goals as goal
 
 pub returns : goal.returns
 returns c =
-    says _ _ _ _ _ _ (c.hex-k.ensures.1.1 ∙ hexadecimal_is 8 _ _ (lit≤ tt) c.hex-k.ensures.1.0 c.ranges.n.fits) c.put_rest.ensures
+    says _ _ _ _ _ _ (c.hex-k.ensures.digits ∙ hexadecimal_is 8 _ _ (lit≤ tt) c.hex-k.ensures.len c.ranges.n.fits) c.put_rest.ensures

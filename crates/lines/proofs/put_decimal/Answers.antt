@@ -7,4 +7,4 @@ use Rattle.lines.proofs.put_decimal.Goals as goal
 
 pub returns : goal.returns
 returns c =
-    says _ _ _ _ _ _ (c.decimal-k.ensures.1.1 ∙ decimal_is _ _ c.decimal-k.ensures.1.0 c.ranges.n.fits) c.put_rest.ensures
+    says _ _ _ _ _ _ (c.decimal-k.ensures.digits ∙ decimal_is _ _ c.decimal-k.ensures.len c.ranges.n.fits) c.put_rest.ensures

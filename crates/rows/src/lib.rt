@@ -1,5 +1,7 @@
 // The words of a script's row: the call that it names, what it sets on the desk, and whether a call left what it says. The README.md of the
 // crate `vectors` says what a row has.
+#![tactic(auto)]
+
 use check::same;
 use script::{after, end_of, unhex, word};
 use std::num::wrapping_add_u64;
@@ -34,10 +36,8 @@ fn digit(b: u8) -> u64 {
 
 fn number(text: &[u8]) -> u64 {
     let mut n: u64 = 0;
-    let mut i: usize = 0;
-    while i < text.len() {
-        n = wrapping_add_u64(wrapping_add_u64(n << 3, n << 1), digit(text[i]));
-        i += 1;
+    for &b in text {
+        n = wrapping_add_u64(wrapping_add_u64(n << 3, n << 1), digit(b));
     }
     n
 }

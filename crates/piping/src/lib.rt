@@ -62,7 +62,7 @@ fn verdict(s: Status) -> State {
     }
 }
 
-fn state(a: Answer) -> State {
+fn state_after(a: Answer) -> State {
     match a {
         Answer::Full => State::More,
         Answer::Status(s) => verdict(s),
@@ -137,7 +137,7 @@ fn step(rt: &impl Print, mut c: Copy, chunk: &[u8], out: &mut [u8]) -> Copy {
     c.copier = next;
     c.from = wrapping_add_usize(c.from, copied.used);
     c.bytes = wrapping_add_u64(c.bytes, copied.used as u64);
-    c.state = state(answer);
+    c.state = state_after(answer);
     if let State::More = c.state {
         c = drain(rt, c, out);
     }

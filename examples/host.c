@@ -83,7 +83,7 @@ static int without(const char *path, int64_t n)
     else if (n == -18)
         what = "a buffer of no bytes is refused";
     fprintf(stderr, "%s: %s\n", path, what);
-    return n == -2 || n == -100 ? 1 : 2;
+    return n == NO_MEMORY || n == -18 ? 2 : 1;
 }
 
 static int verdicts(char **paths, int count)

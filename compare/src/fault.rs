@@ -5,7 +5,7 @@ use crate::oracle::{Fields, COMPLETE, INCOMPLETE, REFUSED};
 #[derive(Clone, Copy)]
 pub struct Fault(pub usize);
 
-pub const FAULTS: [&str; 40] = [
+pub const FAULTS: [&str; 43] = [
     "none",
     "reader: the lowest signed value loses its sign",
     "reader: a NaN loses its payload",

@@ -98,7 +98,11 @@ fn expected(said: &Result<Vec<u8>, Verdict>, room: usize) -> (i64, Vec<u8>) {
 }
 
 /// The lengths of buffers that copies are drained through: one byte, a few, and more than most copies have.
-const BUFFERS: [NonZeroUsize; 4] = [1, 3, 16, 1 << 40].map(|n| NonZeroUsize::new(n).expect("not 0"));
+const BUFFERS: [NonZeroUsize; 4] = [bytes(1), bytes(3), bytes(16), bytes(1 << 40)];
+
+const fn bytes(n: usize) -> NonZeroUsize {
+    NonZeroUsize::new(n).expect("not 0")
+}
 
 /// How many parts of so many bytes a copy has.
 fn drained(copy: &[u8], size: NonZeroUsize) -> usize {

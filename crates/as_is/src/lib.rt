@@ -1,5 +1,7 @@
 // What stands in a chunk in its shortest form already, so that a copier sends it as it came: from a field boundary on whole fields, within
 // an array whole elements. How far it goes the contracts leave open: where it is less, the copier goes on event by event.
+#![tactic(auto)]
+
 ghost use Rattle.std.specs.Prelude.{◌≡◌, true, ◌*◌, ◌≤◌, ◌<◌};
 ghost use Rattle.layout.specs.Limits.{base};
 ghost use Rattle.layout.specs.Field.{bytes_of};

@@ -1,5 +1,7 @@
 // Whether a field can be written at once, no byte of it tested for by itself: nothing is held, and there is room for the longest that it can
 // be. And a close, which is one byte, and an open, which is held back.
+#![tactic(auto)]
+
 ghost use Rattle.std.specs.Prelude.{◌≡◌, [], ◌∷◌, ◌&&◌, ltb, length};
 ghost use Rattle.places.specs.Places.{clean};
 ghost use Rattle.at_ease.specs.AtOnce.{room_for, easy_at, easy_with, closes_at, holds_at, PutsIf};

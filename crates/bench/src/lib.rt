@@ -1,5 +1,7 @@
 // Loops over the reader's and the gatherer's calls, for the benchmark in compare/: the same work as the loops over the Rust there, and the
 // same digests.
+#![tactic(auto)]
+
 mod reading;
 
 // Reads the bytes in chunks of `size` bytes (0: whole), and answers a digest of the events.

@@ -1,5 +1,7 @@
 // The writer's calls for the benchmark in compare/, one after another through a buffer that is drained into `out` whenever it is full and at
 // the end: the same work as the loops over the Rust there. A message's calls are numbered, and each follows from its number.
+#![tactic(auto)]
+
 use ostream::{Answer, OStream, Written};
 use std::num::wrapping_add_usize;
 

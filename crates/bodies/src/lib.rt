@@ -1,5 +1,7 @@
 // From a place of a message past what follows a header there: a fixed-length field's word and bytes, an array's count and elements.
 // Payloads and float arrays are jumped over. What follows a word stands by itself, for callers that ask for the word too.
+#![tactic(auto)]
+
 ghost use Rattle.std.specs.Prelude.{ℕ, ◌≤◌, length, drop};
 ghost use Rattle.layout.specs.Limits.{base};
 ghost use Rattle.layout.specs.Field.{t_fixlen, t_unsigneds, t_floats};

@@ -1,4 +1,6 @@
 // A drain and a buffer change by the numbers of a writer's state: how many bytes are to be sent, and where writing goes on.
+#![tactic(auto)]
+
 ghost use Rattle.std.specs.Prelude.{◌≡◌};
 ghost use Rattle.buffers.specs.Moved.{drained_to, changed_to};
 

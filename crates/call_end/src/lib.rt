@@ -1,4 +1,6 @@
 // What a call answers and the state after it: where a byte leaves the call, and where it is refused.
+#![tactic(auto)]
+
 ghost use Rattle.std.specs.Prelude.{◌≡◌};
 ghost use Rattle.machine.specs.Calls.{verdict_so};
 ghost use Rattle.phase.specs.Phases.{state_at};

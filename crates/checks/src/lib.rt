@@ -1,4 +1,6 @@
 // What a call of the writer refuses, by numbers alone, and in which order. (Whether the state is sound is told.)
+#![tactic(auto)]
+
 ghost use Rattle.std.specs.Prelude.{◌≡◌, true, false};
 ghost use Rattle.types.specs.Types.{subtype};
 ghost use Rattle.refusals.specs.Judged.{accepted, refused_with, judged};

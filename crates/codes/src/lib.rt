@@ -1,4 +1,6 @@
 // The numbers that C is answered for a verdict on a message given whole, for the length of its plain copy, and for the drains that this costs.
+#![tactic(auto)]
+
 ghost use Rattle.std.specs.Prelude.{◌≡◌, ℕ, ◌<◌};
 ghost use Rattle.layout.specs.Message as layout;
 ghost use Rattle.whole.specs.Whole.{verdict_in};

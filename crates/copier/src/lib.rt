@@ -1,5 +1,7 @@
 // The copier: each event of a message is written out again into a lent buffer, so that what is drained from it is the message's plain
 // copy. Reader and writer by value, the event still owed and the place reached in it.
+#![tactic(auto)]
+
 ghost use Rattle.std.specs.Prelude.{◌≡◌, length};
 ghost use Rattle.layout.specs.Limits.{base};
 ghost use Rattle.copying.specs.Copy.{copy};

@@ -1,5 +1,7 @@
 // What a copier's feed refuses, and in which order, by the copier's parts: its reader, its writer, the event still owed and the place
 // reached in it, over a buffer of some size.
+#![tactic(auto)]
+
 ghost use Rattle.std.specs.Prelude.{◌≡◌, ◌+◌, ◌<◌};
 ghost use Rattle.copying.specs.Owed.{owes_nothing};
 ghost use Rattle.copying.specs.Refusals.{is_broke};

@@ -1,5 +1,7 @@
 // How long the plain copy of a message given whole is, found field by field, and no byte of it written. The way through the message is that
 // of `whole`, which finds the verdict; the length is counted on the way.
+#![tactic(auto)]
+
 ghost use Rattle.std.specs.Prelude.{◌≡◌, ◌+◌, ◌≤◌, ◌/◌, ◌%◌, length, drop};
 ghost use Rattle.layout.specs.Limits.{base};
 ghost use Rattle.layout.specs.Varint.{shortest};

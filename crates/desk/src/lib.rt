@@ -1,6 +1,8 @@
 // What the calls of the comparison and of scripts share: the desk, words on which a call finds its state and numbers and leaves its answer
 // (compare/PROTOCOL.md), and the numbers of other widths that a word holds. Beyond the desk's end is zero, and nothing is written.
 
+#![tactic(auto)]
+
 pub mod elements;
 
 pub fn word(desk: &[u64], i: usize) -> u64 {

@@ -1,4 +1,6 @@
 // How many drains the copy of a message given whole costs over a buffer of so many bytes, next to how long that copy is.
+#![tactic(auto)]
+
 ghost use Rattle.std.specs.Prelude.{◌≡◌};
 ghost use Rattle.drain_count.specs.DrainCount.{drains_of};
 

@@ -1,4 +1,6 @@
 // How many drains so many bytes cost over one buffer, drained when "full" is answered and once at the end where bytes are left.
+#![tactic(auto)]
+
 ghost use Rattle.std.specs.Prelude.{◌≡◌, ◌≤◌};
 ghost use Rattle.drains.specs.Drains.{rounded_up};
 

@@ -1,5 +1,7 @@
 // The elements of an array of integers, in bulk: all at once where there is room for them, else from the first byte on that is not out until the buffer is
 // full. Those that are out already are only counted, and those beyond the buffer's end not looked at.
+#![tactic(auto)]
+
 ghost use Rattle.std.specs.Prelude.{◌≡◌, ◌+◌, ◌-◌, ◌*◌, ◌≤◌, ◌<◌, ltb, length, drop};
 ghost use Rattle.layout.specs.Varint.{shortest};
 ghost use Rattle.layout.specs.Field.{each};

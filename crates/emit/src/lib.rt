@@ -1,6 +1,8 @@
 // Emission: the bytes of one call's output, segment by segment, straight into the lent buffer as far as there is room.
 // A call that goes on from a place skips the bytes that are out already. Every write stops at the buffer's end, so a call may emit
 // all its segments with no test between them; how much went follows from the lengths.
+#![tactic(auto)]
+
 ghost use Rattle.std.specs.Prelude.{◌≡◌, ◌+◌, ◌-◌, ◌≤◌, ◌<◌, min, length, drop};
 ghost use Rattle.layout.specs.Limits.{base, longest};
 ghost use Rattle.layout.specs.Varint.{shortest};

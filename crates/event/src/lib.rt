@@ -1,5 +1,7 @@
 // The reader's events: one value that carries its number, float or piece bounds. The Rust hands each to a callback of its `Visitor`.
 // A float that is a NaN has no bits in the logic, so NaN patterns have cases of their own, which carry the bits.
+#![tactic(auto)]
+
 ghost use Rattle.std.specs.Prelude.{◌≡◌, ◌^◌, ◌<◌};
 ghost use Rattle.std.specs.Float.{binary32, binary64};
 ghost use Rattle.std.specs.Float.Ieee.{to_bits};

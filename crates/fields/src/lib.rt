@@ -1,4 +1,6 @@
 // A field of one varint or of fixed length, and the markers of a sequence, from any place on and behind the headers that are held back.
+#![tactic(auto)]
+
 ghost use Rattle.std.specs.Prelude.{◌≡◌, ◌++◌, ◌≤◌, length};
 ghost use Rattle.layout.specs.Varint.{shortest};
 ghost use Rattle.layout.specs.Field.{low_bytes, end};

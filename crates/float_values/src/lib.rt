@@ -1,5 +1,7 @@
 // The elements of an array of floats by value, in bulk: all at once where there is room for them, else from the first byte on that is not
 // out until the buffer is full.
+#![tactic(auto)]
+
 ghost use Rattle.std.specs.Prelude.{◌+◌, ◌*◌, ◌≤◌, length};
 ghost use Rattle.std.specs.Float.{binary32, binary64};
 ghost use Rattle.std.specs.Float.Ieee.{to_bits};

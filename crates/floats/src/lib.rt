@@ -1,5 +1,7 @@
 // The elements of an array of floats by their bits, in bulk: all at once where there is room for them, else from the first byte on that is
 // not out until the buffer is full.
+#![tactic(auto)]
+
 ghost use Rattle.std.specs.Prelude.{◌+◌, ◌*◌, ◌≤◌, length};
 ghost use Rattle.layout.specs.Field.{low_bytes, each};
 ghost use Rattle.putting.specs.Put.{Puts};

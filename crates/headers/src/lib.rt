@@ -1,4 +1,6 @@
 // Where a header is whole: the event that is raised there, if any, and the phase and the depth after it.
+#![tactic(auto)]
+
 ghost use Rattle.std.specs.Prelude.{◌≡◌};
 ghost use Rattle.layout.specs.Limits.{base};
 ghost use Rattle.layout.specs.Field.{wire_of, t_begin, t_end};

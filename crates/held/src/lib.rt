@@ -1,4 +1,6 @@
 // The sequences that a writer holds back: their headers, which go out before content.
+#![tactic(auto)]
+
 ghost use Rattle.std.specs.Prelude.{◌≡◌, ◌+◌, ◌-◌, ◌*◌, ◌≤◌, leb, length};
 ghost use Rattle.emit.specs.Cursor.{Emitted};
 ghost use Rattle.places.specs.Places.{lazy_depth};

@@ -1,5 +1,7 @@
 // What a C host calls: the verdict on a message given whole, as a number, its plain copy, how long that is, and how many drains it costs.
 // `include/sofab.h` declares them for C.
+#![tactic(auto)]
+
 ghost use Rattle.std.specs.Prelude.{◌≡◌, length};
 ghost use Rattle.layout.specs.Limits.{base};
 ghost use Rattle.layout.specs.Message.{complete, verdict_of};

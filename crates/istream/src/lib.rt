@@ -2,6 +2,8 @@
 // A call reads on to the next event and stops there, or gives the verdict once the chunk is spent. No byte is copied or held: a piece of
 // a payload is its bounds in the chunk.
 // The state and the calls that users make are here; what stands whole in the chunk is read by `read_at_once`, the rest by `read_slowly`.
+#![tactic(auto)]
+
 ghost use Rattle.std.specs.Prelude.{◌≡◌};
 ghost use Rattle.layout.specs.Limits.{base};
 ghost use Rattle.machine.specs.Calls.{fresh};

@@ -1,4 +1,6 @@
 // The event list's last line: the verdict, put as text into a lent buffer as far as there is room.
+#![tactic(auto)]
+
 ghost use Rattle.event_list.specs.Lines.{last_line};
 ghost use Rattle.putting.specs.Put.{Puts};
 ghost use Rattle.last_line.specs.Verdict.{verdict_in};

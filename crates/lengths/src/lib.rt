@@ -1,6 +1,8 @@
 // From a place of a message past one thing there, as in `passing` and `bodies`, with the length of the plain copy: it goes in up to that
 // place and comes out up to the next. Each varint counts as many bytes as its value needs, all else as many as it has.
 // The length is never more than the place, and so cannot overflow.
+#![tactic(auto)]
+
 ghost use Rattle.std.specs.Prelude.{◌≡◌, ◌≤◌, length, drop};
 ghost use Rattle.layout.specs.Limits.{base};
 ghost use Rattle.layout.specs.Varint.{varint};

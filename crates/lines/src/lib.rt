@@ -1,4 +1,6 @@
 // The lines of the event list: what an event says, put as text into a lent buffer as far as there is room.
+#![tactic(auto)]
+
 ghost use Rattle.std.proofs.Math.Seq.{slice};
 ghost use Rattle.layout.specs.Field.{each};
 ghost use Rattle.event.specs.Event.{event_of};

@@ -1,5 +1,7 @@
 // The event list of a message, chunk by chunk: the reader's calls on a chunk, the lines of each event put into a lent buffer, and the
 // verdict once the chunk is spent. The caller empties the buffer in between; nothing of the message is held but the reader's state.
+#![tactic(auto)]
+
 ghost use Rattle.std.specs.Prelude.{◌≡◌, ◌+◌, ◌*◌, leb, length};
 
 use istream::{Answer, IStream, Status};

@@ -1,4 +1,6 @@
 // The low bytes of a number, low byte first, into a lent buffer as far as there is room: what a float is written as.
+#![tactic(auto)]
+
 ghost use Rattle.std.specs.Prelude.{◌+◌, ◌≤◌, ◌<◌, length, drop};
 ghost use Rattle.layout.specs.Field.{low_bytes};
 ghost use Rattle.putting.specs.Put.{Puts};

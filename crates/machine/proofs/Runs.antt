@@ -199,15 +199,18 @@ chunked L bs es n (reading d p) c (clear f m) =
 chunked L bs es n broke c (gone v e) =
     let m : suc (2 * length c + 1) ≡ 2 * length c + 2 = omega arith in
     subst (λ (m : ℕ). Chunked L bs es n c (calls L m broke c)) m (broken_chunk L bs es n c v e (2 * length c + 1))
+chunked L bs es n (owing d id r) c x' = elim x' [ ]
 
 stands_events : (L : Limits) (bs : List ℕ) (es : List Event) (n : ℕ) (s : State) → Stands L bs es n s → bytewise es ≡ events_of L bs
 stands_events L bs es n (reading d p) (clear f m) = sym (events-walk L bs ∙ f.events ∙ append-nil (bytewise es))
 stands_events L bs es n broke (gone v e) = sym e
+stands_events L bs es n (owing d id r) x' = elim x' [ ]
 
 stands_standing : (L : Limits) (bs : List ℕ) (es : List Event) (n : ℕ) (s : State) → Stands L bs es n s → standing s ≡ standing_of (verdict_of L bs)
 unfolding standing
 stands_standing L bs es n (reading d p) (clear f m) = ap standing_of (sym (verdict_at_lem L bs d p f.spot))
 stands_standing L bs es n broke (gone v e) = ap standing_of (sym v)
+stands_standing L bs es n (owing d id r) x' = elim x' [ ]
 
 -- of a message that is not broken, all
 all_read : (v : Verdict) (n : ℕ) → heard_of v ≡ status v → read_of n v ≡ n
@@ -218,6 +221,7 @@ all_read (broken_at k) n e = let z : ◌≡◌ {A = ℕ} 0 1 = cc in absurd (ome
 stands_read : (L : Limits) (bs : List ℕ) (es : List Event) (n : ℕ) (s : State) → Stands L bs es n s → n ≡ read_of (length bs) (verdict_of L bs)
 stands_read L bs es n (reading d p) (clear f m) = m ∙ sym (ap (read_of (length bs)) (verdict_at_lem L bs d p f.spot) ∙ all_read (verdict_at d p) (length bs) (plain_at d p).0)
 stands_read L bs es n broke (gone v e) = ap (read_of (length bs)) (sym v)
+stands_read L bs es n (owing d id r) x' = elim x' [ ]
 
 -- For every list of chunks: the events given, bytewise, are the layout's for the bytes handed, and so is the verdict after each chunk.
 reads_from : (L : Limits) (bs : List ℕ) (es : List Event) (n : ℕ) (s : State) (cs : List (List ℕ)) → Stands L bs es n s

@@ -2,6 +2,8 @@
 // one back. A call that meets the buffer's end answers "full" with how many of its bytes are out, and goes on from that place when it
 // is made again.
 // The state, opening and drains are here, the writing calls in `scalar`, `fixlen`, `array` and `sequence`.
+#![tactic(auto)]
+
 mod array;
 mod fixlen;
 mod scalar;

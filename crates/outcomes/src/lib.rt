@@ -1,4 +1,6 @@
 // How far a call's output goes, by numbers alone: all of it out, up to the buffer's end, or refused for the place to go on from.
+#![tactic(auto)]
+
 ghost use Rattle.std.specs.Prelude.{◌≡◌, ◌≤◌, min};
 ghost use Rattle.outcomes.specs.Outcome.{reaches};
 

@@ -1,4 +1,6 @@
 // The bytes that an event is written as, by the numbers of their varints or floats: how many they are, and into a buffer.
+#![tactic(auto)]
+
 ghost use Rattle.std.specs.Prelude.{◌≡◌, ◌+◌, ◌≤◌, length, drop};
 ghost use Rattle.putting.specs.Put.{put, reached, Puts};
 ghost use Rattle.output.specs.Output.{output_bytes, output_most};

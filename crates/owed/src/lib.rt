@@ -1,4 +1,6 @@
 // The event that a copier has read and not yet written whole: the output that it is written as, and which may be owed.
+#![tactic(auto)]
+
 ghost use Rattle.std.specs.Prelude.{◌≡◌, ◌&&◌, leb, ◌+◌, ◌*◌};
 ghost use Rattle.layout.specs.Limits.{base};
 ghost use Rattle.copying.specs.Owed.{agrees};

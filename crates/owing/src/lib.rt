@@ -1,4 +1,6 @@
 // What a copier owes of an event that it has read.
+#![tactic(auto)]
+
 ghost use Rattle.std.specs.Prelude.{◌≡◌, []};
 ghost use Rattle.event.specs.Event.{event_of};
 ghost use Rattle.owed.specs.Owed.{owe};

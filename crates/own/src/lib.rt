@@ -2,6 +2,8 @@
 // its value allows, each close 07. Such bytes are their own plain copy. Payloads and float arrays are jumped over.
 // The contracts say what holds of the bytes up to the place that was reached, and not that it is the last such place: a shorter run
 // would be slower and no less right. The private functions answer 0 for what is not so, or not whole.
+#![tactic(auto)]
+
 ghost use Rattle.std.specs.Prelude.{◌≡◌, ℕ, ◌+◌, ◌/◌, ◌≤◌, ◌<◌, ◌++◌, length, take};
 ghost use Rattle.layout.specs.Limits.{base};
 ghost use Rattle.layout.specs.Varint.{shortest};

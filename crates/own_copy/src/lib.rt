@@ -1,4 +1,6 @@
 // Whether a message given whole is its own plain copy, found in one pass.
+#![tactic(auto)]
+
 ghost use Rattle.std.specs.Prelude.{◌≡◌, true};
 ghost use Rattle.layout.specs.Limits.{base};
 ghost use Rattle.layout.specs.Message.{complete, verdict_of};

@@ -1,5 +1,7 @@
 // From a place of a message past one thing there: a varint, a header, a count, n varints, n bytes. The layout's reader says what that
 // is (`crates/layout/specs/Message`), and `specs/Passing` which of its outcomes an answer stands for.
+#![tactic(auto)]
+
 ghost use Rattle.std.specs.Prelude.{◌≡◌, ◌≤◌, length, drop};
 ghost use Rattle.layout.specs.Limits.{base};
 ghost use Rattle.layout.specs.Varint.{varint};

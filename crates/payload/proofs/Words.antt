@@ -1,23 +1,55 @@
 -- 01's words and numbers determine the answer: two answers of which 01 says the same are the same (`said_determines`).
+use Prim.Native.Nat.{ℕ}
 use mathlib.Core.Path.{◌≡◌, refl, sym, ap, ◌∙◌}
-use Rattle.types.specs.Types.{refusal}
-use Rattle.types.proofs.Numbers.{refusal-number}
+use mathlib.Core.Bool.{cond}
+use lib.Dec.{eqb}
+use Rattle.types.specs.Types.{number_of}
+use Rattle.types.specs.declared.Error.{Error}
+use Rattle.types.specs.declared.Error.TheVariants as Err
 use Rattle.payload.specs.declared.Answer.{Answer}
 use Rattle.payload.specs.declared.Answer.TheVariants.{Nothing, InChunk, InBuffer, Refused}
 use Rattle.gathering.specs.Gather.{Said, nothing, in_chunk, in_buffer, number}
 use Rattle.payload.specs.Words.{said_of}
 
+abbrev numbered : ℕ → Error
+numbered n =
+    cond (eqb n 1) Err.UnsoundReader
+    (cond (eqb n 2) Err.InvalidMsg
+    (cond (eqb n 3) Err.UnsoundGatherer
+    (cond (eqb n 4) Err.PayloadTooLong
+    (cond (eqb n 5) Err.BadBuffer
+    (cond (eqb n 6) Err.UnsoundWriter
+    (cond (eqb n 7) Err.StringSubtype
+    (cond (eqb n 8) Err.Nesting
+    (cond (eqb n 9) Err.IdTooLarge
+    (cond (eqb n 10) Err.TooLong
+    (cond (eqb n 18) Err.NoBuffer Err.PlaceBeyond))))))))))
+
+numbered_again : (e : Error) → numbered (number_of e) ≡ e
+numbered_again Err.UnsoundReader = refl
+numbered_again Err.InvalidMsg = refl
+numbered_again Err.UnsoundGatherer = refl
+numbered_again Err.PayloadTooLong = refl
+numbered_again Err.BadBuffer = refl
+numbered_again Err.UnsoundWriter = refl
+numbered_again Err.StringSubtype = refl
+numbered_again Err.Nesting = refl
+numbered_again Err.IdTooLarge = refl
+numbered_again Err.TooLong = refl
+numbered_again Err.PlaceBeyond = refl
+numbered_again Err.NoBuffer = refl
+
 abbrev answered : Said → Answer
 answered nothing = Nothing
 answered (in_chunk n) = InChunk n
 answered (in_buffer n) = InBuffer n
-answered (number k) = Refused (refusal k)
+answered (number k) = Refused (numbered k)
 
 answered_again : (w : Answer) → answered (said_of w) ≡ w
 answered_again Nothing = refl
 answered_again (InChunk n) = refl
 answered_again (InBuffer n) = refl
-answered_again (Refused e) = ap Refused (refusal-number e)
+answered_again (Refused e) = ap Refused (numbered_again e)
 
 pub said_determines : (v w : Answer) → said_of v ≡ said_of w → v ≡ w
 said_determines v w e = sym (answered_again v) ∙ ap answered e ∙ answered_again w

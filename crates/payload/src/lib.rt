@@ -1,5 +1,7 @@
 // Reassembly of a string or blob that arrives in pieces: the Rust's payload.rs, over a buffer that each call is lent.
 // `feed` takes a piece and says whether the payload is whole; `payload` then returns it, as a part of the chunk or of the buffer.
+#![tactic(auto)]
+
 ghost use Rattle.std.specs.Prelude.{◌≡◌, false, ◌+◌, ◌≤◌, length};
 ghost use Rattle.std.proofs.Math.Seq.{paste};
 ghost use Rattle.gathering.specs.Gather.{fresh, begun, owed, holds_whole, accepted, copied, gathered, first_of, part_of};

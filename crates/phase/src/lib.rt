@@ -1,5 +1,7 @@
 // What is under way in a message, the Rust's `State` with the numbers that each case has in force: the phases, which of them can be, what
 // an array's elements leave, and what a byte comes to.
+#![tactic(auto)]
+
 ghost use Rattle.std.specs.Prelude.{◌≡◌, ◌&&◌, ◌-◌};
 ghost use Rattle.layout.specs.Limits.{base};
 ghost use Rattle.machine.specs.Machine.{in_unsigned, in_signed, in_float, first_or, idle};

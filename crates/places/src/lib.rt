@@ -1,4 +1,6 @@
 // The eight places of the ids of held sequences, and whether a writer's state is sound, by the numbers that make it up.
+#![tactic(auto)]
+
 ghost use Rattle.std.specs.Prelude.{◌≡◌, ◌-◌, ◌≤◌, ◌<◌, leb, eqb, take, drop, set};
 ghost use Rattle.layout.specs.Limits.{base};
 ghost use Rattle.places.specs.Places.{lazy_depth, every, zeroed, sound_for};

@@ -1,4 +1,6 @@
 // What stands whole in the chunk, read at once: a varint, an element, a field or the part of it up to its first event.
+#![tactic(auto)]
+
 ghost use Rattle.std.specs.Prelude.{◌≡◌, ◌≤◌};
 ghost use Rattle.layout.specs.Limits.{base};
 ghost use Rattle.layout.specs.Field.{wire_of};

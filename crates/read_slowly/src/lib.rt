@@ -1,5 +1,7 @@
 // A call from any state, by its phase and what is carried along: what it refuses, and else a payload's bytes in one piece, an empty payload's
 // piece that is due, or bytes one by one.
+#![tactic(auto)]
+
 ghost use Rattle.std.specs.Prelude.{◌≡◌, ◌<◌};
 ghost use Rattle.layout.specs.Limits.{base};
 ghost use Rattle.machine.specs.Machine.{in_payload};

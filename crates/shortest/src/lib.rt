@@ -1,4 +1,6 @@
 // One thing recognised in its shortest form: a varint whose value is not asked for, a float's length, a close's header.
+#![tactic(auto)]
+
 ghost use Rattle.std.specs.Prelude.{◌≡◌, ◌+◌, ◌*◌, eqb};
 ghost use Rattle.layout.specs.Field.{bytes_of, fp32, fp64, wire_number, t_end};
 ghost use Rattle.shortest.specs.Own.{Number, Ends};

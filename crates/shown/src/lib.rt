@@ -1,4 +1,6 @@
 // What is shown of an event: its line taken apart, or the bounds of its piece, whose bytes have a line each.
+#![tactic(auto)]
+
 ghost use Rattle.std.specs.Prelude.{◌≡◌, ◌∷◌};
 ghost use Rattle.event_list.specs.Lines.{signed};
 ghost use Rattle.shown.specs.Spelled.{part_text, lined, closed, Shows};

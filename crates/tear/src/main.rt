@@ -9,6 +9,7 @@ mod torn;
 use back::Sum;
 use draw::say;
 use std::io::{self, Read};
+use std::rt::Env;
 use streams::{read_full, unread, unwritten};
 
 const NAME: &str = "tear";
@@ -136,15 +137,34 @@ fn tear(rt: &HostRuntime, n: u64, ticket: &[u8]) -> io::Result<()> {
     }
 }
 
-fn runs_asked(rt: &HostRuntime) -> u64 {
-    if argument::given(rt, 1) {
-        argument::number_at(rt, 1)
-    } else {
-        RUNS
+fn digit(b: u8) -> u64 {
+    if b < b'0' {
+        return 0;
+    }
+    (b - b'0') as u64
+}
+
+// A number in decimal, of nine digits at most.
+fn number(word: &[u8]) -> u64 {
+    let mut n: u64 = 0;
+    for &b in word {
+        if 100000000 <= n {
+            break;
+        }
+        n = std::num::wrapping_add_u64(n * 10, digit(b));
+    }
+    n
+}
+
+fn runs_asked(rt: &impl Env) -> u64 {
+    let mut word = [0u8; 4096];
+    match rt.arg(1, &mut word) {
+        Ok(n) if 0 < n => number(&word[..n]),
+        _ => RUNS,
     }
 }
 
-// The message's bytes, and whether there are more of them than are held; nothing where a read fails.
+// How many bytes the message has, and whether there are more than are held.
 fn held(input: &mut impl Read, ticket: &mut [u8]) -> io::Result<(usize, bool)> {
     let n = read_full(input, ticket)?;
     let mut spare = [0u8; 1];

@@ -1,4 +1,6 @@
 // The calls of a script that write an array, its elements given by their bytes.
+#![tactic(auto)]
+
 ghost use Rattle.std.specs.Prelude.{◌≤◌};
 
 use desk::elements::{shorts, signeds, unsigneds};

@@ -1,5 +1,7 @@
 // The writer by calls on a desk of words, as compare/PROTOCOL.md has it: for the comparison with the Rust, and for scripts. An array's
 // elements have an export for each type, every other call goes by its number.
+#![tactic(auto)]
+
 pub mod writer;
 
 use writer::{asked, leave, told};

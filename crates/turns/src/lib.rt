@@ -1,5 +1,7 @@
 // The copier's loop, nothing being owed when it starts: turn by turn an event is written out again, a payload's bytes go out, or what stands in
 // its shortest form already goes as it came, until the buffer is full, the chunk is spent or the message is broken.
+#![tactic(auto)]
+
 ghost use Rattle.std.specs.Prelude.{◌≡◌, true, ◌+◌, ◌<◌, ◌≤◌, length};
 ghost use Rattle.layout.specs.Limits.{base};
 ghost use Rattle.copying.specs.Owed.{due_in};

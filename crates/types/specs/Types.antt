@@ -82,8 +82,8 @@ number_of Err.TooLong = 10
 number_of Err.PlaceBeyond = 11
 number_of Err.NoBuffer = 18
 
--- And back: the refusal with a number, by which the promises of all calls name their refusals. 01 has 1 to 11 and no others, and
--- of 02's only 18 is given so far. Any other number leads where 0 does.
+-- And back: the refusal with a number, by which the promises of all calls name their refusals. 01 gives no other numbers than 1 to 11, and of
+-- 02's only 18 is given so far.
 abbrev pub refusal : ℕ → Error
 refusal zero = Err.UnsoundReader
 refusal (suc zero) = Err.UnsoundReader
@@ -97,4 +97,4 @@ refusal (suc (suc (suc (suc (suc (suc (suc (suc zero)))))))) = Err.Nesting
 refusal (suc (suc (suc (suc (suc (suc (suc (suc (suc zero))))))))) = Err.IdTooLarge
 refusal (suc (suc (suc (suc (suc (suc (suc (suc (suc (suc zero)))))))))) = Err.TooLong
 refusal (suc (suc (suc (suc (suc (suc (suc (suc (suc (suc (suc zero))))))))))) = Err.PlaceBeyond
-refusal (suc (suc (suc (suc (suc (suc (suc (suc (suc (suc (suc (suc n)))))))))))) = cond (eqb n 6) Err.NoBuffer Err.UnsoundReader
+refusal (suc (suc (suc (suc (suc (suc (suc (suc (suc (suc (suc (suc n)))))))))))) = cond (eqb n 6) Err.NoBuffer Err.PlaceBeyond

@@ -1,4 +1,6 @@
 // Shared types and wire constants: the Rust's types.rs, the configuration of its lib.rs, and the refusals by their numbers.
+#![tactic(auto)]
+
 ghost use Rattle.std.specs.Prelude.{◌≡◌};
 ghost use Rattle.layout.specs.Field.{bytes_of, floats};
 ghost use Rattle.types.specs.Types.{fixlen_raw, kind_raw, number_of, width, float_fixlen, raw_fixlen_type, array_kind};

@@ -1,5 +1,7 @@
 // Base-128 varints and zigzag: the Rust's varint.rs, with the step of the decoder (`Core::push` and `payload_at` of its istream.rs).
 // The step takes its state by value, so a varint may be cut anywhere between two bytes.
+#![tactic(auto)]
+
 ghost use Rattle.std.specs.Prelude.{◌≡◌, ◌+◌, ◌*◌, ◌%◌, ◌<◌, ◌≤◌, length};
 ghost use Rattle.std.specs.Int.{w64};
 ghost use Rattle.std.proofs.Common.{of_z};

@@ -1,4 +1,6 @@
 // A varint into a lent buffer, byte by byte as far as there is room.
+#![tactic(auto)]
+
 ghost use Rattle.layout.specs.Varint.{shortest};
 ghost use Rattle.putting.specs.Put.{Puts};
 

@@ -1,6 +1,8 @@
 // The verdict on a message given whole, found field by field: no events, and payloads and float arrays are jumped over.
 // The private functions go from a place of the message to the place after the field there, as those of `passing` and `bodies` do past
 // its parts.
+#![tactic(auto)]
+
 ghost use Rattle.std.specs.Prelude.{◌≡◌, ℕ, ◌+◌, ◌≤◌, length, drop};
 ghost use Rattle.layout.specs.Limits.{base};
 ghost use Rattle.layout.specs.Field.{wire_of};

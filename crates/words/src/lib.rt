@@ -1,4 +1,6 @@
 // Where a word is whole, that of a fixed-length field or of a float array: the event that is raised there, and the phase after it.
+#![tactic(auto)]
+
 ghost use Rattle.std.specs.Prelude.{◌≡◌};
 ghost use Rattle.layout.specs.Limits.{base};
 ghost use Rattle.layout.specs.Field.{subtype_of, known, float, raw};

@@ -1,4 +1,6 @@
 // Fields written at once, where `at_ease` has nothing against it.
+#![tactic(auto)]
+
 ghost use Rattle.std.specs.Prelude.{[], ◌∷◌, ◌++◌, ◌+◌, ◌*◌, ◌≤◌, ◌&&◌, ltb, length};
 ghost use Rattle.layout.specs.Varint.{shortest};
 ghost use Rattle.layout.specs.Zigzag.{zigzag};

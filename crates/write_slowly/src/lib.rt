@@ -1,5 +1,7 @@
 // A field or an array from any state and any place on, by the state's numbers: what it refuses, in order, and else its bytes behind the
 // headers that are held back.
+#![tactic(auto)]
+
 ghost use Rattle.std.specs.Prelude.{◌≡◌, [], ◌∷◌, map, ◌++◌, ◌+◌, ◌*◌, length};
 ghost use Rattle.std.specs.Float.{binary32, binary64};
 ghost use Rattle.std.specs.Float.Ieee.{to_bits};

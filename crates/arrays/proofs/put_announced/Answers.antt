@@ -1,0 +1,11 @@
+-- `arrays::put_announced`: the head, and the word after it.
+use Prim.Native.Nat.{ℕ}
+use mathlib.Core.Path.{ap}
+use Rattle.emit.proofs.Segments.{respelled, joined}
+use Rattle.held.specs.Headers.{head_of}
+use borrow.Author.Rules.{rules}
+use Rattle.arrays.proofs.put_announced.Goals as goal
+
+pub returns : goal.returns
+returns c =
+    joined _ _ _ _ _ _ _ _ c.requires.1 (respelled _ _ _ _ _ _ (ap (λ (h : ℕ). head_of c.args.held c.args.places h c.args.count) c.tagged.ensures) c.put_head-head.ensures) c.put_varint.ensures

@@ -1,0 +1,19 @@
+-- `copier_refusals::is_rested`: the tests one after another.
+use Prim.Native.Nat.{ℕ, ◌+◌}
+use mathlib.Core.Path.{◌≡◌, ap, ◌∙◌}
+use lib.ListN.{length, get_or}
+use Rattle.copier_refusals.proofs.Rested.{beyond_buffer, too_deep_lem, all_rested}
+use borrow.Author.Rules.{rules}
+use Rattle.copier_refusals.proofs.is_rested.Goals as goal
+
+pub returns-then-size-offset : goal.returns-then-size-offset
+returns-then-size-offset c = beyond_buffer c.args.offset c.args.depth c.args.places c.args.size c.if-size-offset.true
+
+pub returns-then-depth-gt-MAX_DEPTH : goal.returns-then-depth-gt-MAX_DEPTH
+returns-then-depth-gt-MAX_DEPTH c = too_deep_lem c.args.offset c.args.depth c.args.places c.args.size c.if-size-offset.false c.if-depth-gt-MAX_DEPTH.true
+
+pub returns : goal.returns
+returns c =
+    let l : length c.args.places ≡ 8 = search rules in
+    all_rested c.args.offset c.args.depth c.args.places c.args.size (c.sum-first.result + c.sum-last.result) l c.if-size-offset.false c.if-depth-gt-MAX_DEPTH.false
+    (ap (λ (x : ℕ). x + c.sum-last.result) c.sum-first.ensures.0 ∙ ap (λ (x : ℕ). get_or c.args.places 0 0 + get_or c.args.places 1 0 + get_or c.args.places 2 0 + get_or c.args.places 3 0 + x) c.sum-last.ensures.0)

@@ -1,0 +1,17 @@
+-- `elements::put_fittings`: at each turn, the elements from the i-th on are left to write, and there is room for each.
+use Prim.Native.Nat.{ℕ, ◌+◌, ◌-◌, ◌≤◌}
+use mathlib.Core.Path.{◌≡◌, refl, subst}
+use native.Mathlib.Omega.{arith}
+use borrow.Author.Rules.{rules}
+use lib.ListN.{length, get_or}
+use Rattle.layout.specs.Limits.{base, longest}
+use Rattle.layout.specs.Varint.{shortest}
+use Rattle.varint.proofs.Shortest.{length-longest}
+use Rattle.elements.proofs.Room.{Roomy, roomy_start, roomy_here, roomy_next, roomy_end, roomy_fits}
+use Rattle.elements.proofs.put_fittings.Given as goal
+
+abbrev pub invariant-loop-i : goal.invariant-loop-i
+invariant-loop-i l = Roomy shortest (longest base) l.items l.initial.buf l.pos l.buf l.at l.i × (l.i ≤ length l.items)
+
+abbrev pub decreases-loop-i : goal.decreases-loop-i
+decreases-loop-i l = length l.items - l.i

@@ -1,0 +1,45 @@
+-- `elements::put_varints`: the elements' varints from the first byte on that is not out.
+use Prim.Native.Nat.{◌+◌, ◌<◌}
+use mathlib.Core.Path.{sym}
+use native.Mathlib.Omega.{arith}
+use borrow.Author.Rules.{rules}
+use lib.ListN.{length, get_or}
+use Rattle.layout.specs.Limits.{base, longest}
+use Rattle.layout.specs.Varint.{shortest}
+use Rattle.varint.proofs.Shortest.{length-longest, length_some}
+use Rattle.emit.proofs.Segments.{all_left}
+use Rattle.elements.proofs.Resumed.{Resumed, drop_shifted, resumed_start, resumed_next, resumed_end, resumed_went}
+use Rattle.elements.proofs.put_varints.Goals as goal
+use Rattle.elements.proofs.put_varints.Lts as lts
+use Rattle.elements.proofs.put_varints.Reads as reads
+use Rattle.elements.proofs.put_varints.Tie as tie
+
+pub returns-then-skip-eq0 : goal.returns-then-skip-eq0
+returns-then-skip-eq0 c = all_left c.args.cursor _ _ _ _ c.if-skip-eq0.true c.varints_from-end.ensures
+
+pub returns-then-items-first : goal.returns-then-items-first
+returns-then-items-first c = resumed_end shortest _ _ _ _ _ _ _ (resumed_start shortest _ c.args.cursor _ _ _ c.requires c.varints_out-out.ensures) c.if-items-first.true
+
+-- fewer bytes of the first varint are out than it has, which are no more than the longest has
+short : (c : goal.After-put_whole-arg-1) → c.varints_out-out.result.part < length (shortest (get_or c.args.items.now c.varints_out-out.result.whole 0))
+short c = c.varints_out-out.ensures.short 0 c.if-items-first.false
+
+few : (c : goal.After-put_whole-arg-1) → c.varints_out-out.result.part < longest base
+few c = let k = short c in let l = length-longest base (get_or c.args.items.now (c.varints_out-out.result.whole) 0) (c.shared_slice_known-2-1.given (c.varints_out-out.result.whole)).fits in omega arith
+
+-- the first is out
+begun : (c : lts.After-slice_known3 tie.the-claims reads.Pre reads.Post) → Resumed shortest c.args.items.now c.args.cursor c.args.buf.now c.put_whole-next.new.0 c.put_whole-next.result (c.varints_out-out.result.whole + 1) 0
+begun c =
+    resumed_next shortest _ _ _ _ _ _ _ (resumed_start shortest _ c.args.cursor _ _ _ c.requires c.varints_out-out.ensures) length_some 0 _ _ _ c.if-items-first.false (sym (drop_shifted c.varints_out-out.result.part _ (short c.before.before.before))) c.put_whole-next.ensures
+
+pub returns : goal.returns
+returns c = resumed_went shortest _ _ _ _ _ _ (begun c.before.before.before.before) _ _ c.varints_from-end-2.ensures
+
+pub overflow_mul-part : goal.overflow_mul-part
+overflow_mul-part c = let k = few c in record { fits = omega arith }
+
+pub overflow_shr-head : goal.overflow_shr-head
+overflow_shr-head c = let k = few c in omega arith
+
+pub varints_from-end-requires-2 : goal.varints_from-end-requires-2
+varints_from-end-requires-2 c = (begun c.before).inside

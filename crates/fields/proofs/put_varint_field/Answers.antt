@@ -1,0 +1,28 @@
+-- `fields::put_varint_field`: at once, or the head from the place on.
+use Prim.Native.Nat.{◌+◌, ◌-◌, ◌≤◌}
+use mathlib.Core.Path.{sym, ◌∙◌}
+use mathlib.Core.List.{◌++◌}
+use native.Mathlib.Omega.{arith}
+use lib.ListN.{length, length-append}
+use borrow.Author.Tests.{leb-true}
+use Rattle.layout.specs.Limits.{base}
+use Rattle.layout.specs.Varint.{shortest}
+use Rattle.varint.proofs.Shortest.{length-longest}
+use Rattle.held.specs.Headers.{headers_of}
+use Rattle.at_ease.specs.AtOnce.{pair_most}
+use Rattle.held.proofs.Ends.{ended}
+use Rattle.at_ease.proofs.AtOnce.{clean_zeros}
+use Rattle.fields.proofs.Behind.{behind}
+use borrow.Author.Rules.{rules}
+use Rattle.fields.proofs.put_varint_field.Goals as goal
+
+pub returns-then-has_room_behind : goal.returns-then-has_room_behind
+returns-then-has_room_behind c =
+    let m : length (headers_of c.args.held c.args.places) + pair_most + 0 ≤ length c.args.buf.now - c.args.pos = leb-true _ _ (sym c.has_room_behind.ensures ∙ c.if-has_room_behind.true) in
+    let lh = length-longest base c.args.header c.ranges.header.fits in
+    let lv = length-longest base c.args.value c.ranges.value.fits in
+    let o = length-append (shortest c.args.header) (shortest c.args.value) in
+    behind c.args.pos c.args.buf.now (headers_of c.args.held c.args.places) (shortest c.args.header ++ shortest c.args.value) c.args.place 0 _ _ _ _ _ c.if-place-eq0.true (omega arith) (omega arith) c.put_held-behind.ensures clean_zeros c.put_pair-end.ensures
+
+pub returns : goal.returns
+returns c = ended _ _ _ _ _ _ c.put_head.ensures _ _ c.head_len.ensures.0 c.finish.ensures

@@ -1,0 +1,55 @@
+-- `float_values::put_f64s`: the rest of the first element that is not all out, as many whole ones as there is room for, and what goes of the next.
+use Prim.Native.Nat.{ℕ, ◌+◌, ◌-◌, ◌≤◌}
+use mathlib.Core.Path.{◌≡◌, ap}
+use native.Mathlib.Omega.{arith}
+use borrow.Author.Rules.{rules}
+use lib.ListN.{length, take, drop}
+use lib.Ieee.{Float, binary64, to_bits}
+use Rattle.layout.specs.Field.{each, low_bytes}
+use Rattle.low_bytes.proofs.Low.{length_low}
+use Rattle.putting.proofs.Turns.{whole_as}
+use Rattle.putting.specs.Put.{Puts}
+use Rattle.elements.proofs.Resumed.{Resumed, out_evenly, resumed_start, resumed_next, resumed_part, resumed_run, run_fits, run_ends, resumed_last, resumed_end}
+use Rattle.float_values.proofs.put_f64s.Goals as goal
+use Rattle.float_values.proofs.put_f64s.Lts as lts
+use Rattle.float_values.proofs.put_f64s.Reads as reads
+use Rattle.float_values.proofs.put_f64s.Tie as tie
+
+some : (x : Float) → 1 ≤ length (low_bytes 8 (to_bits binary64 x))
+some x = let e = length_low 8 (to_bits binary64 x) in omega arith
+
+start : (c : lts.After-evenly_out tie.the-claims reads.Pre reads.Post) → Resumed (λ x. low_bytes 8 (to_bits binary64 x)) c.args.items.now c.args.cursor c.args.buf.now c.args.buf.now c.args.cursor.pos c.evenly_out-out.result.whole c.evenly_out-out.result.part
+start c = resumed_start (λ x. low_bytes 8 (to_bits binary64 x)) _ c.args.cursor _ _ _ c.requires (out_evenly (λ x. low_bytes 8 (to_bits binary64 x)) _ 8 (omega arith) (λ x. length_low 8 (to_bits binary64 x)) _ _ _ c.evenly_out-out.ensures.0 c.evenly_out-out.ensures.1 c.evenly_out-out.ensures.2)
+
+pub returns-then-items-first : goal.returns-then-items-first
+returns-then-items-first c = resumed_end (λ x. low_bytes 8 (to_bits binary64 x)) _ _ _ _ _ _ _ (start c.before) c.if-items-first.true
+
+pub put_part-at-requires : goal.put_part-at-requires
+put_part-at-requires c = (omega arith, resumed_part (λ x. low_bytes 8 (to_bits binary64 x)) _ _ _ _ _ _ _ (start c.before.before.before.before) 8 (λ x. length_low 8 (to_bits binary64 x)) c.if-items-first.false)
+
+begun : (c : goal.After-slice_known-2-1) → Resumed (λ x. low_bytes 8 (to_bits binary64 x)) c.args.items.now c.args.cursor c.args.buf.now c.put_part-at.new.0 c.put_part-at.result (c.evenly_out-out.result.whole + 1) 0
+begun c = resumed_next (λ x. low_bytes 8 (to_bits binary64 x)) _ _ _ _ _ _ _ (start c.before.before.before.before.before.before.before) some _ _ _ _ c.if-items-first.false (ap (λ (v : ℕ). drop c.evenly_out-out.result.part (low_bytes 8 v)) c.fp64_bits.ensures) c.put_part-at.ensures
+
+pub put_eight_floats-end-requires : goal.put_eight_floats-end-requires
+put_eight_floats-end-requires c = let k : c.evenly_out-out.result.whole + 1 + (c.least.result) - (c.evenly_out-out.result.whole + 1) ≡ (c.least.result) = omega arith in rw k (run_fits (λ x. low_bytes 8 (to_bits binary64 x)) _ _ _ _ _ _ (begun c.before.before.before) 8 (omega arith) (λ x. length_low 8 (to_bits binary64 x)) (c.least.result) c.least.ensures)
+
+-- the whole ones, as the law has them
+whole : (c : lts.After-slice_known3 tie.the-claims reads.Pre reads.Post) → Puts c.put_part-at.new.0 c.put_part-at.result (each (λ x. low_bytes 8 (to_bits binary64 x)) (take c.least.result (drop (c.evenly_out-out.result.whole + 1) c.args.items.now))) c.put_eight_floats-end.new.0 c.put_eight_floats-end.result
+whole c =
+    let i = c.evenly_out-out.result.whole + 1 in
+    let k : i + c.least.result - i ≡ c.least.result = omega arith in
+    whole_as _ _ _ _ _ _ (ap (λ (m : ℕ). each (λ x. low_bytes 8 (to_bits binary64 x)) (take m (drop i c.args.items.now))) k) c.put_eight_floats-end.ensures
+
+ran : (c : lts.After-slice_known3 tie.the-claims reads.Pre reads.Post) → Resumed (λ x. low_bytes 8 (to_bits binary64 x)) c.args.items.now c.args.cursor c.args.buf.now c.put_eight_floats-end.new.0 c.put_eight_floats-end.result (c.evenly_out-out.result.whole + 1 + c.least.result) 0
+ran c = resumed_run (λ x. low_bytes 8 (to_bits binary64 x)) _ _ _ _ _ _ (begun c.before.before.before.before.before.before) some _ _ _ (whole c)
+
+pub returns-then-items-last : goal.returns-then-items-last
+returns-then-items-last c = resumed_end (λ x. low_bytes 8 (to_bits binary64 x)) _ _ _ _ _ _ _ (ran c.before) c.if-items-last.true
+
+pub returns : goal.returns
+returns c =
+    let r = run_ends (λ x. low_bytes 8 (to_bits binary64 x)) _ _ _ _ _ _ (begun c.before.before.before.before.before.before.before.before.before.before.before.before.before) 8 (omega arith) (λ x. length_low 8 (to_bits binary64 x)) _ c.least.ensures c.if-items-last.false _ _ (whole (c.before.before.before.before.before.before.before)) in
+    resumed_last (λ x. low_bytes 8 (to_bits binary64 x)) _ _ _ _ _ _ (ran (c.before.before.before.before.before.before.before)) some 8 (λ x. length_low 8 (to_bits binary64 x)) _ _ _ _ c.if-items-last.false (ap (low_bytes 8) c.fp64_bits-2.ensures) r c.put_part-stop.ensures
+
+pub overflow_sub-buf : goal.overflow_sub-buf
+overflow_sub-buf c = (begun c).inside

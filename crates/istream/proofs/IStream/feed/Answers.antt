@@ -1,0 +1,32 @@
+-- `istream::IStream::feed` meets its contract: a piece, at once, spent, or slowly.
+use Rattle.layout.specs.Limits.{base}
+use Rattle.read_at_once.specs.declared.Once.{Once}
+use Rattle.read_at_once.specs.AtOnce.{RightFrom}
+use Rattle.istream.proofs.Laws.{payload_owed, from_payload, from_once, from_spent}
+use mathlib.Core.Path.{sym, ◌∙◌, subst}
+use native.Mathlib.Omega.{arith}
+use mir.Val.{Fits}
+use mir.Syntax.{w8}
+use borrow.Author.Rules.{rules}
+use Rattle.istream.proofs.IStream.feed.Goals as goal
+
+pub payload-requires : goal.payload-requires
+payload-requires c =
+    payload_owed base c.in-Payload.id c.in-Payload.r _ _ (sym c.sound_payload.ensures ∙ c.if-sound_payload.true)
+
+pub returns-then-sound_payload : goal.returns-then-sound_payload
+returns-then-sound_payload c =
+    let f : Fits w8 c.args.self.carried.depth = search rules in
+    c.fed_by.ensures ∙ from_payload base c.args.self c.args.chunk.now _ _ _ _ c.payload.result (omega (arith, f.fits)) c.in-Payload.is (sym c.sound_payload.ensures ∙ c.if-sound_payload.true) c.payload.ensures
+
+pub returns-in-Done : goal.returns-in-Done
+returns-in-Done c =
+    let f : Fits w8 c.args.self.carried.depth = search rules in
+    c.answered.ensures
+    ∙ from_once base c.args.self c.args.chunk.now _ _ _ _ (omega (arith, f.fits)) (subst (λ (x : Once). RightFrom base c.args.self.carried.depth c.args.self.phase x c.args.chunk.now) c.in-Done.is c.at_once-q.ensures)
+
+pub returns-in-Spent : goal.returns-in-Spent
+returns-in-Spent c =
+    let f : Fits w8 c.args.self.carried.depth = search rules in
+    c.answered-in-Spent.ensures
+    ∙ from_spent base c.args.self c.args.chunk.now _ _ (omega (arith, f.fits)) c.verdict-status.ensures c.rebuilt.ensures (subst (λ (x : Once). RightFrom base c.args.self.carried.depth c.args.self.phase x c.args.chunk.now) c.in-Spent.is c.at_once-q.ensures)

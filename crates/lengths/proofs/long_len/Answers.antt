@@ -1,0 +1,15 @@
+-- `lengths::long_len` meets its contract: as it stands in its shortest form, or by its value.
+use native.Mathlib.Omega.{arith}
+use mathlib.Core.Path.{refl}
+use Rattle.lengths.proofs.Answers.{own_past, own_sizes}
+use borrow.Author.Rules.{rules}
+use Rattle.lengths.proofs.long_len.Goals as goal
+
+pub overflow_sub-result : goal.overflow_sub-result
+overflow_sub-result c = (own_past c.requires.0 c.long_number_at-end.ensures c.if-end-gt0.true).0
+
+pub overflow_add-result : goal.overflow_add-result
+overflow_add-result c = omega (arith, c.requires.1, own_past c.requires.0 c.long_number_at-end.ensures c.if-end-gt0.true, c.well_formed.0.0)
+
+pub returns-then-end-gt0 : goal.returns-then-end-gt0
+returns-then-end-gt0 c = own_sizes c.requires c.long_number_at-end.ensures c.if-end-gt0.true refl

@@ -1,0 +1,20 @@
+-- `ostream::OStream::close`: the close, behind what is held.
+use mathlib.Core.Path.{refl}
+use native.Mathlib.Omega.{arith}
+use lib.ListN.{length}
+use borrow.Author.Tests.{ne_eqb}
+use Rattle.ostream.specs.Stream.{held_bytes}
+use Rattle.ostream.proofs.Calls.{is_sound, few_clears, settles}
+use borrow.Author.Rules.{rules}
+use Rattle.ostream.proofs.OStream.close.Goals as goal
+
+pub put_close-outcome-requires : goal.put_close-outcome-requires
+put_close-outcome-requires c = let h = is_sound c.args.self (length c.args.buf.now) c.requires.0 in (h.few, h.inside)
+
+pub settle-requires : goal.settle-requires
+settle-requires c = few_clears c.args.self (is_sound c.args.self (length c.args.buf.now) c.requires.0).few c.put_close-outcome.result
+
+pub returns : goal.returns
+unfolding held_bytes
+returns c =
+    settles _ _ _ _ _ _ _ _ _ refl refl (simp (c.requires.0, ne_eqb c.args.self.depth 0 (λ e. omega arith))) c.put_close-outcome.ensures c.settle.ensures

@@ -1,0 +1,12 @@
+-- `ostream::OStream::hold`: the places and the numbers.
+use Prim.Native.Nat.{ℕ, ◌+◌}
+use mathlib.Core.List.{List}
+use mathlib.Core.Path.{ap}
+use Rattle.ostream.specs.Stream.{holding}
+use borrow.Author.Rules.{rules}
+use Rattle.ostream.proofs.OStream.hold.Goals as goal
+
+pub returns : goal.returns
+unfolding holding
+returns c =
+    ap (λ (l : List ℕ). record { offset = c.args.self.offset; depth = c.args.self.depth + 1; pending = l; npending = c.args.self.npending + 1 }) c.add_id-more.ensures

@@ -1,0 +1,8 @@
+-- `ostream::OStream::sound`: the tests of a sound state.
+use Rattle.ostream.specs.Stream.{sound_stream}
+use borrow.Author.Rules.{rules}
+use Rattle.ostream.proofs.OStream.sound.Goals as goal
+
+pub returns : goal.returns
+unfolding sound_stream
+returns c = c.sound_for.ensures

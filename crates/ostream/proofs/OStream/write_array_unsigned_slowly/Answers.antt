@@ -1,0 +1,19 @@
+-- `ostream::OStream::write_array_unsigned_slowly`: the array by the numbers of the state.
+use mathlib.Core.Path.{refl}
+use mathlib.Core.List.{[], ◌∷◌}
+use lib.ListN.{length}
+use Rattle.layout.specs.Field.{unsigned_array}
+use Rattle.layout.specs.Copy.{field_bytes}
+use Rattle.ostream.specs.Calls.{array_too_long}
+use Rattle.ostream.specs.Stream.{held_bytes}
+use Rattle.ostream.proofs.Calls.{field_clears, goes}
+use borrow.Author.Rules.{rules}
+use Rattle.ostream.proofs.OStream.write_array_unsigned_slowly.Goals as goal
+
+pub settle-requires : goal.settle-requires
+settle-requires c = field_clears c.args.self c.args.buf.now c.args.id (array_too_long (length c.args.items.now) ∷ []) (field_bytes (unsigned_array c.args.id c.args.items.now)) c.args.place _ _ c.unsigned_array-outcome.ensures
+
+pub returns : goal.returns
+unfolding held_bytes
+returns c =
+    goes c.args.self c.args.buf.now c.args.id (array_too_long (length c.args.items.now) ∷ []) (field_bytes (unsigned_array c.args.id c.args.items.now)) c.args.place _ _ c.unsigned_array-outcome.ensures _ _ refl refl refl c.settle.ensures

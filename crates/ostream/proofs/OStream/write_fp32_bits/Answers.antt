@@ -1,0 +1,11 @@
+-- `ostream::OStream::write_fp32_bits`: the layout's bytes of the field, from the float's own.
+use mathlib.Core.Path.{◌∙◌}
+use borrow.Author.Rules.{rules}
+use lib.ListN.{length}
+use Rattle.layout.specs.Field.{fp32}
+use Rattle.ostream.proofs.Floats.{float_call_lem}
+use Rattle.ostream.proofs.OStream.write_fp32_bits.Goals as goal
+
+pub returns : goal.returns
+returns c =
+    c.write_fixlen_raw.ensures ∙ float_call_lem fp32 c.args.self c.args.buf.now (length c.args.buf.now) c.args.place c.args.id c.args.bits c.le32-bytes.result c.le32-bytes.ensures

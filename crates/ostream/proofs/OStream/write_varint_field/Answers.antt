@@ -1,0 +1,29 @@
+-- `ostream::OStream::write_varint_field`: at once from a state that holds nothing, and otherwise left to the slow form.
+use Prim.Native.Nat.{◌+◌, ◌*◌}
+use mathlib.Core.Path.{refl}
+use mathlib.Core.List.{◌++◌}
+use native.Mathlib.Omega.{arith}
+use lib.ListN.{length}
+use Rattle.layout.specs.Varint.{shortest}
+use Rattle.at_ease.proofs.AtOnce.{stayed}
+use Rattle.ostream.specs.Calls.{varint_call}
+use Rattle.ostream.proofs.Calls.{both, committed-none}
+use Rattle.ostream.proofs.AtOnce.{is_ready, is_easy, ready_scalar, spelled, goes_at_once, by_slow_form}
+use borrow.Author.Rules.{rules}
+use Rattle.ostream.proofs.OStream.write_varint_field.Goals as goal
+
+pub returns-then-place-gt0 : goal.returns-then-place-gt0
+returns-then-place-gt0 c =
+    by_slow_form (λ s n. varint_call s n c.args.id c.args.wire c.args.value) c.args.self _ c.args.buf.now c.args.buf.now c.args.place _ _ _ c.rebuilt.ensures refl c.rebuilt-then-place-gt0.ensures c.write_varint_field_slowly.ensures
+
+pub returns-then-self-end : goal.returns-then-self-end
+returns-then-self-end c =
+    goes_at_once (varint_call c.args.self (length c.args.buf.now) c.args.id c.args.wire c.args.value) c.args.self c.args.buf.now (shortest (c.args.id * 8 + c.args.wire) ++ shortest c.args.value) c.args.place _ _ _ _ c.pair_at_once-end.ensures c.if-self-end.true (omega arith)
+    (λ t.
+    let e = both _ _ t in
+    let y = is_ready c.args.self (length c.args.buf.now) c.args.id 0 (is_easy c.args.self c.args.id e.0) e.1 in
+    (ready_scalar c.args.self (length c.args.buf.now) c.args.id 0 y, spelled c.args.self y.none (shortest (c.args.id * 8 + c.args.wire) ++ shortest c.args.value), committed-none c.args.self c.args.self.depth y.none))
+
+pub returns : goal.returns
+returns c =
+    by_slow_form (λ s n. varint_call s n c.args.id c.args.wire c.args.value) c.args.self _ c.args.buf.now _ c.args.place _ _ _ c.rebuilt-2.ensures (stayed _ c.args.buf.now c.args.self.offset (shortest (c.args.id * 8 + c.args.wire) ++ shortest c.args.value) _ _ c.pair_at_once-end.ensures c.if-self-end.false) c.rebuilt-3.ensures c.write_varint_field_slowly-2.ensures

@@ -1,0 +1,11 @@
+-- `phase::signeds` meets its contract.
+use mathlib.Core.Path.{sym, ap}
+use Rattle.machine.specs.Machine.{in_signed}
+use Rattle.phase.specs.Phases.{phase_in}
+use Rattle.phase.proofs.Phases.{some_left}
+use borrow.Author.Rules.{rules}
+use Rattle.phase.proofs.signeds.Goals as goal
+
+pub returns-else-left-eq0 : goal.returns-else-left-eq0
+returns-else-left-eq0 c =
+    sym (ap phase_in (some_left c.args.left (λ m. in_signed c.args.id m 0 0) c.if-left-eq0.false))

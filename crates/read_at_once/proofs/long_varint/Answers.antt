@@ -1,0 +1,25 @@
+-- `read_at_once::long_varint` meets its contract: at each turn, whatever takes the varint is as far as the bytes so far have come to.
+use Prim.Native.Nat.{◌-◌}
+use mathlib.Core.Path.{refl, sym, ◌∙◌}
+use lib.ListN.{length}
+use Rattle.layout.specs.Limits.{base}
+use Rattle.read_at_once.proofs.AtOnce.{Under, under_start, under_more, under_value}
+use borrow.Author.Rules.{rules}
+use Rattle.read_at_once.proofs.long_varint.Goals as goal
+
+pub loop-i-init : goal.loop-i-init
+loop-i-init c = under_start base _ _ _ c.new-acc.ensures
+
+pub loop-i-preserved : goal.loop-i-preserved
+loop-i-preserved c =
+    under_more c.loop-i.invariant c.loop-i-test.true _ (sym c.push-p.ensures ∙ c.in-More.is)
+
+pub returns-in-Value : goal.returns-in-Value
+returns-in-Value c =
+    under_value c.loop-i.invariant c.loop-i-test.true _ _ refl (sym c.push-p.ensures ∙ c.in-Value.is)
+
+pub returns-in-Overlong : goal.returns-in-Overlong
+returns-in-Overlong c = tt
+
+pub returns : goal.returns
+returns c = tt

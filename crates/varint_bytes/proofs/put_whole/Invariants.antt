@@ -1,0 +1,14 @@
+-- `varint_bytes::put_whole`: at each turn, the rest's varint is left to write.
+use Prim.Native.Nat.{◌-◌}
+use native.Mathlib.Omega.{arith}
+use lib.ListN.{length, length-set}
+use Rattle.layout.specs.Varint.{shortest}
+use Rattle.varint.proofs.Shortest.{shortest_one, shortest-more}
+use Rattle.putting.proofs.Turns.{Left, start, next, no_room, ended}
+use Rattle.varint_bytes.proofs.put_whole.Given as goal
+
+abbrev pub invariant-loop-at : goal.invariant-loop-at
+invariant-loop-at l = Left l.initial.buf l.pos (shortest l.v) l.buf l.at (shortest l.rest)
+
+abbrev pub decreases-loop-at : goal.decreases-loop-at
+decreases-loop-at l = length l.initial.buf - l.at

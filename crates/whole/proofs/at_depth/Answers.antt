@@ -1,0 +1,11 @@
+-- `whole::at_depth` meets its contract.
+use mathlib.Core.Path.{sym, ap}
+use Rattle.whole.specs.Whole.{deepened}
+use borrow.Author.Rules.{rules}
+use Rattle.whole.proofs.at_depth.Goals as goal
+
+pub returns-in-At : goal.returns-in-At
+returns-in-At c = sym (ap (deepened c.args.depth) c.in-At.is)
+
+pub returns-in-Broken : goal.returns-in-Broken
+returns-in-Broken c = sym (ap (deepened c.args.depth) c.in-Broken.is)

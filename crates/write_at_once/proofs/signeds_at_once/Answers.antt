@@ -1,0 +1,28 @@
+-- `write_at_once::signeds_at_once`: the tests, and then the write.
+use Prim.Native.Nat.{◌+◌, ◌*◌}
+use lib.ListN.{length}
+use Rattle.layout.specs.Limits.{base}
+use Rattle.layout.specs.Varint.{shortest}
+use Rattle.layout.specs.Zigzag.{zigzag}
+use Rattle.layout.specs.Field.{signed_array}
+use Rattle.layout.specs.Copy.{field_bytes}
+use Rattle.elements.specs.OutAfter.{elements_most}
+use Rattle.at_ease.specs.AtOnce.{easy_with, roomy_at}
+use Rattle.at_ease.proofs.AtOnce.{refused, behind, within}
+use Rattle.write_at_once.proofs.Rows.{row-whole}
+use borrow.Author.Rules.{rules}
+use Rattle.write_at_once.proofs.signeds_at_once.Goals as goal
+
+pub returns-then-not-at_ease_with : goal.returns-then-not-at_ease_with
+returns-then-not-at_ease_with c = refused _ (easy_with c.args.depth c.args.held c.args.id (length c.args.items.now) base.count) (roomy_at (length c.args.buf.now) c.args.pos c.args.places (elements_most (length c.args.items.now))) c.args.buf.now c.args.pos (field_bytes (signed_array c.args.id c.args.items.now)) c.at_ease_with.ensures c.if-not-at_ease_with.true-raw
+
+pub put_signeds-requires : goal.put_signeds-requires
+put_signeds-requires c =
+    within _ c.args.depth c.args.held c.args.id (length c.args.items.now) base.count c.at_ease_with.ensures c.if-not-at_ease_with.false-raw
+
+pub returns : goal.returns
+unfolding field_bytes
+returns c =
+    let t = roomy_at (length c.args.buf.now) c.args.pos c.args.places (elements_most (length c.args.items.now)) in
+    behind _ (easy_with c.args.depth c.args.held c.args.id (length c.args.items.now) base.count) t c.args.buf.now c.args.pos (field_bytes (signed_array c.args.id c.args.items.now)) c.at_ease_with.ensures _ _ c.if-not-at_ease_with.false-raw
+    (row-whole t c.args.buf.now c.args.pos _ (c.args.id * 8 + 4) (λ z. shortest (zigzag z)) c.args.items.now _ _ c.tagged.ensures c.put_signeds.ensures)

@@ -1,0 +1,24 @@
+-- `write_slowly::fp64_array`: the refusals, then the array from the place on.
+use mathlib.Core.Path.{refl}
+use mathlib.Core.List.{[], ◌∷◌, map}
+use lib.Ieee.{binary64, to_bits}
+use lib.ListN.{length}
+use Rattle.layout.specs.Limits.{base}
+use Rattle.layout.specs.Field.{fp64, float_array}
+use Rattle.layout.specs.Copy.{field_bytes}
+use Rattle.refusals.specs.Tests.{array_too_long}
+use Rattle.write_slowly.proofs.Went.{sized_goes, refuses, goes}
+use borrow.Author.Rules.{rules}
+use Rattle.write_slowly.proofs.fp64_array.Goals as goal
+
+pub returns-then-not-tests : goal.returns-then-not-tests
+returns-then-not-tests c =
+    refuses c.args.pos c.args.depth c.args.held c.args.places c.args.buf.now c.args.id (array_too_long (length c.args.items.now) ∷ []) _ c.check_array-tests.ensures (field_bytes (float_array c.args.id fp64 (map (to_bits binary64) c.args.items.now))) c.args.place c.if-not-tests.true
+
+pub put_fp64_array-requires : goal.put_fp64_array-requires
+put_fp64_array-requires c =
+    sized_goes c.args.pos c.args.depth c.args.held c.args.places c.args.buf.now c.args.id base.count (length c.args.items.now) _ c.check_array-tests.ensures c.if-not-tests.false
+
+pub returns : goal.returns
+returns c =
+    goes c.args.pos c.args.depth c.args.held c.args.places c.args.buf.now c.args.id (array_too_long (length c.args.items.now) ∷ []) _ c.check_array-tests.ensures (field_bytes (float_array c.args.id fp64 (map (to_bits binary64) c.args.items.now))) c.args.place _ _ _ c.if-not-tests.false refl c.put_fp64_array.ensures

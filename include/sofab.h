@@ -1,4 +1,4 @@
-/* What a C host calls of Moasettee. Link with libhost.a, which `rt staticlib host` writes to target/staticlib/. */
+/* What a C host calls of Moasettee. Link with libhost.a, which `rt lib` makes of the crate host_c: README says how. */
 #ifndef SOFAB_H
 #define SOFAB_H
 

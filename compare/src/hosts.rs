@@ -98,9 +98,9 @@ fn expected(said: &Result<Vec<u8>, Verdict>, room: usize) -> (i64, Vec<u8>) {
 }
 
 /// The lengths of buffers that copies are drained through: one byte, a few, and more than most copies have.
-const BUFFERS: [NonZeroUsize; 4] = [bytes(1), bytes(3), bytes(16), bytes(1 << 40)];
+const BUFFERS: [NonZeroUsize; 4] = [bytes_of(1), bytes_of(3), bytes_of(16), bytes_of(1 << 40)];
 
-const fn bytes(n: usize) -> NonZeroUsize {
+const fn bytes_of(n: usize) -> NonZeroUsize {
     NonZeroUsize::new(n).expect("not 0")
 }
 

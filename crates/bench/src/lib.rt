@@ -5,8 +5,7 @@
 mod reading;
 
 // Reads the bytes in chunks of `size` bytes (0: whole), and answers a digest of the events.
-#[unsafe(no_mangle)]
-pub extern "C" fn bench_read(bytes: &[u8], size: usize) -> u64 {
+pub fn bench_read(bytes: &[u8], size: usize) -> u64 {
     if size == 0 {
         reading::chunks(bytes, bytes.len())
     } else {
@@ -15,7 +14,6 @@ pub extern "C" fn bench_read(bytes: &[u8], size: usize) -> u64 {
 }
 
 // Gathers a payload from pieces of `size` bytes, and answers how many bytes are whole in the end.
-#[unsafe(no_mangle)]
-pub extern "C" fn bench_gather(payload: &[u8], size: usize, buf: &mut [u8]) -> u64 {
+pub fn bench_gather(payload: &[u8], size: usize, buf: &mut [u8]) -> u64 {
     reading::gather(payload, size, buf)
 }

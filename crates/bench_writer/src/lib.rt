@@ -304,14 +304,7 @@ fn drained(r: Run, buf: &[u8]) -> Run {
 
 // Writes n fields of a kind through the buffer, drains it into `out`, and answers how many bytes went there. (No call takes as many turns as
 // are counted down.)
-#[unsafe(no_mangle)]
-pub extern "C" fn bench_write(
-    kind: u32,
-    n: usize,
-    data: &[u8],
-    buf: &mut [u8],
-    out: &mut [u8],
-) -> u64 {
+pub fn bench_write(kind: u32, n: usize, data: &[u8], buf: &mut [u8], out: &mut [u8]) -> u64 {
     let elements = [300u64; 64];
     let mut r = Run {
         stream: OStream::new(buf),

@@ -10,8 +10,7 @@ ghost use Rattle.exports.specs.Exports.{number, result_of, filled, copied, measu
 
 use copier::{Answer, Copier};
 
-#[unsafe(no_mangle)]
-pub extern "C" fn sofab_verdict(ticket: &[u8]) -> i64
+pub fn sofab_verdict(ticket: &[u8]) -> i64
     ensures { result ≡ number (verdict_of base ticket.now) }
 {
     codes::number(whole::verdict_of(ticket))
@@ -45,8 +44,7 @@ fn block(ticket: &[u8], out: &mut [u8]) -> i64
 }
 
 // Most messages are their own plain copy, and gone over once. No byte is written before the verdict is known.
-#[unsafe(no_mangle)]
-pub extern "C" fn sofab_copy(ticket: &[u8], out: &mut [u8]) -> i64
+pub fn sofab_copy(ticket: &[u8], out: &mut [u8]) -> i64
     ensures { result_of result out.new ≡ copied (verdict_of base ticket.now) (plain_copy base ticket.now) out.old }
 {
     if own_copy::is_own(ticket) {
@@ -59,15 +57,13 @@ pub extern "C" fn sofab_copy(ticket: &[u8], out: &mut [u8]) -> i64
     copy(ticket, out)
 }
 
-#[unsafe(no_mangle)]
-pub extern "C" fn sofab_length(ticket: &[u8]) -> i64
+pub fn sofab_length(ticket: &[u8]) -> i64
     ensures { result ≡ measured (verdict_of base ticket.now) (length (plain_copy base ticket.now)) }
 {
     codes::length(copy_len::length_of(ticket))
 }
 
-#[unsafe(no_mangle)]
-pub extern "C" fn sofab_drains(ticket: &[u8], buffer: usize) -> i64
+pub fn sofab_drains(ticket: &[u8], buffer: usize) -> i64
     ensures { result ≡ drained buffer (verdict_of base ticket.now) (length (plain_copy base ticket.now)) }
 {
     codes::drains(drain_count::drains_of(ticket, buffer))

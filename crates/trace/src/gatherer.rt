@@ -37,8 +37,7 @@ fn store(left: PayloadAcc, t: Tale, desk: &mut [u64]) {
 }
 
 // A piece: word 27 is its total, word 28 its offset. Where word 31 isn't 0, a reset.
-#[unsafe(no_mangle)]
-pub extern "C" fn trace_gather(desk: &mut [u64], buf: &mut [u8], chunk: &[u8]) -> i64 {
+pub fn trace_gather(desk: &mut [u64], buf: &mut [u8], chunk: &[u8]) -> i64 {
     let held = acc(desk);
     if word(desk, 31) != 0 {
         store(held.reset(), Tale { tag: 4, n: 0 }, desk);
@@ -62,13 +61,7 @@ fn said(desk: &[u64]) -> Answer {
 }
 
 // The second call, on the answer that words 23 and 24 tell: the part goes out, as far as there is room; answers how long it is there.
-#[unsafe(no_mangle)]
-pub extern "C" fn trace_part<'a>(
-    desk: &[u64],
-    buf: &'a [u8],
-    chunk: &'a [u8],
-    out: &mut [u8],
-) -> u64 {
+pub fn trace_part<'a>(desk: &[u64], buf: &'a [u8], chunk: &'a [u8], out: &mut [u8]) -> u64 {
     put_rest(
         out,
         0,

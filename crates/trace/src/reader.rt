@@ -212,8 +212,7 @@ fn fed(stream: IStream, how: u64, chunk: &[u8]) -> Fed {
     }
 }
 
-#[unsafe(no_mangle)]
-pub extern "C" fn trace_read(desk: &mut [u64], chunk: &[u8]) -> i64 {
+pub fn trace_read(desk: &mut [u64], chunk: &[u8]) -> i64 {
     let f = fed(reader(desk), word(desk, 31), chunk);
     let a = f.answer;
     let left = f.stream;

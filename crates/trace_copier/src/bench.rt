@@ -58,8 +58,7 @@ fn most(size: usize, len: usize) -> usize {
 // Copies the ticket in chunks of `size` bytes (0: whole) through the buffer, drains it into `out`, and answers how many bytes went there.
 // A call after another, and a drain whenever the buffer is full: after "full" the chunk's rest, after a verdict the next chunk. Nothing here
 // says that the calls end: they are counted down from a number that no run uses up.
-#[unsafe(no_mangle)]
-pub extern "C" fn bench_copy(ticket: &[u8], size: usize, buf: &mut [u8], out: &mut [u8]) -> u64 {
+pub fn bench_copy(ticket: &[u8], size: usize, buf: &mut [u8], out: &mut [u8]) -> u64 {
     let len = ticket.len();
     let room = buf.len();
     let most = most(size, len);

@@ -134,8 +134,7 @@ fn called(desk: &[u64], data: &[u8], buf: &mut [u8]) -> Left {
     }
 }
 
-#[unsafe(no_mangle)]
-pub extern "C" fn trace_copy(desk: &mut [u64], data: &[u8], buf: &mut [u8]) -> i64 {
+pub fn trace_copy(desk: &mut [u64], data: &[u8], buf: &mut [u8]) -> i64 {
     let left = called(desk, data, buf);
     let told = left.told;
     store(left.copier, desk);

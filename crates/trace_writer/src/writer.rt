@@ -192,8 +192,7 @@ fn called(c: Call, data: &[u8], buf: &mut [u8]) -> Left {
     }
 }
 
-#[unsafe(no_mangle)]
-pub extern "C" fn trace_write(desk: &mut [u64], data: &[u8], buf: &mut [u8]) -> i64 {
+pub fn trace_write(desk: &mut [u64], data: &[u8], buf: &mut [u8]) -> i64 {
     let c = asked(desk);
     let t = called(c, data, buf);
     leave(t, desk)

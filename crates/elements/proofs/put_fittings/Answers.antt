@@ -14,12 +14,12 @@ use Rattle.elements.proofs.put_fittings.Reads as reads
 use Rattle.elements.proofs.put_fittings.Tie as tie
 
 -- one element more
-first : (c : lts.After-put_fitting tie.the-claims reads.Pre reads.Post goal.the-invariant-loop-i goal.the-decreases-loop-i) → Roomy shortest (longest base) c.args.items.now c.args.buf.now c.args.pos c.put_fitting-mid.new.0 c.put_fitting-mid.result (c.loop-i.i + 1)
+first : (c : lts.After-put_fitting tie.the-claims reads.Pre reads.Post goal.the-invariant-loop-i goal.the-decreases-loop-i) → Roomy shortest (longest base) c.args.items.now c.args.buf.now c.args.pos c.put_fitting-mid.new.buf c.put_fitting-mid.result (c.loop-i.i + 1)
 first c =
     let v : ℕ = get_or c.args.items.now c.loop-i.i 0 in
     roomy_next _ _ _ _ _ _ _ _ c.loop-i.invariant.0 0 _ _ _ (omega arith) refl (length-longest base v (c.shared_slice_known-in-loop-i-1.given c.loop-i.i).fits) c.put_fitting-mid.ensures
 
-last : (c : lts.After-put_fitting3 tie.the-claims reads.Pre reads.Post goal.the-invariant-loop-i goal.the-decreases-loop-i) → Roomy shortest (longest base) c.args.items.now c.args.buf.now c.args.pos c.put_fitting.new.0 c.put_fitting.result (c.loop-i.i + 1)
+last : (c : lts.After-put_fitting3 tie.the-claims reads.Pre reads.Post goal.the-invariant-loop-i goal.the-decreases-loop-i) → Roomy shortest (longest base) c.args.items.now c.args.buf.now c.args.pos c.put_fitting.new.buf c.put_fitting.result (c.loop-i.i + 1)
 last c =
     let v : ℕ = get_or c.args.items.now c.loop-i.i 0 in
     roomy_next _ _ _ _ _ _ _ _ c.loop-i.invariant.0 0 _ _ _ c.if-i-items.true refl (length-longest base v (c.shared_slice_known-then-i-items-1.given c.loop-i.i).fits) c.put_fitting.ensures
@@ -55,7 +55,7 @@ pub loop-i-preserved : goal.loop-i-preserved
 loop-i-preserved c =
     let v : ℕ = get_or c.args.items.now (c.loop-i.i + 1) 0 in
     let n : c.loop-i.i + 1 + 1 ≡ c.loop-i.i + 2 = omega arith in (
-      subst (λ (k : ℕ). Roomy shortest (longest base) c.args.items.now c.args.buf.now c.args.pos c.put_fitting-at.new.0 c.put_fitting-at.result k) n (roomy_next _ _ _ _ _ _ _ _ (first c.before.before.before.before.before.before) 0 _ _ _ (omega arith) refl (length-longest base v (c.shared_slice_known-in-loop-i-2-1.given (c.loop-i.i + 1)).fits) c.put_fitting-at.ensures),
+      subst (λ (k : ℕ). Roomy shortest (longest base) c.args.items.now c.args.buf.now c.args.pos c.put_fitting-at.new.buf c.put_fitting-at.result k) n (roomy_next _ _ _ _ _ _ _ _ (first c.before.before.before.before.before.before) 0 _ _ _ (omega arith) refl (length-longest base v (c.shared_slice_known-in-loop-i-2-1.given (c.loop-i.i + 1)).fits) c.put_fitting-at.ensures),
       omega arith,
     )
 

@@ -28,7 +28,7 @@ few : (c : goal.After-put_whole-arg-1) → c.varints_out-out.result.part < longe
 few c = let k = short c in let l = length-longest base (get_or c.args.items.now (c.varints_out-out.result.whole) 0) (c.shared_slice_known-2-1.given (c.varints_out-out.result.whole)).fits in omega arith
 
 -- the first is out
-begun : (c : lts.After-slice_known3 tie.the-claims reads.Pre reads.Post) → Resumed shortest c.args.items.now c.args.cursor c.args.buf.now c.put_whole-next.new.0 c.put_whole-next.result (c.varints_out-out.result.whole + 1) 0
+begun : (c : lts.After-slice_known3 tie.the-claims reads.Pre reads.Post) → Resumed shortest c.args.items.now c.args.cursor c.args.buf.now c.put_whole-next.new.buf c.put_whole-next.result (c.varints_out-out.result.whole + 1) 0
 begun c =
     resumed_next shortest _ _ _ _ _ _ _ (resumed_start shortest _ c.args.cursor _ _ _ c.requires c.varints_out-out.ensures) length_some 0 _ _ _ c.if-items-first.false (sym (drop_shifted c.varints_out-out.result.part _ (short c.before.before.before))) c.put_whole-next.ensures
 

@@ -38,7 +38,7 @@ few : (c : goal.After-zigzag_encode) → c.zigzags_out-out.result.part < longest
 few c = let k = short c in let l = length-longest base _ c.zigzag_encode.type_inv in omega arith
 
 -- the first is out
-begun : (c : lts.After-slice_known3 tie.the-claims reads.Pre reads.Post) → Resumed (λ z. shortest (zigzag z)) c.args.items.now c.args.cursor c.args.buf.now c.put_whole-next.new.0 c.put_whole-next.result (c.zigzags_out-out.result.whole + 1) 0
+begun : (c : lts.After-slice_known3 tie.the-claims reads.Pre reads.Post) → Resumed (λ z. shortest (zigzag z)) c.args.items.now c.args.cursor c.args.buf.now c.put_whole-next.new.buf c.put_whole-next.result (c.zigzags_out-out.result.whole + 1) 0
 begun c =
     resumed_next (λ z. shortest (zigzag z)) _ _ _ _ _ _ _ (resumed_start (λ z. shortest (zigzag z)) _ c.args.cursor _ _ _ c.requires c.zigzags_out-out.ensures) (λ z. length_some (zigzag z)) (pos 0) _ _ _ c.if-items-first.false (sym (drop_shifted c.zigzags_out-out.result.part _ (short c.before.before.before)) ∙ ap (λ (v : ℕ). drop c.zigzags_out-out.result.part (shortest v)) (number c.before.before.before)) c.put_whole-next.ensures
 

@@ -14,9 +14,6 @@ returns-then-v-lt128 c = one_byte _ _ _ (omega arith) c.if-v-lt128.true
 pub returns-then-second-lt128 : goal.returns-then-second-lt128
 returns-then-second-lt128 c = two_bytes _ _ _ (omega arith) c.if-v-lt128.false c.if-second-lt128.true
 
-done : (c : goal.After-slice_known-2-1) → Puts c.args.buf.now c.args.pos (shortest c.args.v) c.put_third.new.0 c.put_third.result
-done c = followed _ _ _ _ _ _ _ _ (after_two _ _ _ (omega arith) c.if-v-lt128.false c.if-second-lt128.false) c.put_third.ensures
-
 pub bounds-buf-pos-then-second-lt128 : goal.bounds-buf-pos-then-second-lt128
 bounds-buf-pos-then-second-lt128 c = simp length-set (omega arith)
 
@@ -27,4 +24,7 @@ pub put_third-requires : goal.put_third-requires
 put_third-requires c = simp length-set (omega arith)
 
 pub shape_of-buf : goal.shape_of-buf
-shape_of-buf c = same_size _ _ _ _ _ (omega arith) (done c)
+shape_of-buf c = same_size _ _ _ _ _ (omega arith) (let done : Puts c.args.buf.now c.args.pos (shortest c.args.v) c.put_third.new.buf c.put_third.result = followed _ _ _ _ _ _ _ _ (after_two _ _ _ (omega arith) c.if-v-lt128.false c.if-second-lt128.false) c.put_third.ensures in done)
+
+pub returns : goal.returns
+returns c = (let done : Puts c.args.buf.now c.args.pos (shortest c.args.v) c.put_third.new.buf c.put_third.result = followed _ _ _ _ _ _ _ _ (after_two _ _ _ (omega arith) c.if-v-lt128.false c.if-second-lt128.false) c.put_third.ensures in done)

@@ -17,9 +17,6 @@ returns-then-second-lt128 c = two_bytes _ _ _ (omega arith) c.if-v-lt128.false c
 pub returns-then-third-lt128 : goal.returns-then-third-lt128
 returns-then-third-lt128 c = last_digit _ _ _ _ _ _ (after_two _ _ _ (omega arith) c.if-v-lt128.false c.if-second-lt128.false) (omega arith) c.if-third-lt128.true _ (omega arith)
 
-done : (c : goal.After-slice_known-2-1) → Puts c.args.buf.now c.args.pos (shortest c.args.v) c.put_whole.new.0 c.put_whole.result
-done c = followed _ _ _ _ _ _ _ _ (after_two _ _ _ (omega arith) c.if-v-lt128.false c.if-second-lt128.false) c.put_whole.ensures
-
 pub bounds-buf-pos-then-second-lt128 : goal.bounds-buf-pos-then-second-lt128
 bounds-buf-pos-then-second-lt128 c = simp length-set (omega arith)
 
@@ -30,4 +27,7 @@ pub bounds-buf-pos-then-third-lt128 : goal.bounds-buf-pos-then-third-lt128
 bounds-buf-pos-then-third-lt128 c = simp length-set (omega arith)
 
 pub shape_of-buf : goal.shape_of-buf
-shape_of-buf c = same_size _ _ _ _ _ (omega arith) (done c)
+shape_of-buf c = same_size _ _ _ _ _ (omega arith) (let done : Puts c.args.buf.now c.args.pos (shortest c.args.v) c.put_whole.new.buf c.put_whole.result = followed _ _ _ _ _ _ _ _ (after_two _ _ _ (omega arith) c.if-v-lt128.false c.if-second-lt128.false) c.put_whole.ensures in done)
+
+pub returns : goal.returns
+returns c = (let done : Puts c.args.buf.now c.args.pos (shortest c.args.v) c.put_whole.new.buf c.put_whole.result = followed _ _ _ _ _ _ _ _ (after_two _ _ _ (omega arith) c.if-v-lt128.false c.if-second-lt128.false) c.put_whole.ensures in done)

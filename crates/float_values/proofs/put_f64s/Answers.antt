@@ -27,20 +27,20 @@ returns-then-items-first c = resumed_end (λ x. low_bytes 8 (to_bits binary64 x)
 pub put_part-at-requires : goal.put_part-at-requires
 put_part-at-requires c = (omega arith, resumed_part (λ x. low_bytes 8 (to_bits binary64 x)) _ _ _ _ _ _ _ (start c.before.before.before.before) 8 (λ x. length_low 8 (to_bits binary64 x)) c.if-items-first.false)
 
-begun : (c : goal.After-slice_known-2-1) → Resumed (λ x. low_bytes 8 (to_bits binary64 x)) c.args.items.now c.args.cursor c.args.buf.now c.put_part-at.new.0 c.put_part-at.result (c.evenly_out-out.result.whole + 1) 0
+begun : (c : goal.After-slice_known-2-1) → Resumed (λ x. low_bytes 8 (to_bits binary64 x)) c.args.items.now c.args.cursor c.args.buf.now c.put_part-at.new.buf c.put_part-at.result (c.evenly_out-out.result.whole + 1) 0
 begun c = resumed_next (λ x. low_bytes 8 (to_bits binary64 x)) _ _ _ _ _ _ _ (start c.before.before.before.before.before.before.before) some _ _ _ _ c.if-items-first.false (ap (λ (v : ℕ). drop c.evenly_out-out.result.part (low_bytes 8 v)) c.fp64_bits.ensures) c.put_part-at.ensures
 
 pub put_eight_floats-end-requires : goal.put_eight_floats-end-requires
 put_eight_floats-end-requires c = let k : c.evenly_out-out.result.whole + 1 + (c.least.result) - (c.evenly_out-out.result.whole + 1) ≡ (c.least.result) = omega arith in rw k (run_fits (λ x. low_bytes 8 (to_bits binary64 x)) _ _ _ _ _ _ (begun c.before.before.before) 8 (omega arith) (λ x. length_low 8 (to_bits binary64 x)) (c.least.result) c.least.ensures)
 
 -- the whole ones, as the law has them
-whole : (c : lts.After-slice_known3 tie.the-claims reads.Pre reads.Post) → Puts c.put_part-at.new.0 c.put_part-at.result (each (λ x. low_bytes 8 (to_bits binary64 x)) (take c.least.result (drop (c.evenly_out-out.result.whole + 1) c.args.items.now))) c.put_eight_floats-end.new.0 c.put_eight_floats-end.result
+whole : (c : lts.After-slice_known3 tie.the-claims reads.Pre reads.Post) → Puts c.put_part-at.new.buf c.put_part-at.result (each (λ x. low_bytes 8 (to_bits binary64 x)) (take c.least.result (drop (c.evenly_out-out.result.whole + 1) c.args.items.now))) c.put_eight_floats-end.new.buf c.put_eight_floats-end.result
 whole c =
     let i = c.evenly_out-out.result.whole + 1 in
     let k : i + c.least.result - i ≡ c.least.result = omega arith in
     whole_as _ _ _ _ _ _ (ap (λ (m : ℕ). each (λ x. low_bytes 8 (to_bits binary64 x)) (take m (drop i c.args.items.now))) k) c.put_eight_floats-end.ensures
 
-ran : (c : lts.After-slice_known3 tie.the-claims reads.Pre reads.Post) → Resumed (λ x. low_bytes 8 (to_bits binary64 x)) c.args.items.now c.args.cursor c.args.buf.now c.put_eight_floats-end.new.0 c.put_eight_floats-end.result (c.evenly_out-out.result.whole + 1 + c.least.result) 0
+ran : (c : lts.After-slice_known3 tie.the-claims reads.Pre reads.Post) → Resumed (λ x. low_bytes 8 (to_bits binary64 x)) c.args.items.now c.args.cursor c.args.buf.now c.put_eight_floats-end.new.buf c.put_eight_floats-end.result (c.evenly_out-out.result.whole + 1 + c.least.result) 0
 ran c = resumed_run (λ x. low_bytes 8 (to_bits binary64 x)) _ _ _ _ _ _ (begun c.before.before.before.before.before.before) some _ _ _ (whole c)
 
 pub returns-then-items-last : goal.returns-then-items-last

@@ -26,20 +26,20 @@ returns-then-items-first c = resumed_end (low_bytes 8) _ _ _ _ _ _ _ (start c.be
 pub put_part-at-requires : goal.put_part-at-requires
 put_part-at-requires c = (omega arith, resumed_part (low_bytes 8) _ _ _ _ _ _ _ (start c.before.before.before) 8 (λ x. length_low 8 x) c.if-items-first.false)
 
-begun : (c : goal.After-slice_known-2-1) → Resumed (low_bytes 8) c.args.items.now c.args.cursor c.args.buf.now c.put_part-at.new.0 c.put_part-at.result (c.evenly_out-out.result.whole + 1) 0
+begun : (c : goal.After-slice_known-2-1) → Resumed (low_bytes 8) c.args.items.now c.args.cursor c.args.buf.now c.put_part-at.new.buf c.put_part-at.result (c.evenly_out-out.result.whole + 1) 0
 begun c = resumed_next (low_bytes 8) _ _ _ _ _ _ _ (start c.before.before.before.before.before.before) some 0 _ _ _ c.if-items-first.false refl c.put_part-at.ensures
 
 pub put_eights-end-requires : goal.put_eights-end-requires
 put_eights-end-requires c = let k : c.evenly_out-out.result.whole + 1 + (c.least.result) - (c.evenly_out-out.result.whole + 1) ≡ (c.least.result) = omega arith in rw k (run_fits (low_bytes 8) _ _ _ _ _ _ (begun c.before.before.before) 8 (omega arith) (λ x. length_low 8 x) (c.least.result) c.least.ensures)
 
 -- the whole ones, as the law has them
-whole : (c : lts.After-slice_known3 tie.the-claims reads.Pre reads.Post) → Puts c.put_part-at.new.0 c.put_part-at.result (each (low_bytes 8) (take c.least.result (drop (c.evenly_out-out.result.whole + 1) c.args.items.now))) c.put_eights-end.new.0 c.put_eights-end.result
+whole : (c : lts.After-slice_known3 tie.the-claims reads.Pre reads.Post) → Puts c.put_part-at.new.buf c.put_part-at.result (each (low_bytes 8) (take c.least.result (drop (c.evenly_out-out.result.whole + 1) c.args.items.now))) c.put_eights-end.new.buf c.put_eights-end.result
 whole c =
     let i = c.evenly_out-out.result.whole + 1 in
     let k : i + c.least.result - i ≡ c.least.result = omega arith in
     whole_as _ _ _ _ _ _ (ap (λ (m : ℕ). each (low_bytes 8) (take m (drop i c.args.items.now))) k) c.put_eights-end.ensures
 
-ran : (c : lts.After-slice_known3 tie.the-claims reads.Pre reads.Post) → Resumed (low_bytes 8) c.args.items.now c.args.cursor c.args.buf.now c.put_eights-end.new.0 c.put_eights-end.result (c.evenly_out-out.result.whole + 1 + c.least.result) 0
+ran : (c : lts.After-slice_known3 tie.the-claims reads.Pre reads.Post) → Resumed (low_bytes 8) c.args.items.now c.args.cursor c.args.buf.now c.put_eights-end.new.buf c.put_eights-end.result (c.evenly_out-out.result.whole + 1 + c.least.result) 0
 ran c = resumed_run (low_bytes 8) _ _ _ _ _ _ (begun c.before.before.before.before.before.before) some _ _ _ (whole c)
 
 pub returns-then-items-last : goal.returns-then-items-last

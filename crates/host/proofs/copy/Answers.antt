@@ -13,10 +13,10 @@ use borrow.Enum.Refused.{opened}
 use Rattle.host.proofs.copy.Goals as goal
 
 pub returns-in-Full : goal.returns-in-Full
-returns-in-Full c = answers_full c.args.ticket.now c.args.out.now (all_bytes c.args.ticket.now (λ i. (c.shared_slice_known-1.given i).fits)) c.requires (omega (arith, c.well_formed.1.0.1)) c.new-opened.result.copier (ap (λ (x : Started). x.copier) c.new-opened.ensures) c.feed-done.result c.feed-done.new.1.1.0 c.feed-done.ensures c.in-Full.is
+returns-in-Full c = answers_full c.args.ticket.now c.args.out.now (all_bytes c.args.ticket.now (λ i. (c.shared_slice_known-1.given i).fits)) c.requires (omega (arith, c.well_formed.1.0.1)) c.new-opened.result.copier (ap (λ (x : Started). x.copier) c.new-opened.ensures) c.feed-done.result c.feed-done.new.buf c.feed-done.ensures c.in-Full.is
 
 pub overflow_cast-result : goal.overflow_cast-result
-overflow_cast-result c = let h = offset_small c.args.ticket.now c.args.out.now (all_bytes c.args.ticket.now (λ i. (c.shared_slice_known-1.given i).fits)) c.requires (omega (arith, c.well_formed.1.0.1)) c.new-opened.result.copier (ap (λ (x : Started). x.copier) c.new-opened.ensures) c.feed-done.result c.feed-done.new.1.1.0 c.feed-done.ensures (opened c.in_default.in_default-own.keys2) in search rules
+overflow_cast-result c = let h = offset_small c.args.ticket.now c.args.out.now (all_bytes c.args.ticket.now (λ i. (c.shared_slice_known-1.given i).fits)) c.requires (omega (arith, c.well_formed.1.0.1)) c.new-opened.result.copier (ap (λ (x : Started). x.copier) c.new-opened.ensures) c.feed-done.result c.feed-done.new.buf c.feed-done.ensures (opened c.in_default.in_default-own.keys2) in search rules
 
 pub returns : goal.returns
-returns c = ap (λ (x : ℤ). result_of x c.feed-done.new.1.1.0) (to_z_pos w64 (offset_small c.args.ticket.now c.args.out.now (all_bytes c.args.ticket.now (λ i. (c.shared_slice_known-1.given i).fits)) c.requires (omega (arith, c.well_formed.1.0.1)) c.new-opened.result.copier (ap (λ (x : Started). x.copier) c.new-opened.ensures) c.feed-done.result c.feed-done.new.1.1.0 c.feed-done.ensures (opened c.in_default.in_default-own.keys2))) ∙ answers_length c.args.ticket.now c.args.out.now (all_bytes c.args.ticket.now (λ i. (c.shared_slice_known-1.given i).fits)) c.requires (omega (arith, c.well_formed.1.0.1)) c.new-opened.result.copier (ap (λ (x : Started). x.copier) c.new-opened.ensures) c.feed-done.result c.feed-done.new.1.1.0 c.feed-done.ensures (opened c.in_default.in_default-own.keys2)
+returns c = ap (λ (x : ℤ). result_of x c.feed-done.new.buf) (to_z_pos w64 (offset_small c.args.ticket.now c.args.out.now (all_bytes c.args.ticket.now (λ i. (c.shared_slice_known-1.given i).fits)) c.requires (omega (arith, c.well_formed.1.0.1)) c.new-opened.result.copier (ap (λ (x : Started). x.copier) c.new-opened.ensures) c.feed-done.result c.feed-done.new.buf c.feed-done.ensures (opened c.in_default.in_default-own.keys2))) ∙ answers_length c.args.ticket.now c.args.out.now (all_bytes c.args.ticket.now (λ i. (c.shared_slice_known-1.given i).fits)) c.requires (omega (arith, c.well_formed.1.0.1)) c.new-opened.result.copier (ap (λ (x : Started). x.copier) c.new-opened.ensures) c.feed-done.result c.feed-done.new.buf c.feed-done.ensures (opened c.in_default.in_default-own.keys2)

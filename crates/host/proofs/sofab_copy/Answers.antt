@@ -17,7 +17,7 @@ use Rattle.host.proofs.sofab_copy.Reads as reads
 use Rattle.host.proofs.sofab_copy.Tie as tie
 
 pub returns-then-is_own : goal.returns-then-is_own
-returns-then-is_own c = let f : to_z w64 (of_z w64 c.block.result) ≡ c.block.result = search rules in ap (λ (x : ℤ). result_of x c.block.new.1.0) f ∙ c.block.ensures ∙ own_copied _ _ _ _ (c.is_own.ensures c.if-is_own.true)
+returns-then-is_own c = let f : to_z w64 (of_z w64 c.block.result) ≡ c.block.result = search rules in ap (λ (x : ℤ). result_of x c.block.new.out) f ∙ c.block.ensures ∙ own_copied _ _ _ _ (c.is_own.ensures c.if-is_own.true)
 
 pub returns-then-n-lt0 : goal.returns-then-n-lt0
 returns-then-n-lt0 c =
@@ -39,4 +39,4 @@ pub copy-requires : goal.copy-requires
 copy-requires c = whole-message c.before
 
 pub returns : goal.returns
-returns c = let f : to_z w64 (of_z w64 c.copy.result) ≡ c.copy.result = search rules in ap (λ (x : ℤ). result_of x c.copy.new.1.0) f ∙ c.copy.ensures ∙ as_complete _ _ _ (whole-message c.before.before.before.before)
+returns c = let f : to_z w64 (of_z w64 c.copy.result) ≡ c.copy.result = search rules in ap (λ (x : ℤ). result_of x c.copy.new.out) f ∙ c.copy.ensures ∙ as_complete _ _ _ (whole-message c.before.before.before.before)

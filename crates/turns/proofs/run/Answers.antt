@@ -25,7 +25,7 @@ pub loop-next-preserved : goal.loop-next-preserved
 loop-next-preserved c = going_next c.args.reader c.args.start c.args.chunk.now c.args.buf.now c.loop-next.buf c.loop-next.at c.loop-next.pos c.loop-next.used c.loop-next.invariant _ _ _ _ (turned_on c.loop-next.at c.loop-next.pos c.loop-next.used c.args.chunk.now c.loop-next.buf _ _ _ c.in-On.is c.one_turn-t.ensures)
 
 pub later-requires : goal.later-requires
-later-requires c = let u = stop_used c.args.reader c.args.start c.args.chunk.now c.args.buf.now c.loop-next.buf c.loop-next.at c.loop-next.pos c.loop-next.used c.loop-next.invariant c.in-Stop.s c.one_turn-t.new.1.1.1.0 (turned_on c.loop-next.at c.loop-next.pos c.loop-next.used c.args.chunk.now c.loop-next.buf _ _ _ c.in-Stop.is c.one_turn-t.ensures) in let g : length c.args.chunk.now < 18446744073709551616 = c.well_formed.1.1.0.0 in omega arith
+later-requires c = let u = stop_used c.args.reader c.args.start c.args.chunk.now c.args.buf.now c.loop-next.buf c.loop-next.at c.loop-next.pos c.loop-next.used c.loop-next.invariant c.in-Stop.s c.one_turn-t.new.buf (turned_on c.loop-next.at c.loop-next.pos c.loop-next.used c.args.chunk.now c.loop-next.buf _ _ _ c.in-Stop.is c.one_turn-t.ensures) in let g : length c.args.chunk.now < 18446744073709551616 = c.well_formed.1.1.0.0 in omega arith
 
 pub returns-in-Stop : goal.returns-in-Stop
-returns-in-Stop c = ran_by c.args.reader c.args.start c.args.chunk.now c.args.buf.now c.later.result (later c.loop-next.used c.in-Stop.s) c.one_turn-t.new.1.1.1.0 c.later.ensures (going_stop c.args.reader c.args.start c.args.chunk.now c.args.buf.now c.loop-next.buf c.loop-next.at c.loop-next.pos c.loop-next.used c.loop-next.invariant c.in-Stop.s c.one_turn-t.new.1.1.1.0 (turned_on c.loop-next.at c.loop-next.pos c.loop-next.used c.args.chunk.now c.loop-next.buf _ _ _ c.in-Stop.is c.one_turn-t.ensures))
+returns-in-Stop c = ran_by c.args.reader c.args.start c.args.chunk.now c.args.buf.now c.later.result (later c.loop-next.used c.in-Stop.s) c.one_turn-t.new.buf c.later.ensures (going_stop c.args.reader c.args.start c.args.chunk.now c.args.buf.now c.loop-next.buf c.loop-next.at c.loop-next.pos c.loop-next.used c.loop-next.invariant c.in-Stop.s c.one_turn-t.new.buf (turned_on c.loop-next.at c.loop-next.pos c.loop-next.used c.args.chunk.now c.loop-next.buf _ _ _ c.in-Stop.is c.one_turn-t.ensures))

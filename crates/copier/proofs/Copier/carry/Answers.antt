@@ -29,4 +29,4 @@ pub run-requires : goal.run-requires
 run-requires c = (c.requires.0, (c.requires.1.0, ends-within c.args.buf.now c.args.self.writer.offset _ _ _ (ready_within c.args.self _ c.requires.1.1) c.put-end.ensures))
 
 pub returns : goal.returns
-returns c = carry_runs c.args.self c.args.chunk.now c.args.buf.now c.put-end.result c.len-len.result _ c.output-output.result c.output-output.ensures c.len-len.ensures.0 c.put-end.ensures c.requires c.if-room-place.false c.run.result c.run.new.1.1.1.0 c.run.ensures
+returns c = carry_runs c.args.self c.args.chunk.now c.args.buf.now c.put-end.result c.len-len.result _ c.output-output.result c.output-output.ensures c.len-len.ensures.0 c.put-end.ensures c.requires c.if-room-place.false c.run.result c.run.new.buf c.run.ensures

@@ -1,0 +1,22 @@
+// `trace` for C: the reader's and the gatherer's calls under the names by which compare/ links them.
+#![tactic(auto)]
+
+#[unsafe(no_mangle)]
+pub extern "C" fn trace_read(desk: &mut [u64], chunk: &[u8]) -> i64 {
+    trace::reader::trace_read(desk, chunk)
+}
+
+#[unsafe(no_mangle)]
+pub extern "C" fn trace_gather(desk: &mut [u64], buf: &mut [u8], chunk: &[u8]) -> i64 {
+    trace::gatherer::trace_gather(desk, buf, chunk)
+}
+
+#[unsafe(no_mangle)]
+pub extern "C" fn trace_part<'a>(
+    desk: &[u64],
+    buf: &'a [u8],
+    chunk: &'a [u8],
+    out: &mut [u8],
+) -> u64 {
+    trace::gatherer::trace_part(desk, buf, chunk, out)
+}

@@ -1,9 +1,14 @@
 // A number that a program is given as an argument.
+#![tactic(auto)]
+
+use std::env::FillError;
 use std::num::wrapping_add_u64;
+use std::rt::Env;
 
 // Whether there is an argument with this number. The program's own name has 0.
-pub fn given(i: usize) -> bool {
-    i < os::arg_count()
+pub fn given(rt: &impl Env, i: usize) -> bool {
+    let mut word = [0u8; 1];
+    !matches!(rt.arg(i, &mut word), Err(FillError::NotPresent))
 }
 
 // A digit's value; 10 for any other byte.
@@ -27,8 +32,10 @@ fn number(word: &[u8]) -> u64 {
 }
 
 // The number that it says; 0 where it says none, or isn't there.
-pub fn number_at(i: usize) -> u64 {
-    let mut word = io::buffer();
-    let n = os::arg(i, &mut word);
-    number(&word[..n])
+pub fn number_at(rt: &impl Env, i: usize) -> u64 {
+    let mut word = [0u8; 4096];
+    match rt.arg(i, &mut word) {
+        Ok(n) => number(&word[..n]),
+        Err(_) => 0,
+    }
 }

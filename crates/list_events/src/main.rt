@@ -1,8 +1,13 @@
 // Lists the events of the message on standard input, a line each, and last its verdict.
 // Where a read or a write fails there is no verdict: the list ends without one, and a line on standard error says why.
+#![tactic(auto)]
+
 use last_line::Verdict;
-use libc::{STDERR_FILENO, STDIN_FILENO, STDOUT_FILENO};
 use listing::Listing;
+use std::io::{self, ErrorKind, Read};
+use streams::{unread, unwritten};
+
+const NAME: &str = "events";
 
 // How far the list has come: more input may follow, the input is at its end or the message is broken, or a read or a write failed.
 #[derive(Clone, Copy)]
@@ -10,7 +15,7 @@ enum State {
     Open,
     Ended,
     Unread,
-    Unwritten,
+    Unwritten(ErrorKind),
 }
 
 #[derive(Clone, Copy)]
@@ -27,20 +32,20 @@ enum Got {
     Failed,
 }
 
-fn get(chunk: &mut [u8]) -> Got {
-    let got = libc::read(STDIN_FILENO, chunk);
-    if got < 0 {
-        Got::Failed
-    } else if got == 0 {
-        Got::End
-    } else {
-        Got::Chunk(io::count(got, chunk))
+fn get(input: &mut impl Read, chunk: &mut [u8]) -> Got {
+    match input.read(chunk) {
+        Ok(0) => Got::End,
+        Ok(n) => Got::Chunk(n),
+        Err(_) => Got::Failed,
     }
 }
 
-// The text so far goes out; whether it did.
-fn flush(out: &[u8], at: usize) -> bool {
-    at <= out.len() && io::write_all(STDOUT_FILENO, &out[0..at])
+// The text so far goes out.
+fn flush(rt: &impl Print, out: &[u8], at: usize) -> io::Result<()> {
+    if out.len() < at {
+        return Err(io::Error::from(ErrorKind::WriteZero));
+    }
+    rt.write_all(&out[0..at])
 }
 
 // A message found broken is read no further.
@@ -59,33 +64,37 @@ fn unless_broken(l: Listing) -> Listed {
 }
 
 // The lines of a chunk, the text emptied as often as it takes. Nothing but the count says to the prover that this ends.
-fn list_chunk(listing: Listing, chunk: &[u8], out: &mut [u8]) -> Listed {
+fn list_chunk(rt: &impl Print, listing: Listing, chunk: &[u8], out: &mut [u8]) -> Listed {
     let mut l = listing.chunk();
-    let mut turns = u64::MAX;
-    while 0 < turns {
+    for _ in 0..u64::MAX {
         l = listing::list(l, chunk, out);
         if !l.more {
-            return unless_broken(l);
+            break;
         }
-        if !flush(out, l.at) {
+        if let Err(e) = flush(rt, out, l.at) {
             return Listed {
                 listing: l,
-                state: State::Unwritten,
+                state: State::Unwritten(e.kind()),
             };
         }
         l = l.emptied();
-        turns -= 1;
     }
     unless_broken(l)
 }
 
 // One chunk of the input.
-fn take_chunk(l: Listing, input: &mut [u8], out: &mut [u8]) -> Listed {
-    let got = get(input);
+fn take_chunk(
+    input: &mut impl Read,
+    rt: &impl Print,
+    l: Listing,
+    chunk: &mut [u8],
+    out: &mut [u8],
+) -> Listed {
+    let got = get(input, chunk);
     match got {
         Got::Chunk(n) => {
-            if n <= input.len() {
-                list_chunk(l, &input[0..n], out)
+            if n <= chunk.len() {
+                list_chunk(rt, l, &chunk[0..n], out)
             } else {
                 Listed {
                     listing: l,
@@ -104,59 +113,56 @@ fn take_chunk(l: Listing, input: &mut [u8], out: &mut [u8]) -> Listed {
     }
 }
 
-// Chunk by chunk to the end of the input. Nothing says that an input ends, so the count of chunks falls from a number that no run uses up.
-fn list_all(input: &mut [u8], out: &mut [u8]) -> Listed {
+// Chunk by chunk to the end of the input. Nothing says that an input ends, so the chunks are counted, up to a number that no run uses up.
+fn list_all(input: &mut impl Read, rt: &impl Print, chunk: &mut [u8], out: &mut [u8]) -> Listed {
     let mut l = Listed {
         listing: Listing::new(),
         state: State::Open,
     };
-    let mut turns = u64::MAX;
-    while 0 < turns {
+    for _ in 0..u64::MAX {
         let state = l.state;
         let State::Open = state else {
             return l;
         };
-        l = take_chunk(l.listing, input, out);
-        turns -= 1;
+        l = take_chunk(input, rt, l.listing, chunk, out);
     }
     l
 }
 
-// The text so far and the last line go out; whether they did.
-fn conclude(l: Listing, out: &mut [u8]) -> bool {
+// The text so far and the last line go out.
+fn conclude(rt: &impl Print, l: Listing, out: &mut [u8]) -> io::Result<()> {
     let verdict = l.verdict;
-    if !flush(out, l.at) {
-        return false;
-    }
+    flush(rt, out, l.at)?;
     let end = last_line::put_verdict(out, 0, verdict);
-    flush(out, end)
+    flush(rt, out, end)
 }
 
-fn complain(what: &[u8]) {
-    io::write_all(STDERR_FILENO, what);
+// Says where a write failed.
+fn tell(rt: &impl Eprint, written: io::Result<()>) -> io::Result<()> {
+    match written {
+        Ok(()) => Ok(()),
+        Err(e) => unwritten(rt, NAME, e.kind()),
+    }
 }
 
-fn finish(l: Listed, out: &mut [u8]) {
+fn finish(rt: &(impl Print + Eprint), l: Listed, out: &mut [u8]) -> io::Result<()> {
     let state = l.state;
     let listing = l.listing;
     match state {
         State::Unread => {
-            flush(out, listing.at);
-            complain(b"events: standard input cannot be read\n");
+            let flushed = flush(rt, out, listing.at);
+            unread(rt, NAME)?;
+            tell(rt, flushed)
         }
-        State::Unwritten => complain(b"events: standard output cannot be written\n"),
-        _ => {
-            if !conclude(listing, out) {
-                complain(b"events: standard output cannot be written\n");
-            }
-        }
+        State::Unwritten(why) => unwritten(rt, NAME, why),
+        _ => tell(rt, conclude(rt, listing, out)),
     }
 }
 
-// A chunk of 4,096 bytes, whose lines fit the text.
-fn main() {
-    let mut input = io::buffer();
-    let mut out = io::large_buffer();
-    let l = list_all(&mut input, &mut out);
-    finish(l, &mut out);
+// A chunk of 4,096 bytes, whose lines fit the text. Only a line that standard error doesn't take ends it with an error of its own.
+fn main(rt: HostRuntime) -> io::Result<()> {
+    let mut chunk = [0u8; 4096];
+    let mut out = [0u8; 65536];
+    let l = list_all(&mut rt.stdin(), &rt, &mut chunk, &mut out);
+    finish(&rt, l, &mut out)
 }

@@ -1,28 +1,30 @@
 // Copies the message on standard input to standard output, every field in its shortest form, chunk by chunk through the copier.
 // Nothing else goes to standard output. Where the message isn't complete, or a read or a write fails, a line on standard error says so.
-use piping::{
-    BROKEN, Copy, INCOMPLETE, UNREAD, UNWRITTEN, broken, copy_all, drain, incomplete, start,
-    unread, unwritten,
-};
+#![tactic(auto)]
 
-const NAME: [u8; 8] = *b"manifest";
+use piping::{Copy, State, broken, copy_all, drain, incomplete, start, unread, unwritten};
+use std::io;
+
+const NAME: &str = "manifest";
 
 // The rest goes out, and what is wrong is said: a failed write first, since then the output is too short.
-fn finish(c: Copy, out: &[u8]) {
-    let left = drain(c, out);
+fn finish(rt: &(impl Print + Eprint), c: Copy, out: &[u8]) -> io::Result<()> {
+    let left = drain(rt, c, out);
     let state = left.state;
     match state {
-        UNWRITTEN => unwritten(&NAME),
-        UNREAD => unread(&NAME),
-        BROKEN => broken(&NAME, left.bytes),
-        INCOMPLETE => incomplete(&NAME, left.bytes),
-        _ => (),
+        State::Unwritten(why) => unwritten(rt, NAME, why),
+        State::Unread => unread(rt, NAME),
+        State::Broken => broken(rt, NAME, left.bytes),
+        State::Incomplete => incomplete(rt, NAME, left.bytes),
+        _ => Ok(()),
     }
 }
 
-fn main() {
-    let mut input = io::large_buffer();
-    let mut out = io::large_buffer();
-    let c = copy_all(start(&out, 0, false), &mut input, &mut out);
-    finish(c, &out);
+// Only a line that standard error doesn't take ends it with an error of its own.
+fn main(rt: HostRuntime) -> io::Result<()> {
+    let mut input = [0u8; 65536];
+    let mut out = [0u8; 65536];
+    let begun = start(&out, 0, false);
+    let c = copy_all(&mut rt.stdin(), &rt, begun, &mut input, &mut out);
+    finish(&rt, c, &out)
 }

@@ -1,5 +1,7 @@
 // The words of a script's row: the call that it names, what it sets on the desk, and whether a call left what it says. The README.md of the
 // crate `vectors` says what a row has.
+#![tactic(auto)]
+
 use check::same;
 use script::{after, end_of, unhex, word};
 use std::num::wrapping_add_u64;
@@ -10,8 +12,7 @@ pub const UNKNOWN: u32 = 29;
 // ---- what a row says
 
 pub fn code(name: &[u8]) -> u32 {
-    let mut k: u32 = 0;
-    while k < UNKNOWN {
+    for k in 0..UNKNOWN {
         let known = word(
             b"buffer unsigned signed boolean fixlen fp32 fp64 str blob unsigneds signeds fp32s fp64s begin end keep flush set fp32_bits fp64_bits open read gather part copier copy copied copy_set fresh",
             k,
@@ -19,7 +20,6 @@ pub fn code(name: &[u8]) -> u32 {
         if same(known, name) {
             return k;
         }
-        k += 1;
     }
     UNKNOWN
 }
@@ -34,10 +34,8 @@ fn digit(b: u8) -> u64 {
 
 fn number(text: &[u8]) -> u64 {
     let mut n: u64 = 0;
-    let mut i: usize = 0;
-    while i < text.len() {
-        n = wrapping_add_u64(wrapping_add_u64(n << 3, n << 1), digit(text[i]));
-        i += 1;
+    for &b in text {
+        n = wrapping_add_u64(wrapping_add_u64(n << 3, n << 1), digit(b));
     }
     n
 }
@@ -81,10 +79,8 @@ pub fn bytes_of(hex: &[u8]) -> Bytes {
 
 // A row's numbers and its answer are its own: these words begin at zero.
 pub fn cleared(mut desk: [u64; 32]) -> [u64; 32] {
-    let mut i: usize = 23;
-    while i < 32 {
+    for i in 23..32 {
         desk[i] = 0;
-        i += 1;
     }
     desk
 }
@@ -92,12 +88,10 @@ pub fn cleared(mut desk: [u64; 32]) -> [u64; 32] {
 // ---- what a call left
 
 fn same_words(a: [u64; 32], b: [u64; 32]) -> bool {
-    let mut i: usize = 0;
-    while i < 32 {
+    for i in 0..32 {
         if a[i] != b[i] {
             return false;
         }
-        i += 1;
     }
     true
 }

@@ -1,7 +1,9 @@
 // A script on standard input, a case to a line, its words parted by one blank; and what is printed. A word that isn't there is empty.
+#![tactic(auto)]
+
 ghost use Rattle.std.specs.Prelude.{◌≤◌, length};
 
-use libc::STDOUT_FILENO;
+use std::io;
 
 // ---- parts of a text
 
@@ -76,16 +78,14 @@ fn put_digit(out: &mut [u8], digits: usize, v: u8) -> usize {
 // The bytes of a word in hexadecimal, as far as there is room; how many went in. What is no digit is passed over.
 pub fn unhex(word: &[u8], out: &mut [u8]) -> usize {
     let mut digits: usize = 0;
-    let mut i: usize = 0;
-    while i < word.len() {
-        digits = put_digit(out, digits, nibble(word[i]));
-        i += 1;
+    for &b in word {
+        digits = put_digit(out, digits, nibble(b));
     }
     digits / 2
 }
 
 // ---- what is printed
 
-pub fn say(text: &[u8]) {
-    io::write_all(STDOUT_FILENO, text);
+pub fn say(rt: &impl Print, text: &[u8]) -> io::Result<()> {
+    rt.write_all(text)
 }

@@ -2,6 +2,7 @@
 use crate::draw;
 use last_line::Verdict;
 use listing::Listing;
+use std::io;
 use std::num::wrapping_add_u64;
 
 // What a reading comes to: it is the same for the same events, and for others hardly ever.
@@ -19,10 +20,8 @@ fn plus(sum: u64, b: u8) -> u64 {
 
 fn add(start: u64, text: &[u8]) -> u64 {
     let mut sum = start;
-    let mut i: usize = 0;
-    while i < text.len() {
-        sum = plus(sum, text[i]);
-        i += 1;
+    for &b in text {
+        sum = plus(sum, b);
     }
     sum
 }
@@ -43,8 +42,8 @@ fn end(mut s: Sum, verdict: Verdict) -> Sum {
 
 // The bytes, torn and read: the lines of a chunk, as far as there is room for them, and where it is spent another chunk. At the end the
 // verdict stays. Nothing but the count says to the prover that it ends.
-pub fn read(bytes: &[u8], seed: u64, asked: bool) -> Sum {
-    let mut text = io::large_buffer();
+pub fn read(err: &impl Print, bytes: &[u8], seed: u64, asked: bool) -> io::Result<Sum> {
+    let mut text = [0u8; 65536];
     let mut listing = Listing::new();
     let mut cut = draw::start(seed, 0, asked);
     let mut s = Sum {
@@ -52,22 +51,23 @@ pub fn read(bytes: &[u8], seed: u64, asked: bool) -> Sum {
         bytes: 0,
         complete: false,
     };
-    let mut turns = u64::MAX;
-    while 0 < turns && !cut.over {
+    for _ in 0..u64::MAX {
+        if cut.over {
+            break;
+        }
         listing = listing::list(listing, draw::part(bytes, cut.from, cut.to), &mut text);
         s = summed(s, &text, listing.at);
         listing = listing.emptied();
         if !listing.more {
             cut.from = cut.to;
-            cut = draw::chunk(cut, bytes.len());
+            cut = draw::chunk(err, cut, bytes.len())?;
             if !cut.over {
                 listing = listing.chunk();
             }
         }
-        turns -= 1;
     }
     let verdict = listing.verdict;
-    end(s, verdict)
+    Ok(end(s, verdict))
 }
 
 // Whether both are complete and have the same lines.

@@ -1,5 +1,5 @@
 // Random numbers, and what they choose: where a message is cut, when a buffer is drained, and how long it is.
-use libc::STDERR_FILENO;
+use std::io;
 use std::num::wrapping_add_usize;
 
 // The last number drawn, the chunk's rest, whether it is over, and whether the cuts are shown; of a copy, the last verdict, whether the
@@ -52,25 +52,25 @@ pub fn length(r: u64, most: usize) -> usize {
     if n < most as u64 { n as usize } else { most }
 }
 
-// A number and the text after it: whether all of it went out.
-pub fn say(fd: i32, n: u64, after: &[u8]) -> bool {
-    io::print_decimal(fd, n) && io::write_all(fd, after)
+// A number and the text after it.
+pub fn say(to: &impl Print, n: u64, after: &str) -> io::Result<()> {
+    print!(to; "{n}{after}")
 }
 
 // The chunk is spent: another one of a message of `len` bytes, also an empty one, or the end. A drain comes at the end, and now and then
-// between.
-pub fn chunk(mut c: Cut, len: usize) -> Cut {
+// between. Where the cuts are shown, they go to `err`.
+pub fn chunk(err: &impl Print, mut c: Cut, len: usize) -> io::Result<Cut> {
     let random = next(c.random);
     let left = if c.from <= len { len - c.from } else { 0 };
     let n = length(random, left);
     if c.asked {
-        say(STDERR_FILENO, n as u64, b" ");
+        say(err, n as u64, " ")?;
     }
     c.random = random;
     c.to = wrapping_add_usize(c.from, n);
     c.over = (left == 0) & ((random >> 8) % 4 == 0);
     c.drain = c.over | ((random >> 5) % 4 == 0);
-    c
+    Ok(c)
 }
 
 // The bytes from a place to another, where they are there.

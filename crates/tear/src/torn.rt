@@ -4,6 +4,7 @@ use crate::draw::Cut;
 use copier::{Answer, Copied, Copier};
 use istream::Status;
 use ostream::Count;
+use std::io;
 use std::num::wrapping_add_usize;
 
 #[derive(Clone, Copy)]
@@ -13,13 +14,13 @@ struct Torn {
 }
 
 // What a call comes to that used so much of the chunk: at "full" a drain, at a verdict another chunk.
-fn heard(mut c: Cut, answer: Answer, used: usize, len: usize) -> Cut {
+fn heard(err: &impl Print, mut c: Cut, answer: Answer, used: usize, len: usize) -> io::Result<Cut> {
     c.from = wrapping_add_usize(c.from, used);
     c.drain = true;
     match answer {
         Answer::Full => (),
         Answer::Status(s) => {
-            c = draw::chunk(c, len);
+            c = draw::chunk(err, c, len)?;
             if let Status::Complete = s {
                 c.complete = true;
             } else {
@@ -28,7 +29,7 @@ fn heard(mut c: Cut, answer: Answer, used: usize, len: usize) -> Cut {
         }
         Answer::Refused(_) => c.broken = true,
     }
-    c
+    Ok(c)
 }
 
 // The buffer's first bytes are sent. They must be the next ones of the copy expected, of a message that isn't broken, or it is over.
@@ -46,38 +47,59 @@ fn sent(mut c: Cut, count: Count, buf: &[u8], manifest: &[u8]) -> Cut {
 }
 
 // What a call leaves, and its buffer's bytes are drained, where they are to be.
-fn drained(copied: Copied, c: Cut, len: usize, buf: &[u8], manifest: &[u8]) -> Torn {
+fn drained(
+    err: &impl Print,
+    copied: Copied,
+    c: Cut,
+    len: usize,
+    buf: &[u8],
+    manifest: &[u8],
+) -> io::Result<Torn> {
     let answer = copied.answer;
     let copier = copied.copier;
-    let cut = heard(c, answer, copied.used, len);
+    let cut = heard(err, c, answer, copied.used, len)?;
     if !cut.drain {
-        return Torn { copier, cut };
+        return Ok(Torn { copier, cut });
     }
     let drained = copier.flush(buf);
     let bytes = drained.answer;
     let next = drained.copier;
-    Torn {
+    Ok(Torn {
         copier: next,
         cut: sent(cut, bytes, buf, manifest),
-    }
+    })
 }
 
 // One call on the chunk's rest, and the drain after it.
-fn turn(t: Torn, ticket: &[u8], manifest: &[u8], buf: &mut [u8]) -> Torn {
+fn turn(
+    err: &impl Print,
+    t: Torn,
+    ticket: &[u8],
+    manifest: &[u8],
+    buf: &mut [u8],
+) -> io::Result<Torn> {
     let c = t.cut;
     let copied = t.copier.feed(draw::part(ticket, c.from, c.to), buf);
-    drained(copied, c, ticket.len(), buf, manifest)
+    drained(err, copied, c, ticket.len(), buf, manifest)
 }
 
 // A copy to its end, in so many calls at most. Nothing but their count says to the prover that it ends.
-pub fn copy(ticket: &[u8], manifest: &[u8], buf: &mut [u8], cut: Cut, calls: u64) -> Cut {
+pub fn copy(
+    err: &impl Print,
+    ticket: &[u8],
+    manifest: &[u8],
+    buf: &mut [u8],
+    cut: Cut,
+    calls: u64,
+) -> io::Result<Cut> {
     let opened = Copier::new(buf, 0);
     let copier = opened.copier;
     let mut t = Torn { copier, cut };
-    let mut left = calls;
-    while 0 < left && !t.cut.over {
-        t = turn(t, ticket, manifest, buf);
-        left -= 1;
+    for _ in 0..calls {
+        if t.cut.over {
+            break;
+        }
+        t = turn(err, t, ticket, manifest, buf)?;
     }
-    t.cut
+    Ok(t.cut)
 }

@@ -1,7 +1,7 @@
 // What the tour prints, and the rest of a chunk.
 use event::Event;
 use istream::{Answer, Status};
-use libc::STDOUT_FILENO;
+use std::io;
 
 // The chunk from there on; nothing beyond its end.
 pub fn rest(chunk: &[u8], from: usize) -> &[u8] {
@@ -12,35 +12,32 @@ pub fn rest(chunk: &[u8], from: usize) -> &[u8] {
     }
 }
 
-pub fn title(word: &[u8]) {
-    io::write_all(STDOUT_FILENO, b"\n");
-    io::write_all(STDOUT_FILENO, word);
-    io::write_all(STDOUT_FILENO, b"\n");
+pub fn title(rt: &impl Print, word: &str) -> io::Result<()> {
+    println!(rt; "\n{word}")
 }
 
 // An event's lines, as the program `list_events` prints them.
-pub fn event(event: Event, chunk: &[u8]) {
-    let mut text = io::buffer();
+pub fn event(rt: &impl Print, event: Event, chunk: &[u8]) -> io::Result<()> {
+    let mut text = [0u8; 4096];
     let end = lines::put_event(&mut text, 0, chunk, event);
-    if end <= text.len() {
-        io::write_all(STDOUT_FILENO, &text[0..end]);
-    }
+    bytes(rt, &text, end)
 }
 
-pub fn verdict(answer: Answer) {
+pub fn verdict(rt: &impl Print, answer: Answer) -> io::Result<()> {
     if let Answer::Status(s) = answer {
         match s {
-            Status::Complete => io::write_all(STDOUT_FILENO, b"complete so far\n"),
-            Status::Incomplete => io::write_all(STDOUT_FILENO, b"incomplete so far\n"),
-        };
+            Status::Complete => println!(rt; "complete so far"),
+            Status::Incomplete => println!(rt; "incomplete so far"),
+        }
     } else {
-        io::write_all(STDOUT_FILENO, b"broken\n");
+        println!(rt; "broken")
     }
 }
 
 // The first n bytes of a buffer.
-pub fn bytes(buf: &[u8], n: usize) {
-    if n <= buf.len() {
-        io::write_all(STDOUT_FILENO, &buf[0..n]);
+pub fn bytes(rt: &impl Print, buf: &[u8], n: usize) -> io::Result<()> {
+    if buf.len() < n {
+        return Ok(());
     }
+    rt.write_all(&buf[0..n])
 }

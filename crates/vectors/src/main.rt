@@ -1,12 +1,16 @@
 // Makes the calls of the script on standard input, a row each, and holds every call to what its row says: its answer, its state and the
 // buffer. A row that differs is printed; at the end, how many calls there were and how many differ. README.md says what a row has.
+// A read or a write that fails ends it with that error.
+#![tactic(auto)]
+
 mod calls;
 
 use calls::call;
-use libc::{STDIN_FILENO, STDOUT_FILENO};
 use rows::{Bytes, UNKNOWN, bytes_of, cleared, code, right, same_part, set};
 use script::{after, end_of, first, say, word};
+use std::io::{self, Read};
 use std::num::wrapping_add_u64;
+use streams::read_full;
 use trace::gatherer::trace_part;
 
 // Rows that make no call: a buffer is lent, a fresh desk begins; and one takes a part.
@@ -31,15 +35,15 @@ struct Run {
 
 // ---- a call
 
-fn counted(mut run: Run, right: bool, row: &[u8]) -> Run {
+fn counted(rt: &impl Print, mut run: Run, right: bool, row: &[u8]) -> io::Result<Run> {
     run.calls = wrapping_add_u64(run.calls, 1);
     if right {
-        return run;
+        return Ok(run);
     }
     run.differ = wrapping_add_u64(run.differ, 1);
-    say(row);
-    say(b"\n");
-    run
+    say(rt, row)?;
+    say(rt, b"\n")?;
+    Ok(run)
 }
 
 // The call, with the bytes behind `<`. A writer's and a copier's find their number on the desk; no other looks there, and each leaves its
@@ -56,7 +60,7 @@ fn called(mut run: Run, code: u32, given: &[u8]) -> Run {
     run
 }
 
-fn made(mut run: Run, code: u32, row: &[u8]) -> Run {
+fn made(rt: &impl Print, mut run: Run, code: u32, row: &[u8]) -> io::Result<Run> {
     let name = end_of(row, 0, b' ');
     let mid = end_of(row, name, b'=');
     let given = &row[name..mid];
@@ -67,7 +71,7 @@ fn made(mut run: Run, code: u32, row: &[u8]) -> Run {
     let old = run.buf;
     let new = left.buf;
     let is = left.desk;
-    counted(left, right(&row[mid..], before, is, old, new), row)
+    counted(rt, left, right(&row[mid..], before, is, old, new), row)
 }
 
 // The part that the gatherer's second call returns.
@@ -88,11 +92,12 @@ fn part(run: Run, desk: [u64; 32], bytes: Bytes) -> Bytes {
 }
 
 // That call is on the answer of the row before or of its own words.
-fn parted(run: Run, row: &[u8]) -> Run {
+fn parted(rt: &impl Print, run: Run, row: &[u8]) -> io::Result<Run> {
     let name = end_of(row, 0, b' ');
     let start = run.desk;
     let desk = set(&row[name..], start);
     counted(
+        rt,
         run,
         same_part(row, part(run, desk, bytes_of(after(row, b'<')))),
         row,
@@ -114,32 +119,32 @@ fn fresh(mut run: Run) -> Run {
 }
 
 // A row that begins with `#` is a remark.
-fn row(run: Run, text: &[u8]) -> Run {
+fn row(rt: &impl Print, run: Run, text: &[u8]) -> io::Result<Run> {
     if text.len() == 0 {
-        return run;
+        return Ok(run);
     }
     if text[0] == b'#' {
-        return run;
+        return Ok(run);
     }
     let code = code(word(text, 0));
     match code {
-        BUFFER => lent(run, word(text, 1)),
-        FRESH => fresh(run),
-        PART => parted(run, text),
-        UNKNOWN => counted(run, false, text),
-        _ => made(run, code, text),
+        BUFFER => Ok(lent(run, word(text, 1))),
+        FRESH => Ok(fresh(run)),
+        PART => parted(rt, run, text),
+        UNKNOWN => counted(rt, run, false, text),
+        _ => made(rt, run, code, text),
     }
 }
 
-fn all_rows(start: Run, script: &[u8]) -> Run {
+fn all_rows(rt: &impl Print, start: Run, script: &[u8]) -> io::Result<Run> {
     let mut run = start;
     let mut i: usize = 0;
     while i < script.len() {
         let e = end_of(script, i, b'\n');
-        run = row(run, &script[i..e]);
+        run = row(rt, run, &script[i..e])?;
         i = e + 1;
     }
-    run
+    Ok(run)
 }
 
 fn begin() -> Run {
@@ -152,27 +157,22 @@ fn begin() -> Run {
     }
 }
 
-// Block by block. A proved loop has to end, and nothing says that the input does: so the turns are counted down, from a number that no
+// Block by block. A proved loop has to end, and nothing says that the input does: so the turns are counted, up to a number that no
 // run uses up.
-fn blocks() -> Run {
-    let mut block = io::large_buffer();
+fn blocks(input: &mut impl Read, rt: &impl Print) -> io::Result<Run> {
+    let mut block = [0u8; BLOCK];
     let mut run = begin();
-    let mut turns = u64::MAX;
-    while 0 < turns {
-        let n = io::read_full(STDIN_FILENO, &mut block);
-        run = all_rows(run, &block[0..n]);
+    for _ in 0..u64::MAX {
+        let n = read_full(input, &mut block)?;
+        run = all_rows(rt, run, &block[0..n])?;
         if n < BLOCK {
-            return run;
+            break;
         }
-        turns -= 1;
     }
-    run
+    Ok(run)
 }
 
-fn main() {
-    let run = blocks();
-    io::print_decimal(STDOUT_FILENO, run.calls);
-    say(b" calls, ");
-    io::print_decimal(STDOUT_FILENO, run.differ);
-    say(b" differences\n");
+fn main(rt: HostRuntime) -> io::Result<()> {
+    let run = blocks(&mut rt.stdin(), &rt)?;
+    println!(rt; "{} calls, {} differences", run.calls, run.differ)
 }

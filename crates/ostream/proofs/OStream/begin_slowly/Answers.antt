@@ -1,5 +1,5 @@
 -- `ostream::OStream::begin_slowly`: the refusals; then one more is held, or all that are held go out.
-use Prim.Native.Nat.{ℕ, ◌<◌}
+use Prim.Native.Nat.{ℕ, ◌+◌, ◌<◌}
 use mathlib.Core.Bool.{Bool}
 use mathlib.Core.List.{[], ◌∷◌, ◌++◌}
 use mathlib.Core.Path.{◌≡◌, refl, ap, ◌∙◌}
@@ -15,7 +15,7 @@ use Rattle.checks.proofs.Checks.{check_passes, check_fails}
 use Rattle.ostream.proofs.Calls.{Sound, refuses, settles, alters, begin_knows, few_clears}
 use borrow.Author.Tests.{lt-ltb, le-ltb}
 use Rattle.ostream.specs.declared.OStream.{OStream}
-use Rattle.ostream.specs.Stream.{lazy_depth, held_bytes, holding}
+use Rattle.ostream.specs.Stream.{lazy_depth, held_bytes, holding, committed}
 use Rattle.ostream.specs.Private.{unwritten}
 use Rattle.ostream.specs.Calls.{begin_call}
 use borrow.Author.Rules.{rules}
@@ -46,4 +46,4 @@ pub returns : goal.returns
 unfolding held_bytes field_bytes
 returns c =
     let n = le-ltb c.args.self.npending lazy_depth c.if-self.false in
-    settles (begin_call c.args.self (length c.args.buf.now) c.args.id) _ _ _ _ _ _ _ _ (simp n (ap (λ (h : ℕ). held_bytes c.args.self ++ shortest h) c.tagged-header.ensures)) (simp n) (let passes : (judged (begin_call c.args.self (length c.args.buf.now) c.args.id).tests) ≡ accepted = check_passes (judged (begin_call c.args.self (length c.args.buf.now) c.args.id).tests) _ (let judges : c.check_begin-check.result ≡ check_of (judged (begin_call c.args.self (length c.args.buf.now) c.args.id).tests) = c.check_begin-check.ensures ∙ ap (λ (sound : Bool). check_of (judged (unsound_writer sound ∷ deepest c.args.self.depth ∷ id_too_large c.args.id ∷ []))) c.sound.ensures in judges) c.if-not-check.false in passes) c.put_marker-outcome.ensures c.settle.ensures
+    settles (begin_call c.args.self (length c.args.buf.now) c.args.id) c.args.self c.args.buf.now c.args.place _ _ (committed c.args.self (c.args.self.depth + 1)) _ _ (simp n (ap (λ (h : ℕ). held_bytes c.args.self ++ shortest h) c.tagged-header.ensures)) (simp n) (let passes : (judged (begin_call c.args.self (length c.args.buf.now) c.args.id).tests) ≡ accepted = check_passes (judged (begin_call c.args.self (length c.args.buf.now) c.args.id).tests) _ (let judges : c.check_begin-check.result ≡ check_of (judged (begin_call c.args.self (length c.args.buf.now) c.args.id).tests) = c.check_begin-check.ensures ∙ ap (λ (sound : Bool). check_of (judged (unsound_writer sound ∷ deepest c.args.self.depth ∷ id_too_large c.args.id ∷ []))) c.sound.ensures in judges) c.if-not-check.false in passes) c.put_marker-outcome.ensures c.settle.ensures

@@ -21,25 +21,22 @@ returns-then-items-first c = resumed_end (λ x. low_bytes 8 (to_bits binary64 x)
 pub put_part-at-requires : goal.put_part-at-requires
 put_part-at-requires c = (omega arith, resumed_part (λ x. low_bytes 8 (to_bits binary64 x)) _ _ _ _ _ _ _ (let start : Resumed (λ x. low_bytes 8 (to_bits binary64 x)) c.args.items.now c.args.cursor c.args.buf.now c.args.buf.now c.args.cursor.pos c.evenly_out-out.result.whole c.evenly_out-out.result.part = resumed_start (λ x. low_bytes 8 (to_bits binary64 x)) _ c.args.cursor _ _ _ c.requires (out_evenly (λ x. low_bytes 8 (to_bits binary64 x)) _ 8 (omega arith) (λ x. length_low 8 (to_bits binary64 x)) _ _ _ c.evenly_out-out.ensures.0 c.evenly_out-out.ensures.1 c.evenly_out-out.ensures.2) in start) 8 (λ x. length_low 8 (to_bits binary64 x)) c.if-items-first.false)
 
-begun : (c : goal.After-slice_known-2-1) → Resumed (λ x. low_bytes 8 (to_bits binary64 x)) c.args.items.now c.args.cursor c.args.buf.now c.put_part-at.new.buf c.put_part-at.result (c.evenly_out-out.result.whole + 1) 0
-begun c = resumed_next (λ x. low_bytes 8 (to_bits binary64 x)) _ _ _ _ _ _ _ (let start : Resumed (λ x. low_bytes 8 (to_bits binary64 x)) c.args.items.now c.args.cursor c.args.buf.now c.args.buf.now c.args.cursor.pos c.evenly_out-out.result.whole c.evenly_out-out.result.part = resumed_start (λ x. low_bytes 8 (to_bits binary64 x)) _ c.args.cursor _ _ _ c.requires (out_evenly (λ x. low_bytes 8 (to_bits binary64 x)) _ 8 (omega arith) (λ x. length_low 8 (to_bits binary64 x)) _ _ _ c.evenly_out-out.ensures.0 c.evenly_out-out.ensures.1 c.evenly_out-out.ensures.2) in start) some _ _ _ _ c.if-items-first.false (ap (λ (v : ℕ). drop c.evenly_out-out.result.part (low_bytes 8 v)) c.fp64_bits.ensures) c.put_part-at.ensures
-
 pub put_eight_floats-end-requires : goal.put_eight_floats-end-requires
-put_eight_floats-end-requires c = let k : c.evenly_out-out.result.whole + 1 + (c.least.result) - (c.evenly_out-out.result.whole + 1) ≡ (c.least.result) = omega arith in rw k (run_fits (λ x. low_bytes 8 (to_bits binary64 x)) _ _ _ _ _ _ (begun c.before.before.before) 8 (omega arith) (λ x. length_low 8 (to_bits binary64 x)) (c.least.result) c.least.ensures)
+put_eight_floats-end-requires c = let k : c.evenly_out-out.result.whole + 1 + (c.least.result) - (c.evenly_out-out.result.whole + 1) ≡ (c.least.result) = omega arith in rw k (run_fits (λ x. low_bytes 8 (to_bits binary64 x)) _ _ _ _ _ _ (let begun : Resumed (λ x. low_bytes 8 (to_bits binary64 x)) c.args.items.now c.args.cursor c.args.buf.now c.put_part-at.new.buf c.put_part-at.result (c.evenly_out-out.result.whole + 1) 0 = resumed_next (λ x. low_bytes 8 (to_bits binary64 x)) _ _ _ _ _ _ _ (let start : Resumed (λ x. low_bytes 8 (to_bits binary64 x)) c.args.items.now c.args.cursor c.args.buf.now c.args.buf.now c.args.cursor.pos c.evenly_out-out.result.whole c.evenly_out-out.result.part = resumed_start (λ x. low_bytes 8 (to_bits binary64 x)) _ c.args.cursor _ _ _ c.requires (out_evenly (λ x. low_bytes 8 (to_bits binary64 x)) _ 8 (omega arith) (λ x. length_low 8 (to_bits binary64 x)) _ _ _ c.evenly_out-out.ensures.0 c.evenly_out-out.ensures.1 c.evenly_out-out.ensures.2) in start) some _ _ _ _ c.if-items-first.false (ap (λ (v : ℕ). drop c.evenly_out-out.result.part (low_bytes 8 v)) c.fp64_bits.ensures) c.put_part-at.ensures in begun) 8 (omega arith) (λ x. length_low 8 (to_bits binary64 x)) (c.least.result) c.least.ensures)
 
 pub returns-then-items-last : goal.returns-then-items-last
-returns-then-items-last c = resumed_end (λ x. low_bytes 8 (to_bits binary64 x)) _ _ _ _ _ _ _ (let ran : Resumed (λ x. low_bytes 8 (to_bits binary64 x)) c.args.items.now c.args.cursor c.args.buf.now c.put_eight_floats-end.new.buf c.put_eight_floats-end.result (c.evenly_out-out.result.whole + 1 + c.least.result) 0 = resumed_run (λ x. low_bytes 8 (to_bits binary64 x)) _ _ _ _ _ _ (begun c.before.before.before.before.before.before) some _ _ _ (let whole : Puts c.put_part-at.new.buf c.put_part-at.result (each (λ x. low_bytes 8 (to_bits binary64 x)) (take c.least.result (drop (c.evenly_out-out.result.whole + 1) c.args.items.now))) c.put_eight_floats-end.new.buf c.put_eight_floats-end.result = let i = c.evenly_out-out.result.whole + 1 in
+returns-then-items-last c = resumed_end (λ x. low_bytes 8 (to_bits binary64 x)) _ _ _ _ _ _ _ (let ran : Resumed (λ x. low_bytes 8 (to_bits binary64 x)) c.args.items.now c.args.cursor c.args.buf.now c.put_eight_floats-end.new.buf c.put_eight_floats-end.result (c.evenly_out-out.result.whole + 1 + c.least.result) 0 = resumed_run (λ x. low_bytes 8 (to_bits binary64 x)) _ _ _ _ _ _ (let begun : Resumed (λ x. low_bytes 8 (to_bits binary64 x)) c.args.items.now c.args.cursor c.args.buf.now c.put_part-at.new.buf c.put_part-at.result (c.evenly_out-out.result.whole + 1) 0 = resumed_next (λ x. low_bytes 8 (to_bits binary64 x)) _ _ _ _ _ _ _ (let start : Resumed (λ x. low_bytes 8 (to_bits binary64 x)) c.args.items.now c.args.cursor c.args.buf.now c.args.buf.now c.args.cursor.pos c.evenly_out-out.result.whole c.evenly_out-out.result.part = resumed_start (λ x. low_bytes 8 (to_bits binary64 x)) _ c.args.cursor _ _ _ c.requires (out_evenly (λ x. low_bytes 8 (to_bits binary64 x)) _ 8 (omega arith) (λ x. length_low 8 (to_bits binary64 x)) _ _ _ c.evenly_out-out.ensures.0 c.evenly_out-out.ensures.1 c.evenly_out-out.ensures.2) in start) some _ _ _ _ c.if-items-first.false (ap (λ (v : ℕ). drop c.evenly_out-out.result.part (low_bytes 8 v)) c.fp64_bits.ensures) c.put_part-at.ensures in begun) some _ _ _ (let whole : Puts c.put_part-at.new.buf c.put_part-at.result (each (λ x. low_bytes 8 (to_bits binary64 x)) (take c.least.result (drop (c.evenly_out-out.result.whole + 1) c.args.items.now))) c.put_eight_floats-end.new.buf c.put_eight_floats-end.result = let i = c.evenly_out-out.result.whole + 1 in
     let k : i + c.least.result - i ≡ c.least.result = omega arith in
     whole_as _ _ _ _ _ _ (ap (λ (m : ℕ). each (λ x. low_bytes 8 (to_bits binary64 x)) (take m (drop i c.args.items.now))) k) c.put_eight_floats-end.ensures in whole) in ran) c.if-items-last.true
 
 pub returns : goal.returns
 returns c =
-    let r = run_ends (λ x. low_bytes 8 (to_bits binary64 x)) _ _ _ _ _ _ (begun c.before.before.before.before.before.before.before.before.before.before.before.before.before) 8 (omega arith) (λ x. length_low 8 (to_bits binary64 x)) _ c.least.ensures c.if-items-last.false _ _ ((let whole : Puts c.put_part-at.new.buf c.put_part-at.result (each (λ x. low_bytes 8 (to_bits binary64 x)) (take c.least.result (drop (c.evenly_out-out.result.whole + 1) c.args.items.now))) c.put_eight_floats-end.new.buf c.put_eight_floats-end.result = let i = c.evenly_out-out.result.whole + 1 in
+    let r = run_ends (λ x. low_bytes 8 (to_bits binary64 x)) _ _ _ _ _ _ (let begun : Resumed (λ x. low_bytes 8 (to_bits binary64 x)) c.args.items.now c.args.cursor c.args.buf.now c.put_part-at.new.buf c.put_part-at.result (c.evenly_out-out.result.whole + 1) 0 = resumed_next (λ x. low_bytes 8 (to_bits binary64 x)) _ _ _ _ _ _ _ (let start : Resumed (λ x. low_bytes 8 (to_bits binary64 x)) c.args.items.now c.args.cursor c.args.buf.now c.args.buf.now c.args.cursor.pos c.evenly_out-out.result.whole c.evenly_out-out.result.part = resumed_start (λ x. low_bytes 8 (to_bits binary64 x)) _ c.args.cursor _ _ _ c.requires (out_evenly (λ x. low_bytes 8 (to_bits binary64 x)) _ 8 (omega arith) (λ x. length_low 8 (to_bits binary64 x)) _ _ _ c.evenly_out-out.ensures.0 c.evenly_out-out.ensures.1 c.evenly_out-out.ensures.2) in start) some _ _ _ _ c.if-items-first.false (ap (λ (v : ℕ). drop c.evenly_out-out.result.part (low_bytes 8 v)) c.fp64_bits.ensures) c.put_part-at.ensures in begun) 8 (omega arith) (λ x. length_low 8 (to_bits binary64 x)) _ c.least.ensures c.if-items-last.false _ _ ((let whole : Puts c.put_part-at.new.buf c.put_part-at.result (each (λ x. low_bytes 8 (to_bits binary64 x)) (take c.least.result (drop (c.evenly_out-out.result.whole + 1) c.args.items.now))) c.put_eight_floats-end.new.buf c.put_eight_floats-end.result = let i = c.evenly_out-out.result.whole + 1 in
     let k : i + c.least.result - i ≡ c.least.result = omega arith in
     whole_as _ _ _ _ _ _ (ap (λ (m : ℕ). each (λ x. low_bytes 8 (to_bits binary64 x)) (take m (drop i c.args.items.now))) k) c.put_eight_floats-end.ensures in whole)) in
-    resumed_last (λ x. low_bytes 8 (to_bits binary64 x)) _ _ _ _ _ _ ((let ran : Resumed (λ x. low_bytes 8 (to_bits binary64 x)) c.args.items.now c.args.cursor c.args.buf.now c.put_eight_floats-end.new.buf c.put_eight_floats-end.result (c.evenly_out-out.result.whole + 1 + c.least.result) 0 = resumed_run (λ x. low_bytes 8 (to_bits binary64 x)) _ _ _ _ _ _ (begun c.before.before.before.before.before.before) some _ _ _ (let whole : Puts c.put_part-at.new.buf c.put_part-at.result (each (λ x. low_bytes 8 (to_bits binary64 x)) (take c.least.result (drop (c.evenly_out-out.result.whole + 1) c.args.items.now))) c.put_eight_floats-end.new.buf c.put_eight_floats-end.result = let i = c.evenly_out-out.result.whole + 1 in
+    resumed_last (λ x. low_bytes 8 (to_bits binary64 x)) _ _ _ _ _ _ ((let ran : Resumed (λ x. low_bytes 8 (to_bits binary64 x)) c.args.items.now c.args.cursor c.args.buf.now c.put_eight_floats-end.new.buf c.put_eight_floats-end.result (c.evenly_out-out.result.whole + 1 + c.least.result) 0 = resumed_run (λ x. low_bytes 8 (to_bits binary64 x)) _ _ _ _ _ _ (let begun : Resumed (λ x. low_bytes 8 (to_bits binary64 x)) c.args.items.now c.args.cursor c.args.buf.now c.put_part-at.new.buf c.put_part-at.result (c.evenly_out-out.result.whole + 1) 0 = resumed_next (λ x. low_bytes 8 (to_bits binary64 x)) _ _ _ _ _ _ _ (let start : Resumed (λ x. low_bytes 8 (to_bits binary64 x)) c.args.items.now c.args.cursor c.args.buf.now c.args.buf.now c.args.cursor.pos c.evenly_out-out.result.whole c.evenly_out-out.result.part = resumed_start (λ x. low_bytes 8 (to_bits binary64 x)) _ c.args.cursor _ _ _ c.requires (out_evenly (λ x. low_bytes 8 (to_bits binary64 x)) _ 8 (omega arith) (λ x. length_low 8 (to_bits binary64 x)) _ _ _ c.evenly_out-out.ensures.0 c.evenly_out-out.ensures.1 c.evenly_out-out.ensures.2) in start) some _ _ _ _ c.if-items-first.false (ap (λ (v : ℕ). drop c.evenly_out-out.result.part (low_bytes 8 v)) c.fp64_bits.ensures) c.put_part-at.ensures in begun) some _ _ _ (let whole : Puts c.put_part-at.new.buf c.put_part-at.result (each (λ x. low_bytes 8 (to_bits binary64 x)) (take c.least.result (drop (c.evenly_out-out.result.whole + 1) c.args.items.now))) c.put_eight_floats-end.new.buf c.put_eight_floats-end.result = let i = c.evenly_out-out.result.whole + 1 in
     let k : i + c.least.result - i ≡ c.least.result = omega arith in
     whole_as _ _ _ _ _ _ (ap (λ (m : ℕ). each (λ x. low_bytes 8 (to_bits binary64 x)) (take m (drop i c.args.items.now))) k) c.put_eight_floats-end.ensures in whole) in ran)) some 8 (λ x. length_low 8 (to_bits binary64 x)) _ _ _ _ c.if-items-last.false (ap (low_bytes 8) c.fp64_bits-2.ensures) r c.put_part-stop.ensures
 
 pub overflow_sub-buf : goal.overflow_sub-buf
-overflow_sub-buf c = (begun c).inside
+overflow_sub-buf c = (let begun : Resumed (λ x. low_bytes 8 (to_bits binary64 x)) c.args.items.now c.args.cursor c.args.buf.now c.put_part-at.new.buf c.put_part-at.result (c.evenly_out-out.result.whole + 1) 0 = resumed_next (λ x. low_bytes 8 (to_bits binary64 x)) _ _ _ _ _ _ _ (let start : Resumed (λ x. low_bytes 8 (to_bits binary64 x)) c.args.items.now c.args.cursor c.args.buf.now c.args.buf.now c.args.cursor.pos c.evenly_out-out.result.whole c.evenly_out-out.result.part = resumed_start (λ x. low_bytes 8 (to_bits binary64 x)) _ c.args.cursor _ _ _ c.requires (out_evenly (λ x. low_bytes 8 (to_bits binary64 x)) _ 8 (omega arith) (λ x. length_low 8 (to_bits binary64 x)) _ _ _ c.evenly_out-out.ensures.0 c.evenly_out-out.ensures.1 c.evenly_out-out.ensures.2) in start) some _ _ _ _ c.if-items-first.false (ap (λ (v : ℕ). drop c.evenly_out-out.result.part (low_bytes 8 v)) c.fp64_bits.ensures) c.put_part-at.ensures in begun).inside

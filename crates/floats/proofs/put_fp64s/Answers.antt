@@ -20,25 +20,22 @@ returns-then-items-first c = resumed_end (low_bytes 8) _ _ _ _ _ _ _ (let start 
 pub put_part-at-requires : goal.put_part-at-requires
 put_part-at-requires c = (omega arith, resumed_part (low_bytes 8) _ _ _ _ _ _ _ (let start : Resumed (low_bytes 8) c.args.items.now c.args.cursor c.args.buf.now c.args.buf.now c.args.cursor.pos c.evenly_out-out.result.whole c.evenly_out-out.result.part = resumed_start (low_bytes 8) _ c.args.cursor _ _ _ c.requires (out_evenly (low_bytes 8) _ 8 (omega arith) (λ x. length_low 8 x) _ _ _ c.evenly_out-out.ensures.0 c.evenly_out-out.ensures.1 c.evenly_out-out.ensures.2) in start) 8 (λ x. length_low 8 x) c.if-items-first.false)
 
-begun : (c : goal.After-slice_known-2-1) → Resumed (low_bytes 8) c.args.items.now c.args.cursor c.args.buf.now c.put_part-at.new.buf c.put_part-at.result (c.evenly_out-out.result.whole + 1) 0
-begun c = resumed_next (low_bytes 8) _ _ _ _ _ _ _ (let start : Resumed (low_bytes 8) c.args.items.now c.args.cursor c.args.buf.now c.args.buf.now c.args.cursor.pos c.evenly_out-out.result.whole c.evenly_out-out.result.part = resumed_start (low_bytes 8) _ c.args.cursor _ _ _ c.requires (out_evenly (low_bytes 8) _ 8 (omega arith) (λ x. length_low 8 x) _ _ _ c.evenly_out-out.ensures.0 c.evenly_out-out.ensures.1 c.evenly_out-out.ensures.2) in start) some 0 _ _ _ c.if-items-first.false refl c.put_part-at.ensures
-
 pub put_eights-end-requires : goal.put_eights-end-requires
-put_eights-end-requires c = let k : c.evenly_out-out.result.whole + 1 + (c.least.result) - (c.evenly_out-out.result.whole + 1) ≡ (c.least.result) = omega arith in rw k (run_fits (low_bytes 8) _ _ _ _ _ _ (begun c.before.before.before) 8 (omega arith) (λ x. length_low 8 x) (c.least.result) c.least.ensures)
+put_eights-end-requires c = let k : c.evenly_out-out.result.whole + 1 + (c.least.result) - (c.evenly_out-out.result.whole + 1) ≡ (c.least.result) = omega arith in rw k (run_fits (low_bytes 8) _ _ _ _ _ _ (let begun : Resumed (low_bytes 8) c.args.items.now c.args.cursor c.args.buf.now c.put_part-at.new.buf c.put_part-at.result (c.evenly_out-out.result.whole + 1) 0 = resumed_next (low_bytes 8) _ _ _ _ _ _ _ (let start : Resumed (low_bytes 8) c.args.items.now c.args.cursor c.args.buf.now c.args.buf.now c.args.cursor.pos c.evenly_out-out.result.whole c.evenly_out-out.result.part = resumed_start (low_bytes 8) _ c.args.cursor _ _ _ c.requires (out_evenly (low_bytes 8) _ 8 (omega arith) (λ x. length_low 8 x) _ _ _ c.evenly_out-out.ensures.0 c.evenly_out-out.ensures.1 c.evenly_out-out.ensures.2) in start) some 0 _ _ _ c.if-items-first.false refl c.put_part-at.ensures in begun) 8 (omega arith) (λ x. length_low 8 x) (c.least.result) c.least.ensures)
 
 pub returns-then-items-last : goal.returns-then-items-last
-returns-then-items-last c = resumed_end (low_bytes 8) _ _ _ _ _ _ _ (let ran : Resumed (low_bytes 8) c.args.items.now c.args.cursor c.args.buf.now c.put_eights-end.new.buf c.put_eights-end.result (c.evenly_out-out.result.whole + 1 + c.least.result) 0 = resumed_run (low_bytes 8) _ _ _ _ _ _ (begun c.before.before.before.before.before.before) some _ _ _ (let whole : Puts c.put_part-at.new.buf c.put_part-at.result (each (low_bytes 8) (take c.least.result (drop (c.evenly_out-out.result.whole + 1) c.args.items.now))) c.put_eights-end.new.buf c.put_eights-end.result = let i = c.evenly_out-out.result.whole + 1 in
+returns-then-items-last c = resumed_end (low_bytes 8) _ _ _ _ _ _ _ (let ran : Resumed (low_bytes 8) c.args.items.now c.args.cursor c.args.buf.now c.put_eights-end.new.buf c.put_eights-end.result (c.evenly_out-out.result.whole + 1 + c.least.result) 0 = resumed_run (low_bytes 8) _ _ _ _ _ _ (let begun : Resumed (low_bytes 8) c.args.items.now c.args.cursor c.args.buf.now c.put_part-at.new.buf c.put_part-at.result (c.evenly_out-out.result.whole + 1) 0 = resumed_next (low_bytes 8) _ _ _ _ _ _ _ (let start : Resumed (low_bytes 8) c.args.items.now c.args.cursor c.args.buf.now c.args.buf.now c.args.cursor.pos c.evenly_out-out.result.whole c.evenly_out-out.result.part = resumed_start (low_bytes 8) _ c.args.cursor _ _ _ c.requires (out_evenly (low_bytes 8) _ 8 (omega arith) (λ x. length_low 8 x) _ _ _ c.evenly_out-out.ensures.0 c.evenly_out-out.ensures.1 c.evenly_out-out.ensures.2) in start) some 0 _ _ _ c.if-items-first.false refl c.put_part-at.ensures in begun) some _ _ _ (let whole : Puts c.put_part-at.new.buf c.put_part-at.result (each (low_bytes 8) (take c.least.result (drop (c.evenly_out-out.result.whole + 1) c.args.items.now))) c.put_eights-end.new.buf c.put_eights-end.result = let i = c.evenly_out-out.result.whole + 1 in
     let k : i + c.least.result - i ≡ c.least.result = omega arith in
     whole_as _ _ _ _ _ _ (ap (λ (m : ℕ). each (low_bytes 8) (take m (drop i c.args.items.now))) k) c.put_eights-end.ensures in whole) in ran) c.if-items-last.true
 
 pub returns : goal.returns
 returns c =
-    let r = run_ends (low_bytes 8) _ _ _ _ _ _ (begun c.before.before.before.before.before.before.before.before.before.before.before.before) 8 (omega arith) (λ x. length_low 8 x) _ c.least.ensures c.if-items-last.false _ _ ((let whole : Puts c.put_part-at.new.buf c.put_part-at.result (each (low_bytes 8) (take c.least.result (drop (c.evenly_out-out.result.whole + 1) c.args.items.now))) c.put_eights-end.new.buf c.put_eights-end.result = let i = c.evenly_out-out.result.whole + 1 in
+    let r = run_ends (low_bytes 8) _ _ _ _ _ _ (let begun : Resumed (low_bytes 8) c.args.items.now c.args.cursor c.args.buf.now c.put_part-at.new.buf c.put_part-at.result (c.evenly_out-out.result.whole + 1) 0 = resumed_next (low_bytes 8) _ _ _ _ _ _ _ (let start : Resumed (low_bytes 8) c.args.items.now c.args.cursor c.args.buf.now c.args.buf.now c.args.cursor.pos c.evenly_out-out.result.whole c.evenly_out-out.result.part = resumed_start (low_bytes 8) _ c.args.cursor _ _ _ c.requires (out_evenly (low_bytes 8) _ 8 (omega arith) (λ x. length_low 8 x) _ _ _ c.evenly_out-out.ensures.0 c.evenly_out-out.ensures.1 c.evenly_out-out.ensures.2) in start) some 0 _ _ _ c.if-items-first.false refl c.put_part-at.ensures in begun) 8 (omega arith) (λ x. length_low 8 x) _ c.least.ensures c.if-items-last.false _ _ ((let whole : Puts c.put_part-at.new.buf c.put_part-at.result (each (low_bytes 8) (take c.least.result (drop (c.evenly_out-out.result.whole + 1) c.args.items.now))) c.put_eights-end.new.buf c.put_eights-end.result = let i = c.evenly_out-out.result.whole + 1 in
     let k : i + c.least.result - i ≡ c.least.result = omega arith in
     whole_as _ _ _ _ _ _ (ap (λ (m : ℕ). each (low_bytes 8) (take m (drop i c.args.items.now))) k) c.put_eights-end.ensures in whole)) in
-    resumed_last (low_bytes 8) _ _ _ _ _ _ ((let ran : Resumed (low_bytes 8) c.args.items.now c.args.cursor c.args.buf.now c.put_eights-end.new.buf c.put_eights-end.result (c.evenly_out-out.result.whole + 1 + c.least.result) 0 = resumed_run (low_bytes 8) _ _ _ _ _ _ (begun c.before.before.before.before.before.before) some _ _ _ (let whole : Puts c.put_part-at.new.buf c.put_part-at.result (each (low_bytes 8) (take c.least.result (drop (c.evenly_out-out.result.whole + 1) c.args.items.now))) c.put_eights-end.new.buf c.put_eights-end.result = let i = c.evenly_out-out.result.whole + 1 in
+    resumed_last (low_bytes 8) _ _ _ _ _ _ ((let ran : Resumed (low_bytes 8) c.args.items.now c.args.cursor c.args.buf.now c.put_eights-end.new.buf c.put_eights-end.result (c.evenly_out-out.result.whole + 1 + c.least.result) 0 = resumed_run (low_bytes 8) _ _ _ _ _ _ (let begun : Resumed (low_bytes 8) c.args.items.now c.args.cursor c.args.buf.now c.put_part-at.new.buf c.put_part-at.result (c.evenly_out-out.result.whole + 1) 0 = resumed_next (low_bytes 8) _ _ _ _ _ _ _ (let start : Resumed (low_bytes 8) c.args.items.now c.args.cursor c.args.buf.now c.args.buf.now c.args.cursor.pos c.evenly_out-out.result.whole c.evenly_out-out.result.part = resumed_start (low_bytes 8) _ c.args.cursor _ _ _ c.requires (out_evenly (low_bytes 8) _ 8 (omega arith) (λ x. length_low 8 x) _ _ _ c.evenly_out-out.ensures.0 c.evenly_out-out.ensures.1 c.evenly_out-out.ensures.2) in start) some 0 _ _ _ c.if-items-first.false refl c.put_part-at.ensures in begun) some _ _ _ (let whole : Puts c.put_part-at.new.buf c.put_part-at.result (each (low_bytes 8) (take c.least.result (drop (c.evenly_out-out.result.whole + 1) c.args.items.now))) c.put_eights-end.new.buf c.put_eights-end.result = let i = c.evenly_out-out.result.whole + 1 in
     let k : i + c.least.result - i ≡ c.least.result = omega arith in
     whole_as _ _ _ _ _ _ (ap (λ (m : ℕ). each (low_bytes 8) (take m (drop i c.args.items.now))) k) c.put_eights-end.ensures in whole) in ran)) some 8 (λ x. length_low 8 x) 0 _ _ _ c.if-items-last.false refl r c.put_part-stop.ensures
 
 pub overflow_sub-buf : goal.overflow_sub-buf
-overflow_sub-buf c = (begun c).inside
+overflow_sub-buf c = (let begun : Resumed (low_bytes 8) c.args.items.now c.args.cursor c.args.buf.now c.put_part-at.new.buf c.put_part-at.result (c.evenly_out-out.result.whole + 1) 0 = resumed_next (low_bytes 8) _ _ _ _ _ _ _ (let start : Resumed (low_bytes 8) c.args.items.now c.args.cursor c.args.buf.now c.args.buf.now c.args.cursor.pos c.evenly_out-out.result.whole c.evenly_out-out.result.part = resumed_start (low_bytes 8) _ c.args.cursor _ _ _ c.requires (out_evenly (low_bytes 8) _ 8 (omega arith) (λ x. length_low 8 x) _ _ _ c.evenly_out-out.ensures.0 c.evenly_out-out.ensures.1 c.evenly_out-out.ensures.2) in start) some 0 _ _ _ c.if-items-first.false refl c.put_part-at.ensures in begun).inside

@@ -16,7 +16,7 @@ use Rattle.layout.specs.Copy.{plain_copy}
 use Rattle.laws.specs.Events.{encode_events}
 use Rattle.machine.specs.Run.{join}
 use Rattle.drains.specs.Drains.{rounded_up}
-use Rattle.drains.proofs.Rounding.{rounded-even, rounded-over}
+use Rattle.drains.proofs.Rounding.{rounded_parts}
 use Rattle.ostream.specs.Stream.{at}
 use Rattle.copier.specs.Calls.{bytes, Sent, over}
 use Rattle.copies.specs.Desk.{Desk, start, Act, feed, drain, change, stray, none, counts, sending, feeding, act, acts, MayStand, Allowed}
@@ -146,16 +146,7 @@ module _ (cs : List (List ℕ)) (size : ℕ) where
 
     -- the drains so far, and one more if bytes remain
     rounded : 1 ≤ size → d.drains + pick (ltb 0 left) 1 0 ≡ rounded_up (length all) size
-    rounded h = go (ltb 0 left) refl
-      where
-        go : (t : Bool) → ltb 0 left ≡ t → d.drains + pick t 1 0 ≡ rounded_up (length all) size
-        go true q =
-            let r : rounded_up (length all) size ≡ suc d.drains = ap (λ (n : ℕ). rounded_up n size) at_end ∙ rounded-over d.drains size left (ltb-true 0 left q) (omega (arith, l.long, inside d.copier (length d.buf) f.sound)) in
-            omega (arith, r)
-        go false q =
-            let n : length all ≡ d.drains * size = omega (arith, at_end, ltb-false 0 left q) in
-            let r : rounded_up (length all) size ≡ d.drains = ap (λ (n : ℕ). rounded_up n size) n ∙ rounded-even d.drains size h in
-            omega (arith, r)
+    rounded h = rounded_parts d.drains size left h (omega (arith, l.long, inside d.copier (length d.buf) f.sound)) ∙ ap (λ (n : ℕ). rounded_up n size) (sym at_end)
 
     flushed_drains : (flushed d).drains ≡ d.drains + pick (ltb 0 left) 1 0
     flushed_drains = go (ltb 0 left) refl

@@ -9,4 +9,4 @@ pub loop-turns-smaller-then-is_full : goal.loop-turns-smaller-then-is_full
 loop-turns-smaller-then-is_full c = omega (arith, c.loop-turns-test.true)
 
 pub loop-turns-preserved-then-is_full : goal.loop-turns-preserved-then-is_full
-loop-turns-preserved-then-is_full c = (c.feed-f.auto.1.1.0 ∙ c.loop-turns.invariant.0, c.send-sent.auto.1.1.0 ∙ c.loop-turns.invariant.1)
+loop-turns-preserved-then-is_full c = (c.feed-f.auto.buf ∙ c.loop-turns.invariant.0, c.send-sent.auto.out ∙ c.loop-turns.invariant.1)

@@ -5,7 +5,6 @@ use Rattle.types.specs.Types.{refusal}
 use Rattle.drains.specs.Drains.{rounded_up}
 use Rattle.copy_len.specs.declared.Length.{Length}
 use Rattle.copy_len.specs.declared.Length.TheVariants as Lengths
-use Rattle.drain_count.specs.declared.Drains.{Drains}
 use Rattle.drain_count.specs.declared.Drains.TheVariants as Answers
 use Rattle.drain_count.specs.DrainCount.{counted, drains_in}
 

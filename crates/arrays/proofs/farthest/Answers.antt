@@ -1,5 +1,4 @@
 -- `arrays::farthest`: by whether the place may be within an output.
-use borrow.Author.Rules.{rules}
 use borrow.Author.Tests.{lt-ltb, le-ltb}
 use Rattle.arrays.proofs.farthest.Goals as goal
 

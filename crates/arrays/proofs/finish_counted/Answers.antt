@@ -5,7 +5,6 @@ use mathlib.Core.Bool.{Bool, true, false}
 use native.Mathlib.Omega.{arith}
 use lib.Dec.{ltb}
 use lib.ListN.{length}
-use borrow.Author.Rules.{rules}
 use Rattle.layout.specs.Limits.{pick}
 use Rattle.outcomes.specs.Outcome.{reaches}
 use Rattle.held.specs.Headers.{head_of}

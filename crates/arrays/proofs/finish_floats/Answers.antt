@@ -5,7 +5,6 @@ use native.Mathlib.Omega.{arith}
 use lib.ListN.{length}
 use Rattle.outcomes.specs.Outcome.{reaches}
 use Rattle.held.specs.Headers.{head_of}
-use borrow.Author.Rules.{rules}
 use Rattle.arrays.proofs.finish_floats.Goals as goal
 
 pub overflow_add-head : goal.overflow_add-head

@@ -3,7 +3,6 @@ use Prim.Native.Nat.{ℕ}
 use mathlib.Core.Path.{ap}
 use Rattle.emit.proofs.Segments.{respelled, joined}
 use Rattle.held.specs.Headers.{head_of}
-use borrow.Author.Rules.{rules}
 use Rattle.arrays.proofs.put_announced.Goals as goal
 
 pub returns : goal.returns

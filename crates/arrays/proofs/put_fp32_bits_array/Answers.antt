@@ -8,7 +8,6 @@ use Rattle.layout.specs.Field.{fp32, low_bytes}
 use Rattle.emit.proofs.Segments.{respelled, stays_in}
 use Rattle.held.specs.Headers.{head_of}
 use Rattle.arrays.proofs.Floats.{floats_ended}
-use borrow.Author.Rules.{rules}
 use Rattle.arrays.proofs.put_fp32_bits_array.Goals as goal
 
 pub put_fp32s-requires : goal.put_fp32s-requires

@@ -10,7 +10,6 @@ use Rattle.emit.proofs.Elements.{each_map}
 use Rattle.emit.proofs.Segments.{respelled, stays_in}
 use Rattle.held.specs.Headers.{head_of}
 use Rattle.arrays.proofs.Floats.{floats_ended}
-use borrow.Author.Rules.{rules}
 use Rattle.arrays.proofs.put_fp64_array.Goals as goal
 
 pub put_f64s-requires : goal.put_f64s-requires

@@ -1,6 +1,5 @@
 -- `as_is::as_is`: by what the reader stands at.
 use Rattle.as_is.proofs.Laws.{at-header, at_unsigned_lem, at-signed, at_float_lem, ahead_from, none_is}
-use borrow.Author.Rules.{rules}
 use Rattle.as_is.proofs.as_is.Goals as goal
 
 pub returns-then-a-eq0 : goal.returns-then-a-eq0

@@ -3,7 +3,6 @@ use Prim.Native.Nat.{ℕ}
 use mathlib.Core.Path.{ap}
 use Rattle.phase.specs.declared.Phase as code
 use Rattle.as_is.specs.declared.Block.{Block}
-use borrow.Author.Rules.{rules}
 use Rattle.as_is.proofs.behind.Goals as goal
 
 abbrev in-phase : (len depth : ℕ) → code.Phase → Block

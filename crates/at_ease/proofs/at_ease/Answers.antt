@@ -1,7 +1,6 @@
 -- `at_ease::at_ease`: the tests in order.
 use borrow.Author.Tests.{le-leb, lt-leb}
 use Rattle.at_ease.specs.AtOnce.{easy_at}
-use borrow.Author.Rules.{rules}
 use Rattle.at_ease.proofs.at_ease.Goals as goal
 
 pub returns-then-id-gt-ID_MAX : goal.returns-then-id-gt-ID_MAX

@@ -1,6 +1,5 @@
 -- `at_ease::at_ease_with`: the tests of a field, and the length.
 use mathlib.Core.Path.{sym, ◌∙◌}
-use borrow.Author.Rules.{rules}
 use borrow.Author.Tests.{not-true, not-false}
 use Rattle.at_ease.proofs.at_ease_with.Goals as goal
 

@@ -1,7 +1,6 @@
 -- `at_ease::can_hold`: the tests one after another.
 use borrow.Author.Tests.{le-leb, lt-leb, le-ltb, lt-ltb}
 use Rattle.at_ease.specs.AtOnce.{holds_at}
-use borrow.Author.Rules.{rules}
 use Rattle.at_ease.proofs.can_hold.Goals as goal
 
 pub returns-then-held : goal.returns-then-held

@@ -2,7 +2,6 @@
 use native.Mathlib.Omega.{arith}
 use borrow.Author.Tests.{le-ltb, lt-ltb}
 use Rattle.at_ease.specs.AtOnce.{closes_at}
-use borrow.Author.Rules.{rules}
 use Rattle.at_ease.proofs.closes_at_ease.Goals as goal
 
 pub returns-then-depth-eq0 : goal.returns-then-depth-eq0

@@ -1,7 +1,6 @@
 -- `at_ease::has_room`: the tests one after another.
 use borrow.Author.Tests.{le-leb, lt-leb}
 use Rattle.at_ease.specs.AtOnce.{room_for}
-use borrow.Author.Rules.{rules}
 use Rattle.at_ease.proofs.has_room.Goals as goal
 
 pub returns-then-size-lt-PAIR_MAX : goal.returns-then-size-lt-PAIR_MAX

@@ -8,7 +8,6 @@ use borrow.Author.Tests.{le-ltb, lt-ltb, not-true, not-false}
 use Rattle.putting.proofs.Writes.{put_one, reached_one}
 use Rattle.places.specs.Places.{clean}
 use Rattle.at_ease.proofs.AtOnce.{no_first, no_second, yes_both, made, unmade}
-use borrow.Author.Rules.{rules}
 use Rattle.at_ease.proofs.put_end.Goals as goal
 
 pub returns-then-buf-pos : goal.returns-then-buf-pos

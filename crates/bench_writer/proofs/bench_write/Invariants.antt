@@ -1,5 +1,5 @@
 -- `bench_writer::bench_write` is safe and ends: each turn takes one from `turns`.
-use Rattle.std.proofs.Common.{◌≡◌, length, rules}
+use Rattle.std.proofs.Common.{◌≡◌, length}
 use Rattle.bench_writer.proofs.bench_write.Given as goal
 
 abbrev pub invariant-loop-turns : goal.invariant-loop-turns

@@ -1,5 +1,5 @@
 -- `bench_writer::first` is safe: the part has the length that is asked for.
-use Rattle.std.proofs.Common.{sym, length-take-le, rules}
+use Rattle.std.proofs.Common.{sym, length-take-le}
 use Rattle.bench_writer.proofs.first.Goals as goal
 
 pub slice_bounds-result-end : goal.slice_bounds-result-end

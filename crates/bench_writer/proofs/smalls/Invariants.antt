@@ -1,5 +1,5 @@
 -- `bench_writer::smalls` is safe and ends: each turn makes a call, or is the last.
-use Rattle.std.proofs.Common.{◌≡◌, ◌-◌, ◌≤◌, length, rules}
+use Rattle.std.proofs.Common.{◌≡◌, ◌-◌, ◌≤◌, length}
 use Rattle.bench_writer.proofs.smalls.Given as goal
 
 abbrev pub invariant-loop-i : goal.invariant-loop-i

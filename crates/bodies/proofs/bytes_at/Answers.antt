@@ -2,7 +2,6 @@
 use mathlib.Core.Path.{ap}
 use Rattle.layout.specs.Field.{fp32, fp64, subtype_of}
 use Rattle.bodies.proofs.Landing.{bytes_float, bytes_float_breaks, bytes_raw, bytes_raw_breaks, bytes_unknown}
-use borrow.Author.Rules.{rules}
 use Rattle.bodies.proofs.bytes_at.Goals as goal
 
 pub returns-then-n-eq4 : goal.returns-then-n-eq4

@@ -3,7 +3,6 @@ use mathlib.Core.Path.{sym, subst}
 use Rattle.passing.specs.Passing.{Passes}
 use Rattle.passing.proofs.Ends.{reaches_inside}
 use Rattle.bodies.proofs.Landing.{fixlen_then, fixlen_else}
-use borrow.Author.Rules.{rules}
 use borrow.Enum.Refused.{opened}
 use Rattle.bodies.proofs.fixlen_at.Goals as goal
 

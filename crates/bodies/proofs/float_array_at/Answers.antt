@@ -3,7 +3,6 @@ use mathlib.Core.Path.{sym, subst}
 use Rattle.passing.specs.Passing.{Passes}
 use Rattle.passing.proofs.Ends.{reaches_inside}
 use Rattle.bodies.proofs.Landing.{count_small, floats_then, floats_else, floats_word, floats_word_else}
-use borrow.Author.Rules.{rules}
 use borrow.Enum.Refused.{opened}
 use Rattle.bodies.proofs.float_array_at.Goals as goal
 

@@ -2,7 +2,6 @@
 use native.Mathlib.Omega.{arith}
 use Rattle.layout.specs.Field.{fp32, fp64}
 use Rattle.bodies.proofs.Landing.{floats_jump, floats_fail}
-use borrow.Author.Rules.{rules}
 use Rattle.bodies.proofs.floats_at.Goals as goal
 
 pub overflow_mul-n : goal.overflow_mul-n

@@ -7,7 +7,6 @@ use Rattle.checks.specs.Check.{check_of}
 use Rattle.checks.proofs.Checks.{check_passes, check_fails}
 use Rattle.places.specs.Places.{sound_for}
 use Rattle.buffers.specs.Moved.{moved_by}
-use borrow.Author.Rules.{rules}
 use Rattle.buffers.proofs.change.Goals as goal
 
 pub returns-then-check : goal.returns-then-check

@@ -1,6 +1,5 @@
 -- `buffers::drain`: the old position, and 0; 6 where the state is not sound.
 use mathlib.Core.Path.{sym, ◌∙◌}
-use borrow.Author.Rules.{rules}
 use Rattle.buffers.proofs.drain.Goals as goal
 
 pub returns-then-sound_for : goal.returns-then-sound_for

@@ -3,7 +3,6 @@ use mathlib.Core.Path.{sym, ap, ◌∙◌}
 use Rattle.call_end.specs.declared.Status as Statuses
 use Rattle.call_end.specs.declared.Answer.TheVariants.{Status}
 use Rattle.call_end.specs.CallEnd.{end_at, stopped}
-use borrow.Author.Rules.{rules}
 use Rattle.call_end.proofs.stop.Goals as goal
 
 pub returns-in-On : goal.returns-in-On

@@ -1,6 +1,5 @@
 -- `call_end::verdict` meets its contract: complete between fields at depth 0.
 use Rattle.call_end.proofs.Tests.{verdict_else, verdict_complete, verdict_deep, verdict_taken}
-use borrow.Author.Rules.{rules}
 use borrow.Enum.Refused.{opened}
 use Rattle.call_end.proofs.verdict.Goals as goal
 

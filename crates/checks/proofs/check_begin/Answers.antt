@@ -1,6 +1,5 @@
 -- `checks::check_begin`: the tests of an open, in order.
 use borrow.Author.Tests.{lt-ltb, le-ltb, le-leb, lt-leb}
-use borrow.Author.Rules.{rules}
 use Rattle.checks.proofs.check_begin.Goals as goal
 
 pub returns-then-not-sound : goal.returns-then-not-sound

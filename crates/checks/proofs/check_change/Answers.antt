@@ -1,6 +1,5 @@
 -- `checks::check_change`: 5 by the new buffer, then 6.
 use mathlib.Core.Path.{sym, ◌∙◌}
-use borrow.Author.Rules.{rules}
 use Rattle.checks.proofs.check_change.Goals as goal
 
 pub returns-then-unfit : goal.returns-then-unfit

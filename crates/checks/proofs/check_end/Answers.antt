@@ -1,6 +1,5 @@
 -- `checks::check_end`: the tests of a close, in order.
 use borrow.Author.Tests.{eq-eqb, ne_eqb}
-use borrow.Author.Rules.{rules}
 use Rattle.checks.proofs.check_end.Goals as goal
 
 pub returns-then-not-sound : goal.returns-then-not-sound

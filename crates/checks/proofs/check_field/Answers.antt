@@ -1,6 +1,5 @@
 -- `checks::check_field`: the tests of a field, in order.
 use borrow.Author.Tests.{lt-ltb, le-ltb}
-use borrow.Author.Rules.{rules}
 use Rattle.checks.proofs.check_field.Goals as goal
 
 pub returns-then-not-sound : goal.returns-then-not-sound

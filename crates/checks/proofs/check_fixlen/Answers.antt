@@ -1,6 +1,5 @@
 -- `checks::check_fixlen`: 6, then 7, then those of any field.
 use mathlib.Core.Path.{sym, ◌∙◌}
-use borrow.Author.Rules.{rules}
 use Rattle.checks.proofs.check_fixlen.Goals as goal
 
 pub returns-then-not-sound : goal.returns-then-not-sound

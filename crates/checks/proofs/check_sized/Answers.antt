@@ -1,6 +1,5 @@
 -- `checks::check_sized`: the tests of a field with a payload or an array, in order.
 use borrow.Author.Tests.{lt-ltb, le-ltb}
-use borrow.Author.Rules.{rules}
 use Rattle.checks.proofs.check_sized.Goals as goal
 
 pub returns-then-not-sound : goal.returns-then-not-sound

@@ -1,7 +1,6 @@
 -- `codes::number` meets its contract: a number for each verdict.
 use Rattle.whole.specs.declared.Verdict.TheVariants.{Complete, Incomplete, Broken}
 use Rattle.codes.proofs.Numbers.{numbered}
-use borrow.Author.Rules.{rules}
 use Rattle.codes.proofs.number.Goals as goal
 
 pub returns-in-Complete : goal.returns-in-Complete

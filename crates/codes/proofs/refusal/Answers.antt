@@ -1,7 +1,6 @@
 -- `codes::refusal` meets its contract: a number for each verdict.
 use Rattle.whole.specs.declared.Verdict.TheVariants.{Complete, Incomplete, Broken}
 use Rattle.codes.proofs.Numbers.{refuses}
-use borrow.Author.Rules.{rules}
 use Rattle.codes.proofs.refusal.Goals as goal
 
 pub returns-in-Complete : goal.returns-in-Complete

@@ -1,7 +1,6 @@
 -- `copier::taken`: by the writer's answer.
 use mathlib.Core.Path.{sym, ap}
 use Rattle.copier.specs.Calls.{opens_in}
-use borrow.Author.Rules.{rules}
 use Rattle.copier.proofs.taken.Goals as goal
 
 pub returns-in-Refused : goal.returns-in-Refused

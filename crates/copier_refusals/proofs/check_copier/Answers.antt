@@ -5,7 +5,6 @@ use Rattle.types.specs.Types.{refusal}
 use Rattle.refusals.specs.Judged.{accepted, refused_with}
 use Rattle.checks.specs.Check.{check_of}
 use Rattle.copying.proofs.Refusals.{unsound_reader, unsound_writer_lem, broken_reader, none-refused}
-use borrow.Author.Rules.{rules}
 use Rattle.copier_refusals.proofs.check_copier.Goals as goal
 
 pub returns-then-not-sound : goal.returns-then-not-sound

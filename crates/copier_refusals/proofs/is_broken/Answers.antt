@@ -1,6 +1,5 @@
 -- `copier_refusals::is_broken`: one phase.
 use Rattle.copier_refusals.proofs.Tests.{not_broke}
-use borrow.Author.Rules.{rules}
 use borrow.Enum.Refused.{opened}
 use Rattle.copier_refusals.proofs.is_broken.Goals as goal
 

@@ -1,6 +1,5 @@
 -- `copier_refusals::is_nothing`: one variant.
 use Rattle.copier_refusals.proofs.Tests.{some_owed}
-use borrow.Author.Rules.{rules}
 use borrow.Enum.Refused.{opened}
 use Rattle.copier_refusals.proofs.is_nothing.Goals as goal
 

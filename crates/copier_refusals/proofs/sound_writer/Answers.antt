@@ -2,7 +2,6 @@
 use mathlib.Core.Path.{sym, ◌∙◌}
 use borrow.Author.Tests.{not-true, not-false}
 use Rattle.copier_refusals.proofs.Tests.{id_held, unrested, rested_broke, rested_whole}
-use borrow.Author.Rules.{rules}
 use Rattle.copier_refusals.proofs.sound_writer.Goals as goal
 
 pub returns-then-writer-ne0 : goal.returns-then-writer-ne0

@@ -1,7 +1,6 @@
 -- `copy_len::at_depth` meets its contract.
 use mathlib.Core.Path.{sym, ap}
 use Rattle.copy_len.specs.CopyLen.{deepened}
-use borrow.Author.Rules.{rules}
 use Rattle.copy_len.proofs.at_depth.Goals as goal
 
 pub returns-in-At : goal.returns-in-At

@@ -4,7 +4,6 @@ use mathlib.Core.Path.{ap}
 use Rattle.layout.specs.Field.{t_fixlen, t_floats, wire_of}
 use Rattle.whole.proofs.Fields.{end_wire}
 use Rattle.copy_len.proofs.Fields.{headed, one_type, scalar_type, array_type, opens, opens_not, closes, closes_not}
-use borrow.Author.Rules.{rules}
 use Rattle.copy_len.proofs.body_at.Goals as goal
 
 pub overflow_add-headed : goal.overflow_add-headed

@@ -4,7 +4,6 @@ use Rattle.lengths.specs.Lengths.{no_place}
 use Rattle.lengths.proofs.Answers.{behind}
 use Rattle.copy_len.specs.CopyLen.{deepened}
 use Rattle.copy_len.proofs.Fields.{header_reads, field_then, field_else}
-use borrow.Author.Rules.{rules}
 use borrow.Enum.Refused.{opened}
 use Rattle.copy_len.proofs.field_at.Goals as goal
 

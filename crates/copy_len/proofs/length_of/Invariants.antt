@@ -1,8 +1,7 @@
 -- `copy_len::length_of` meets its contract: what was counted is the length of the plain copy up to the place reached.
 use Prim.Native.Nat.{◌-◌}
 use lib.ListN.{length}
-use Rattle.copy_len.proofs.Sums.{Summed, summed_start, summed_next, summed_falls, summed_short, summed_broken, summed_complete, summed_open}
-use borrow.Author.Rules.{rules}
+use Rattle.copy_len.proofs.Sums.{Summed}
 use Rattle.copy_len.proofs.length_of.Given as goal
 
 abbrev pub invariant-loop-at : goal.invariant-loop-at

@@ -1,5 +1,4 @@
 -- `desk::lay` is safe and ends: `i` counts to the length of `words`.
-use borrow.Author.Rules.{rules}
 use mathlib.Core.Path.{◌≡◌}
 use lib.ListN.{length}
 use Prim.Native.Nat.{◌-◌, ◌≤◌}

@@ -1,7 +1,6 @@
 -- `drain_count::drains_of` meets its contract: 18 before the message is looked at, then by its length.
 use Rattle.copy_len.specs.declared.Length.TheVariants as Lengths
 use Rattle.drain_count.proofs.Answers.{none-refused, some_counted, bytes_counted}
-use borrow.Author.Rules.{rules}
 use Rattle.drain_count.proofs.drains_of.Goals as goal
 
 pub returns-then-buffer-eq0 : goal.returns-then-buffer-eq0

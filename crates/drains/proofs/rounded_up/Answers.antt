@@ -1,5 +1,4 @@
 -- `drains::rounded_up` meets its contract: the quotient, and one more where a remainder is left, which is no more than the number divided.
-use native.Mathlib.Omega.{arith}
 use Rattle.drains.proofs.Rounding.{rounded_quotient, rounded_more, quotient_more}
 use borrow.Author.Rules.{rules}
 use Rattle.drains.proofs.rounded_up.Goals as goal

@@ -1,5 +1,4 @@
 -- `elements::counted`: by whether an element is not all out.
-use borrow.Author.Rules.{rules}
 use borrow.Author.Tests.{lt-ltb, le-ltb}
 use Rattle.elements.proofs.counted.Goals as goal
 

@@ -1,6 +1,5 @@
 -- `elements::evenly_out`: as many whole elements as the bytes have room for, and no more than there are.
 use native.Mathlib.Omega.{arith}
-use borrow.Author.Rules.{rules}
 use Rattle.elements.proofs.Resumed.{evenly}
 use Rattle.elements.proofs.evenly_out.Goals as goal
 

@@ -1,16 +1,16 @@
 -- `elements::put_fitting_zigzags`: at each turn, the elements from the i-th on are left to write, and there is room for each.
 use Prim.Native.Nat.{◌-◌}
 use mathlib.Core.Path.{ap, ◌∙◌}
-use borrow.Author.Rules.{rules, sfits_of}
-use lib.ListN.{length, get_or}
+use borrow.Author.Rules.{sfits_of}
+use lib.ListN.{get_or}
 use lib.IntN.{ℤ, pos}
 use mir.Syntax.{w64}
 use mir.ValLaws.{to_z-of_z}
-use Rattle.layout.specs.Limits.{base, longest}
+use Rattle.layout.specs.Limits.{base}
 use Rattle.layout.specs.Varint.{shortest}
 use Rattle.layout.specs.Zigzag.{zigzag}
 use Rattle.varint.proofs.Shortest.{length-longest}
-use Rattle.elements.proofs.Room.{Roomy, roomy_start, roomy_here, roomy_next, roomy_end, roomy_fits}
+use Rattle.elements.proofs.Room.{roomy_start, roomy_here, roomy_next, roomy_end, roomy_fits}
 use Rattle.elements.proofs.put_fitting_zigzags.Goals as goal
 
 pub loop-i-init : goal.loop-i-init

@@ -1,13 +1,9 @@
 -- `elements::put_fittings`: at each turn, the elements from the i-th on are left to write, and there is room for each.
-use Prim.Native.Nat.{ℕ, ◌+◌, ◌-◌, ◌≤◌}
-use mathlib.Core.Path.{◌≡◌, refl, subst}
-use native.Mathlib.Omega.{arith}
-use borrow.Author.Rules.{rules}
-use lib.ListN.{length, get_or}
+use Prim.Native.Nat.{◌-◌, ◌≤◌}
+use lib.ListN.{length}
 use Rattle.layout.specs.Limits.{base, longest}
 use Rattle.layout.specs.Varint.{shortest}
-use Rattle.varint.proofs.Shortest.{length-longest}
-use Rattle.elements.proofs.Room.{Roomy, roomy_start, roomy_here, roomy_next, roomy_end, roomy_fits}
+use Rattle.elements.proofs.Room.{Roomy}
 use Rattle.elements.proofs.put_fittings.Given as goal
 
 abbrev pub invariant-loop-i : goal.invariant-loop-i

@@ -2,12 +2,8 @@
 use Prim.Native.Nat.{◌-◌}
 use mathlib.Core.Path.{refl}
 use native.Mathlib.Omega.{arith}
-use borrow.Author.Rules.{rules}
 use borrow.Author.Tests.{ltb-true, ltb-false}
-use lib.ListN.{length, drop}
-use Rattle.layout.specs.Varint.{shortest}
-use Rattle.layout.specs.Field.{each}
-use Rattle.elements.proofs.Resumed.{Going, going_start, going_next, going_end, going_full}
+use Rattle.elements.proofs.Resumed.{going_start, going_next, going_end, going_full}
 use Rattle.elements.proofs.varints_from.Goals as goal
 
 pub loop-i-init : goal.loop-i-init

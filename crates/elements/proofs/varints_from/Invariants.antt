@@ -1,13 +1,9 @@
 -- `elements::varints_from`: at each turn, the elements from the i-th on are left to write.
 use Prim.Native.Nat.{◌-◌}
-use mathlib.Core.Path.{refl}
-use native.Mathlib.Omega.{arith}
-use borrow.Author.Rules.{rules}
-use borrow.Author.Tests.{ltb-true, ltb-false}
 use lib.ListN.{length, drop}
 use Rattle.layout.specs.Varint.{shortest}
 use Rattle.layout.specs.Field.{each}
-use Rattle.elements.proofs.Resumed.{Going, going_start, going_next, going_end, going_full}
+use Rattle.elements.proofs.Resumed.{Going}
 use Rattle.elements.proofs.varints_from.Given as goal
 
 abbrev pub invariant-loop-i : goal.invariant-loop-i

@@ -2,16 +2,15 @@
 use Prim.Native.Nat.{◌-◌}
 use mathlib.Core.Path.{ap, ◌∙◌}
 use native.Mathlib.Omega.{arith}
-use borrow.Author.Rules.{rules, sfits_of}
+use borrow.Author.Rules.{sfits_of}
 use borrow.Author.Tests.{ltb-true, ltb-false}
-use lib.ListN.{length, drop, get_or}
+use lib.ListN.{get_or}
 use lib.IntN.{ℤ, pos}
 use mir.Syntax.{w64}
 use mir.ValLaws.{to_z-of_z}
 use Rattle.layout.specs.Varint.{shortest}
 use Rattle.layout.specs.Zigzag.{zigzag}
-use Rattle.layout.specs.Field.{each}
-use Rattle.elements.proofs.Resumed.{Going, going_start, going_next, going_end, going_full}
+use Rattle.elements.proofs.Resumed.{going_start, going_next, going_end, going_full}
 use Rattle.elements.proofs.zigzags_from.Goals as goal
 
 pub loop-i-init : goal.loop-i-init

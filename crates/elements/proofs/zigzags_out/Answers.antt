@@ -2,7 +2,7 @@
 use Prim.Native.Nat.{ℕ, ◌-◌, ◌≤◌}
 use mathlib.Core.Path.{◌≡◌, ap, ◌∙◌}
 use native.Mathlib.Omega.{arith}
-use borrow.Author.Rules.{rules, sfits_of}
+use borrow.Author.Rules.{sfits_of}
 use lib.ListN.{length, get_or}
 use lib.IntN.{ℤ, pos}
 use mir.Syntax.{w64}
@@ -11,7 +11,7 @@ use Rattle.layout.specs.Limits.{base, longest}
 use Rattle.layout.specs.Varint.{shortest}
 use Rattle.layout.specs.Zigzag.{zigzag}
 use Rattle.varint.proofs.Shortest.{length-longest}
-use Rattle.elements.proofs.Resumed.{Counting, out-start, out-next, out_stop, out_end}
+use Rattle.elements.proofs.Resumed.{out-start, out-next, out_stop, out_end}
 use Rattle.elements.proofs.zigzags_out.Goals as goal
 
 pub loop-i-init : goal.loop-i-init

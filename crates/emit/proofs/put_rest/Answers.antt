@@ -1,10 +1,8 @@
 -- `emit::put_rest`: a copy whose turns are counted beforehand, so that none tests for room.
-use Prim.Native.Nat.{◌+◌, ◌-◌, ◌≤◌, min}
-use mathlib.Core.Path.{◌≡◌}
+use Prim.Native.Nat.{◌-◌}
 use native.Mathlib.Omega.{arith}
-use lib.ListN.{length, drop, length-drop}
-use borrow.Author.Rules.{rules}
-use Rattle.putting.proofs.Turns.{Left, start, no_room, none_left, copied, copied_all, copy_start}
+use lib.ListN.{length-drop}
+use Rattle.putting.proofs.Turns.{start, no_room, none_left, copied, copied_all, copy_start}
 use Rattle.emit.proofs.put_rest.Goals as goal
 
 pub returns-then-buf-pos : goal.returns-then-buf-pos

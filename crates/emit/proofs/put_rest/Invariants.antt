@@ -1,10 +1,8 @@
 -- `emit::put_rest`: a copy whose turns are counted beforehand, so that none tests for room.
 use Prim.Native.Nat.{◌+◌, ◌-◌, ◌≤◌, min}
 use mathlib.Core.Path.{◌≡◌}
-use native.Mathlib.Omega.{arith}
-use lib.ListN.{length, drop, length-drop}
-use borrow.Author.Rules.{rules}
-use Rattle.putting.proofs.Turns.{Left, start, no_room, none_left, copied, copied_all, copy_start}
+use lib.ListN.{length, drop}
+use Rattle.putting.proofs.Turns.{Left}
 use Rattle.emit.proofs.put_rest.Given as goal
 
 abbrev pub invariant-loop-k : goal.invariant-loop-k

@@ -1,7 +1,6 @@
 -- `emit::put_third`: each byte leaves the varint of the rest to write.
 use native.Mathlib.Omega.{arith}
 use lib.ListN.{length-set}
-use borrow.Author.Rules.{rules}
 use Rattle.layout.specs.Varint.{shortest}
 use Rattle.putting.proofs.Turns.{followed, same_size}
 use Rattle.putting.specs.Put.{Puts}

@@ -6,7 +6,6 @@ use Rattle.layout.specs.Event.{Float}
 use Rattle.types.specs.declared.FloatType.{FloatType}
 use Rattle.types.specs.Types.{width}
 use Rattle.event.specs.Event.{declared}
-use borrow.Author.Rules.{rules}
 use Rattle.event.proofs.float_event.Goals as goal
 
 pub overflow_cast-x : goal.overflow_cast-x

@@ -4,7 +4,6 @@ use lib.Dec.{T}
 use lib.Ieee.{binary32, to_bits}
 use lib.Ieee.Compare.{differs_from_itself}
 use Rattle.event.proofs.Bits.{equals_itself}
-use borrow.Author.Rules.{rules}
 use Rattle.event.proofs.fp32_bits.Goals as goal
 
 pub float_to_bits-result : goal.float_to_bits-result

@@ -2,7 +2,6 @@
 use mathlib.Core.Path.{sym, ap}
 use Rattle.types.specs.declared.RawType.{RawType}
 use Rattle.event.specs.Event.{piece_in}
-use borrow.Author.Rules.{rules}
 use Rattle.event.proofs.piece.Goals as goal
 
 pub returns-in-Str : goal.returns-in-Str

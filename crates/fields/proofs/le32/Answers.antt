@@ -1,6 +1,5 @@
 -- `fields::le32`: each byte by a division more.
 use mathlib.Core.Path.{refl}
-use borrow.Author.Rules.{rules}
 use Rattle.layout.specs.Field.{low_bytes}
 use Rattle.fields.proofs.le32.Goals as goal
 

@@ -6,7 +6,6 @@ use Rattle.layout.specs.Varint.{shortest}
 use Rattle.layout.specs.Copy.{field_bytes}
 use Rattle.held.specs.Headers.{headers_of}
 use Rattle.held.proofs.Ends.{ended_as}
-use borrow.Author.Rules.{rules}
 use Rattle.fields.proofs.put_close.Goals as goal
 
 pub returns : goal.returns

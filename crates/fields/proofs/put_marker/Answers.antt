@@ -7,7 +7,6 @@ use Rattle.varint.proofs.Shortest.{length-longest}
 use Rattle.emit.proofs.Segments.{joined}
 use Rattle.held.specs.Headers.{headers_of}
 use Rattle.held.proofs.Ends.{ended}
-use borrow.Author.Rules.{rules}
 use Rattle.fields.proofs.put_marker.Goals as goal
 
 pub overflow_add-held_len : goal.overflow_add-held_len

@@ -13,7 +13,6 @@ use Rattle.at_ease.specs.AtOnce.{pair_most}
 use Rattle.held.proofs.Ends.{ended}
 use Rattle.at_ease.proofs.AtOnce.{clean_zeros}
 use Rattle.fields.proofs.Behind.{behind}
-use borrow.Author.Rules.{rules}
 use Rattle.fields.proofs.put_varint_field.Goals as goal
 
 pub returns-then-has_room_behind : goal.returns-then-has_room_behind

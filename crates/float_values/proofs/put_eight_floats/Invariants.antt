@@ -1,12 +1,9 @@
 -- `float_values::put_eight_floats`: at each turn, the elements from the i-th on are left to write, and there is room for them.
 use Prim.Native.Nat.{◌-◌}
-use mathlib.Core.Path.{ap}
-use borrow.Author.Rules.{rules}
 use lib.ListN.{length}
 use lib.Ieee.{binary64, to_bits}
 use Rattle.layout.specs.Field.{low_bytes}
-use Rattle.low_bytes.proofs.Low.{low_fits}
-use Rattle.elements.proofs.Room.{Roomy, roomy_start, roomy_here, roomy_next, roomy_end}
+use Rattle.elements.proofs.Room.{Roomy}
 use Rattle.float_values.proofs.put_eight_floats.Given as goal
 
 abbrev pub invariant-loop-i : goal.invariant-loop-i

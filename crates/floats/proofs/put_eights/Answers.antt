@@ -1,11 +1,8 @@
 -- `floats::put_eights`: at each turn, the elements from the i-th on are left to write, and there is room for them.
 use Prim.Native.Nat.{◌-◌}
 use mathlib.Core.Path.{refl}
-use borrow.Author.Rules.{rules}
-use lib.ListN.{length}
-use Rattle.layout.specs.Field.{low_bytes}
 use Rattle.low_bytes.proofs.Low.{low_fits}
-use Rattle.elements.proofs.Room.{Roomy, roomy_start, roomy_here, roomy_next, roomy_end}
+use Rattle.elements.proofs.Room.{roomy_start, roomy_here, roomy_next, roomy_end}
 use Rattle.floats.proofs.put_eights.Goals as goal
 
 pub loop-i-init : goal.loop-i-init

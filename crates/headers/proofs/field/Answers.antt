@@ -6,7 +6,6 @@ use Rattle.layout.specs.Field.{Wire, wire_of}
 use Rattle.machine.specs.Machine.{at_wire}
 use Rattle.phase.specs.Steps.{stepped}
 use Rattle.headers.proofs.Headers.{last_wire}
-use borrow.Author.Rules.{rules}
 use Rattle.headers.proofs.field.Goals as goal
 
 pub returns-in-0 : goal.returns-in-0

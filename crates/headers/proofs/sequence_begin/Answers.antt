@@ -4,7 +4,6 @@ use Rattle.layout.specs.Limits.{base}
 use Rattle.event.specs.declared.Event.TheVariants.{Begin}
 use Rattle.phase.proofs.Steps.{raised}
 use Rattle.headers.proofs.Headers.{begins, too_deep_lem}
-use borrow.Author.Rules.{rules}
 use Rattle.headers.proofs.sequence_begin.Goals as goal
 
 pub returns-then-depth-lt-MAX_DEPTH : goal.returns-then-depth-lt-MAX_DEPTH

@@ -4,7 +4,6 @@ use Rattle.layout.specs.Limits.{base}
 use Rattle.event.specs.declared.Event.TheVariants.{End}
 use Rattle.phase.proofs.Steps.{raised}
 use Rattle.headers.proofs.Headers.{ends, not_open}
-use borrow.Author.Rules.{rules}
 use Rattle.headers.proofs.sequence_end.Goals as goal
 
 pub returns-then-depth-eq0 : goal.returns-then-depth-eq0

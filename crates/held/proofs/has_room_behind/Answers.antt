@@ -8,7 +8,6 @@ use lib.ListN.{length}
 use borrow.Author.Tests.{le-leb, lt-leb, leb-true, leb-false}
 use Rattle.held.specs.Headers.{headers_of}
 use Rattle.at_ease.specs.AtOnce.{pair_most}
-use borrow.Author.Rules.{rules}
 use Rattle.held.proofs.has_room_behind.Goals as goal
 
 shifted : (a m n r : ℕ) → m ≡ n → m + pair_most ≤ r → leb a (r - (m + pair_most)) ≡ leb (n + pair_most + a) r

@@ -5,12 +5,10 @@ use native.Mathlib.Omega.{arith}
 use borrow.Author.Rules.{rules}
 use lib.ListN.{length, take}
 use lib.Seq.{length-take-le, get_or-take}
-use Rattle.places.specs.Places.{lazy_depth}
 use Rattle.layout.specs.Limits.{base, longest}
 use Rattle.layout.specs.Varint.{shortest}
-use Rattle.layout.specs.Field.{header, t_begin}
 use Rattle.varint.proofs.Shortest.{length-longest}
-use Rattle.emit.proofs.Elements.{Counted, count_start, count_next, count_end}
+use Rattle.emit.proofs.Elements.{count_start, count_next, count_end}
 use Rattle.held.specs.Headers.{headers_of}
 use Rattle.held.proofs.held_len.Goals as goal
 

@@ -1,17 +1,11 @@
 -- `held::held_len`: the lengths of the held headers, summed up.
-use Prim.Native.Nat.{ℕ, ◌+◌, ◌-◌, ◌*◌, ◌≤◌}
-use mathlib.Core.Path.{◌≡◌, refl, sym, ap, ◌∙◌}
-use native.Mathlib.Omega.{arith}
-use borrow.Author.Rules.{rules}
+use Prim.Native.Nat.{◌-◌, ◌≤◌}
+use mathlib.Core.Path.{◌≡◌}
 use lib.ListN.{length, take}
-use lib.Seq.{length-take-le, get_or-take}
 use Rattle.places.specs.Places.{lazy_depth}
 use Rattle.layout.specs.Limits.{base, longest}
-use Rattle.layout.specs.Varint.{shortest}
 use Rattle.layout.specs.Field.{header, t_begin}
-use Rattle.varint.proofs.Shortest.{length-longest}
-use Rattle.emit.proofs.Elements.{Counted, count_start, count_next, count_end}
-use Rattle.held.specs.Headers.{headers_of}
+use Rattle.emit.proofs.Elements.{Counted}
 use Rattle.held.proofs.held_len.Given as goal
 
 abbrev pub invariant-loop-i : goal.invariant-loop-i

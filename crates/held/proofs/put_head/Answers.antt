@@ -1,5 +1,4 @@
 -- `held::put_head`: three segments in a row.
-use borrow.Author.Rules.{rules}
 use Rattle.emit.proofs.Segments.{joined-three}
 use Rattle.held.proofs.put_head.Goals as goal
 

@@ -1,14 +1,13 @@
 -- `held::put_held`: the held headers, one after another.
-use Prim.Native.Nat.{ℕ, ◌+◌, ◌-◌, ◌*◌, ◌≤◌}
+use Prim.Native.Nat.{ℕ, ◌+◌, ◌-◌, ◌*◌}
 use mathlib.Core.Path.{◌≡◌, refl, sym, ap, ◌∙◌}
 use native.Mathlib.Omega.{arith}
 use borrow.Author.Rules.{rules}
-use lib.ListN.{length, take, drop}
+use lib.ListN.{length, take}
 use lib.Seq.{length-take-le, get_or-take}
-use Rattle.places.specs.Places.{lazy_depth}
 use Rattle.layout.specs.Varint.{shortest}
-use Rattle.layout.specs.Field.{header, each, t_begin}
-use Rattle.emit.proofs.Elements.{Owing, owing_start, owing_next, owing_end, each_at, each_end}
+use Rattle.layout.specs.Field.{header, t_begin}
+use Rattle.emit.proofs.Elements.{owing_start, owing_next, owing_end, each_at, each_end}
 use Rattle.emit.proofs.Segments.{respelled}
 use Rattle.held.specs.Headers.{headers_of}
 use Rattle.held.proofs.put_held.Goals as goal

@@ -1,16 +1,10 @@
 -- `held::put_held`: the held headers, one after another.
-use Prim.Native.Nat.{ℕ, ◌+◌, ◌-◌, ◌*◌, ◌≤◌}
-use mathlib.Core.Path.{◌≡◌, refl, sym, ap, ◌∙◌}
-use native.Mathlib.Omega.{arith}
-use borrow.Author.Rules.{rules}
+use Prim.Native.Nat.{◌-◌, ◌≤◌}
+use mathlib.Core.Path.{◌≡◌}
 use lib.ListN.{length, take, drop}
-use lib.Seq.{length-take-le, get_or-take}
 use Rattle.places.specs.Places.{lazy_depth}
-use Rattle.layout.specs.Varint.{shortest}
 use Rattle.layout.specs.Field.{header, each, t_begin}
-use Rattle.emit.proofs.Elements.{Owing, owing_start, owing_next, owing_end, each_at, each_end}
-use Rattle.emit.proofs.Segments.{respelled}
-use Rattle.held.specs.Headers.{headers_of}
+use Rattle.emit.proofs.Elements.{Owing}
 use Rattle.held.proofs.put_held.Given as goal
 
 abbrev pub invariant-loop-i : goal.invariant-loop-i

@@ -2,7 +2,6 @@
 use Rattle.phase.specs.declared.Phase.{Phase}
 use Rattle.istream.specs.Private.{fed_at}
 use mathlib.Core.Path.{ap, ◌∙◌}
-use borrow.Author.Rules.{rules}
 use Rattle.istream.proofs.fed_rebuilt.Goals as goal
 
 pub returns : goal.returns

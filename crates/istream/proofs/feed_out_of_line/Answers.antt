@@ -3,7 +3,6 @@ use Rattle.layout.specs.Limits.{base}
 use Rattle.istream.specs.Stream.{fed_of}
 use Rattle.phase.specs.declared.Phase.{Phase}
 use mathlib.Core.Path.{ap, ◌∙◌}
-use borrow.Author.Rules.{rules}
 use Rattle.istream.proofs.feed_out_of_line.Goals as goal
 
 pub returns-then-carried-eq0 : goal.returns-then-carried-eq0

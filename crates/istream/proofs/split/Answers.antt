@@ -2,7 +2,6 @@
 use mathlib.Core.Path.{ap}
 use Rattle.istream.specs.declared.Fed.{Fed}
 use Rattle.istream.specs.Stream.{taken_of}
-use borrow.Author.Rules.{rules}
 use Rattle.istream.proofs.split.Goals as goal
 
 pub returns : goal.returns

@@ -4,7 +4,6 @@ use Rattle.event_list.specs.Lines.{last_line}
 use Rattle.last_line.specs.Verdict.{verdict_in}
 use Rattle.last_line.specs.declared.Verdict.{Verdict}
 use Rattle.putting.proofs.Turns.{says}
-use borrow.Author.Rules.{rules}
 use Rattle.last_line.proofs.put_verdict.Goals as goal
 
 pub returns-in-Complete : goal.returns-in-Complete

@@ -3,7 +3,6 @@ use native.Mathlib.Omega.{arith}
 use mathlib.Core.Path.{ap, ◌∙◌}
 use Rattle.lengths.specs.Lengths.{no_place}
 use Rattle.lengths.proofs.Answers.{array_sizes, array_else, behind, count_reads}
-use borrow.Author.Rules.{rules}
 use borrow.Enum.Refused.{opened}
 use Rattle.lengths.proofs.array_len.Goals as goal
 

@@ -1,6 +1,5 @@
 -- `lengths::element_len` meets its contract.
 use Rattle.lengths.proofs.Answers.{one_sizes, two_sizes}
-use borrow.Author.Rules.{rules}
 use Rattle.lengths.proofs.element_len.Goals as goal
 
 pub returns-then-t-at-lt128 : goal.returns-then-t-at-lt128

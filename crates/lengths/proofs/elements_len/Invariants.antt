@@ -1,7 +1,5 @@
 -- `lengths::elements_len` meets its contract: of the elements `left` are still to come, from the place reached on.
-use Rattle.lengths.proofs.Answers.{Counted, counted_start, counted_next, counted_else, counted_end}
-use borrow.Author.Rules.{rules}
-use borrow.Enum.Refused.{opened}
+use Rattle.lengths.proofs.Answers.{Counted}
 use Rattle.lengths.proofs.elements_len.Given as goal
 
 abbrev pub invariant-loop-left : goal.invariant-loop-left

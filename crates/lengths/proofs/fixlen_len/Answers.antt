@@ -5,7 +5,6 @@ use Rattle.layout.specs.Field.{t_fixlen}
 use Rattle.passing.proofs.Ends.{reaches_inside}
 use Rattle.lengths.specs.Lengths.{no_place, BodySizes}
 use Rattle.lengths.proofs.Answers.{fixlen_behind, fixlen_sizes, fixlen_else, fixlen_nowhere}
-use borrow.Author.Rules.{rules}
 use borrow.Enum.Refused.{opened}
 use Rattle.lengths.proofs.fixlen_len.Goals as goal
 

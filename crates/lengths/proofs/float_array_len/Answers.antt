@@ -6,7 +6,6 @@ use Rattle.passing.proofs.Ends.{reaches_inside}
 use Rattle.bodies.proofs.Landing.{count_small}
 use Rattle.lengths.specs.Lengths.{no_place, BodySizes}
 use Rattle.lengths.proofs.Answers.{floats_behind, floats_sizes, floats_else, floats_no_word, floats_nowhere}
-use borrow.Author.Rules.{rules}
 use borrow.Enum.Refused.{opened}
 use Rattle.lengths.proofs.float_array_len.Goals as goal
 

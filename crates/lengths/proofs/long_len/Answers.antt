@@ -2,7 +2,6 @@
 use native.Mathlib.Omega.{arith}
 use mathlib.Core.Path.{refl}
 use Rattle.lengths.proofs.Answers.{own_past, own_sizes}
-use borrow.Author.Rules.{rules}
 use Rattle.lengths.proofs.long_len.Goals as goal
 
 pub overflow_sub-result : goal.overflow_sub-result

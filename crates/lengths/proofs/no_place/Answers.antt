@@ -2,7 +2,6 @@
 use mathlib.Core.Path.{sym, ap}
 use Rattle.lengths.specs.Lengths.{no_place}
 use Rattle.lengths.proofs.Answers.{else_nowhere}
-use borrow.Author.Rules.{rules}
 use borrow.Enum.Refused.{opened}
 use Rattle.lengths.proofs.no_place.Goals as goal
 

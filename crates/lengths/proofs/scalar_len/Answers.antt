@@ -1,6 +1,5 @@
 -- `lengths::scalar_len` meets its contract.
 use Rattle.lengths.proofs.Answers.{one_sizes, as_scalars}
-use borrow.Author.Rules.{rules}
 use Rattle.lengths.proofs.scalar_len.Goals as goal
 
 pub returns-then-t-at-lt128 : goal.returns-then-t-at-lt128

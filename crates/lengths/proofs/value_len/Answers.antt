@@ -3,7 +3,6 @@ use native.Mathlib.Omega.{arith}
 use mathlib.Core.Path.{sym, ap, ◌∙◌, subst}
 use Rattle.lengths.specs.Lengths.{no_place, Sizes}
 use Rattle.lengths.proofs.Answers.{value_sizes, else_sizes, behind, value_reads}
-use borrow.Author.Rules.{rules}
 use borrow.Enum.Refused.{opened}
 use Rattle.lengths.proofs.value_len.Goals as goal
 

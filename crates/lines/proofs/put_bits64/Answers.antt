@@ -3,7 +3,6 @@ use Rattle.lines.proofs.Numbers.{hexadecimal_is}
 use mathlib.Core.Path.{◌∙◌}
 use lib.Dec.{lit≤}
 use Rattle.putting.proofs.Turns.{says}
-use borrow.Author.Rules.{rules}
 use Rattle.lines.proofs.put_bits64.Goals as goal
 
 pub returns : goal.returns

@@ -2,7 +2,6 @@
 use mathlib.Core.Path.{sym}
 use Rattle.putting.proofs.Turns.{says}
 use Rattle.lines.proofs.Texts.{joined, byte_line_lem}
-use borrow.Author.Rules.{rules}
 use Rattle.lines.proofs.put_byte.Goals as goal
 
 pub returns : goal.returns

@@ -2,13 +2,11 @@
 use mathlib.Core.Path.{sym, ap}
 use Prim.Native.Nat.{◌-◌, ◌≤◌, ◌<◌}
 use native.Mathlib.Omega.{arith}
-use lib.ListN.{length, take}
+use lib.ListN.{length}
 use lib.Seq.{take_all}
-use borrow.Author.Rules.{rules}
 use borrow.Author.Tests.{ltb-true, ltb-false}
 use Rattle.layout.specs.Field.{each}
 use Rattle.event_list.specs.Lines.{byte_line}
-use Rattle.putting.specs.Put.{Puts}
 use Rattle.putting.proofs.Turns.{says}
 use Rattle.lines.proofs.Texts.{joined, nothing, length_kept, each_none, each_more}
 use Rattle.lines.proofs.put_bytes.Goals as goal

@@ -2,7 +2,6 @@
 use Rattle.lines.proofs.Numbers.{decimal_is}
 use mathlib.Core.Path.{◌∙◌}
 use Rattle.putting.proofs.Turns.{says}
-use borrow.Author.Rules.{rules}
 use Rattle.lines.proofs.put_decimal.Goals as goal
 
 pub returns : goal.returns

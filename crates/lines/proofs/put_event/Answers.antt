@@ -2,7 +2,6 @@
 use mathlib.Core.Path.{sym, ap, ◌∙◌}
 use Rattle.shown.specs.Spelled.{shown_text}
 use Rattle.putting.proofs.Turns.{says}
-use borrow.Author.Rules.{rules}
 use Rattle.lines.proofs.put_event.Goals as goal
 
 pub returns-in-Line : goal.returns-in-Line

@@ -1,6 +1,5 @@
 -- `lines::put_line`.
 use Rattle.lines.proofs.Texts.{joined}
-use borrow.Author.Rules.{rules}
 use Rattle.lines.proofs.put_line.Goals as goal
 
 pub returns : goal.returns

@@ -3,7 +3,6 @@ use mathlib.Core.Path.{sym, ap}
 use Rattle.shown.specs.Spelled.{part_text}
 use Rattle.putting.proofs.Turns.{says}
 use Rattle.lines.proofs.Texts.{joined, nothing}
-use borrow.Author.Rules.{rules}
 use Rattle.lines.proofs.put_part.Goals as goal
 
 pub returns-in-Nothing : goal.returns-in-Nothing

@@ -8,7 +8,6 @@ use Rattle.layout.specs.Field.{each}
 use Rattle.event_list.specs.Lines.{byte_line}
 use Rattle.putting.proofs.Turns.{says}
 use Rattle.lines.proofs.Texts.{clipped, part_is}
-use borrow.Author.Rules.{rules}
 use Rattle.lines.proofs.put_piece.Goals as goal
 
 within : (f t from to : ℕ) (l : List ℕ) → from ≡ min f to → to ≡ min t (length l) → slice from to l ≡ slice f t l

@@ -1,7 +1,6 @@
 -- `listing::list` is safe and ends.
 use mathlib.Core.Path.{◌≡◌}
 use lib.ListN.{length}
-use borrow.Author.Rules.{rules}
 use Rattle.listing.proofs.list.Given as goal
 
 abbrev pub invariant-loop-turns : goal.invariant-loop-turns

@@ -1,7 +1,6 @@
 -- `low_bytes::put_eight`: four low bytes and the next four.
 use native.Mathlib.Omega.{arith}
 use Prim.Native.Nat.{◌/◌}
-use borrow.Author.Rules.{rules}
 use Rattle.layout.specs.Field.{low_bytes}
 use Rattle.low_bytes.proofs.Low.{length_low}
 use Rattle.low_bytes.proofs.Stores.{eight_low}

@@ -2,7 +2,6 @@
 use native.Mathlib.Omega.{arith}
 use lib.ListN.{length-set}
 use Rattle.low_bytes.proofs.Stores.{four_low}
-use borrow.Author.Rules.{rules}
 use Rattle.low_bytes.proofs.put_four.Goals as goal
 
 pub bounds-buf-pos-2 : goal.bounds-buf-pos-2

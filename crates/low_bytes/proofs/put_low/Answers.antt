@@ -2,9 +2,8 @@
 use mathlib.Core.Path.{◌∙◌}
 use native.Mathlib.Omega.{arith}
 use borrow.Author.Tests.{ltb-true, ltb-false}
-use Rattle.layout.specs.Field.{low_bytes}
 use Rattle.low_bytes.proofs.Low.{low_more, length_low}
-use Rattle.putting.proofs.Turns.{Left, start, next, no_room, none_left}
+use Rattle.putting.proofs.Turns.{start, next, no_room, none_left}
 use Rattle.low_bytes.proofs.put_low.Goals as goal
 
 pub loop-at-init : goal.loop-at-init

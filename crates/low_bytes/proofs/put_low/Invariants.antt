@@ -1,10 +1,6 @@
 -- `low_bytes::put_low`: at each turn, the rest's low bytes are left to write.
-use mathlib.Core.Path.{◌∙◌}
-use native.Mathlib.Omega.{arith}
-use borrow.Author.Tests.{ltb-true, ltb-false}
 use Rattle.layout.specs.Field.{low_bytes}
-use Rattle.low_bytes.proofs.Low.{low_more, length_low}
-use Rattle.putting.proofs.Turns.{Left, start, next, no_room, none_left}
+use Rattle.putting.proofs.Turns.{Left}
 use Rattle.low_bytes.proofs.put_low.Given as goal
 
 abbrev pub invariant-loop-at : goal.invariant-loop-at

@@ -2,7 +2,6 @@
 use Prim.Native.Nat.{ℕ, ◌-◌, ◌≤◌}
 use mathlib.Core.Path.{◌≡◌, sym, ap, ◌∙◌}
 use native.Mathlib.Omega.{arith}
-use borrow.Author.Rules.{rules}
 use borrow.Author.Tests.{ltb-true, leb-true}
 use lib.ListN.{length, drop}
 use Rattle.layout.specs.Field.{low_bytes}

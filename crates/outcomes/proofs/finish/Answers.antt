@@ -1,7 +1,6 @@
 -- `outcomes::finish`: the three outcomes by their tests.
 use native.Mathlib.Omega.{arith}
 use Rattle.outcomes.proofs.Outcomes.{reaches_beyond, reaches_through, reaches_full}
-use borrow.Author.Rules.{rules}
 use Rattle.outcomes.proofs.finish.Goals as goal
 
 pub returns-then-total-place : goal.returns-then-total-place

@@ -1,5 +1,4 @@
 -- `owed::array_output`: by kind.
-use borrow.Author.Rules.{rules}
 use Rattle.owed.proofs.array_output.Goals as goal
 
 pub returns-in-Unsigned : goal.returns-in-Unsigned

@@ -1,5 +1,4 @@
 -- `owing::announced`: by subtype.
-use borrow.Author.Rules.{rules}
 use Rattle.owing.proofs.announced.Goals as goal
 
 pub returns-in-Fp32 : goal.returns-in-Fp32

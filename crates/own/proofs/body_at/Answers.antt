@@ -5,7 +5,6 @@ use Rattle.layout.specs.Field.{t_fixlen, t_floats}
 use Rattle.shortest.proofs.Spans.{none, ends_as}
 use Rattle.own.proofs.Bodies.{with_header}
 use Rattle.own.proofs.Parts.{scalar-field, array_field, open_ends, close_ends}
-use borrow.Author.Rules.{rules}
 use Rattle.own.proofs.body_at.Goals as goal
 
 pub returns-then-depth-gt0 : goal.returns-then-depth-gt0

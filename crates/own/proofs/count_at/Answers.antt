@@ -1,6 +1,5 @@
 -- `own::count_at` meets its contract.
 use Rattle.shortest.proofs.Spans.{none, ends_as}
-use borrow.Author.Rules.{rules}
 use Rattle.own.proofs.count_at.Goals as goal
 
 pub returns-then-n : goal.returns-then-n

@@ -1,6 +1,5 @@
 -- `own::elements` meets its contract.
 use Rattle.shortest.proofs.Spans.{stretch_take}
-use borrow.Author.Rules.{rules}
 use Rattle.own.proofs.elements.Goals as goal
 
 pub returns : goal.returns

@@ -1,7 +1,6 @@
 -- `own::field_at` meets its contract.
 use Rattle.shortest.proofs.Spans.{none, found_at, reaches, stretch_as}
 use Rattle.own.proofs.Parts.{field-ends}
-use borrow.Author.Rules.{rules}
 use Rattle.own.proofs.field_at.Goals as goal
 
 pub returns-then-at-small : goal.returns-then-at-small

@@ -1,9 +1,7 @@
 -- `own::fields` meets its contract: whole fields in their shortest form stand from the start to the place reached.
 use Prim.Native.Nat.{◌-◌}
 use lib.ListN.{length}
-use Rattle.shortest.proofs.Spans.{stretch_take}
-use Rattle.own.proofs.Parts.{Ran, ran_start, ran_next}
-use borrow.Author.Rules.{rules}
+use Rattle.own.proofs.Parts.{Ran}
 use Rattle.own.proofs.fields.Given as goal
 
 abbrev pub invariant-loop-at : goal.invariant-loop-at

@@ -4,7 +4,6 @@ use borrow.Author.Tests.{eqb-true}
 use Rattle.layout.specs.Field.{fp32, fp64}
 use Rattle.shortest.proofs.Spans.{none}
 use Rattle.own.proofs.Parts.{float_ends, raw_ends}
-use borrow.Author.Rules.{rules}
 use Rattle.own.proofs.fixlen_at.Goals as goal
 
 pub returns-then-i-eq0 : goal.returns-then-i-eq0

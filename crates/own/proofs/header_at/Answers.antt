@@ -1,6 +1,5 @@
 -- `own::header_at` meets its contract.
 use Rattle.shortest.proofs.Spans.{none, ends_as}
-use borrow.Author.Rules.{rules}
 use Rattle.own.proofs.header_at.Goals as goal
 
 pub returns-then-h : goal.returns-then-h

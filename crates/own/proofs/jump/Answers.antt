@@ -1,6 +1,5 @@
 -- `own::jump` meets its contract.
 use Rattle.shortest.proofs.Spans.{none, jumps}
-use borrow.Author.Rules.{rules}
 use Rattle.own.proofs.jump.Goals as goal
 
 pub returns-then-n-t : goal.returns-then-n-t

@@ -1,10 +1,8 @@
 -- `own::long_value_at` meets its contract: the bytes so far go on, and any number above 0 may follow them.
 use Prim.Native.Nat.{◌-◌}
 use mathlib.Core.Path.{sym, ◌∙◌}
-use lib.ListN.{length}
 use Rattle.shortest.proofs.Spans.{none}
-use Rattle.own.proofs.Values.{Coming, coming_start, coming_more, coming_value, coming_one}
-use borrow.Author.Rules.{rules}
+use Rattle.own.proofs.Values.{coming_start, coming_more, coming_value, coming_one}
 use Rattle.own.proofs.long_value_at.Goals as goal
 
 pub loop-i-init : goal.loop-i-init

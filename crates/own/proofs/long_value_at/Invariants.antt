@@ -1,10 +1,7 @@
 -- `own::long_value_at` meets its contract: the bytes so far go on, and any number above 0 may follow them.
 use Prim.Native.Nat.{◌-◌}
-use mathlib.Core.Path.{sym, ◌∙◌}
 use lib.ListN.{length}
-use Rattle.shortest.proofs.Spans.{none}
-use Rattle.own.proofs.Values.{Coming, coming_start, coming_more, coming_value, coming_one}
-use borrow.Author.Rules.{rules}
+use Rattle.own.proofs.Values.{Coming}
 use Rattle.own.proofs.long_value_at.Given as goal
 
 abbrev pub invariant-loop-i : goal.invariant-loop-i

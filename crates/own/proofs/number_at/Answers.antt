@@ -1,7 +1,6 @@
 -- `own::number_at` meets its contract.
 use mathlib.Core.Path.{refl}
 use Rattle.shortest.proofs.Varints.{one_ends, two_ends}
-use borrow.Author.Rules.{rules}
 use Rattle.own.proofs.number_at.Goals as goal
 
 pub returns-then-t-at-lt128 : goal.returns-then-t-at-lt128

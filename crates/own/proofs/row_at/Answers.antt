@@ -1,7 +1,6 @@
 -- `own::row_at` meets its contract: so many numbers stand from the start to the place reached.
 use Prim.Native.Nat.{◌-◌}
-use Rattle.own.proofs.Parts.{Rowed, row-start, row_next}
-use borrow.Author.Rules.{rules}
+use Rattle.own.proofs.Parts.{row-start, row_next}
 use Rattle.own.proofs.row_at.Goals as goal
 
 pub loop-n-init : goal.loop-n-init

@@ -3,7 +3,6 @@ use mathlib.Core.Path.{sym, ◌∙◌}
 use borrow.Author.Tests.{eqb-true}
 use Rattle.shortest.proofs.Spans.{none}
 use Rattle.own.proofs.Parts.{small_open, small_close}
-use borrow.Author.Rules.{rules}
 use Rattle.own.proofs.sequence_at.Goals as goal
 
 pub returns-then-depth : goal.returns-then-depth

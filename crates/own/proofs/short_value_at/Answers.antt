@@ -2,7 +2,6 @@
 use native.Mathlib.Omega.{arith}
 use Rattle.shortest.proofs.Spans.{none}
 use Rattle.shortest.proofs.Varints.{one_value, two_value}
-use borrow.Author.Rules.{rules}
 use Rattle.own.proofs.short_value_at.Goals as goal
 
 pub returns-then-b-lt128 : goal.returns-then-b-lt128

@@ -1,7 +1,6 @@
 -- `own::small_at` meets its contract.
 use Rattle.shortest.proofs.Spans.{none}
 use Rattle.own.proofs.Parts.{small_ends}
-use borrow.Author.Rules.{rules}
 use Rattle.own.proofs.small_at.Goals as goal
 
 pub returns-then-t-at-lt128 : goal.returns-then-t-at-lt128

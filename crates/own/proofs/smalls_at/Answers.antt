@@ -1,8 +1,6 @@
 -- `own::smalls_at` meets its contract: small scalars stand from the start to the place reached.
 use Prim.Native.Nat.{◌-◌}
-use lib.ListN.{length}
-use Rattle.own.proofs.Parts.{Smalls, smalls_start, smalls_next}
-use borrow.Author.Rules.{rules}
+use Rattle.own.proofs.Parts.{smalls_start, smalls_next}
 use Rattle.own.proofs.smalls_at.Goals as goal
 
 pub loop-i-init : goal.loop-i-init

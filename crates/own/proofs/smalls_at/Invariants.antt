@@ -1,8 +1,7 @@
 -- `own::smalls_at` meets its contract: small scalars stand from the start to the place reached.
 use Prim.Native.Nat.{◌-◌}
 use lib.ListN.{length}
-use Rattle.own.proofs.Parts.{Smalls, smalls_start, smalls_next}
-use borrow.Author.Rules.{rules}
+use Rattle.own.proofs.Parts.{Smalls}
 use Rattle.own.proofs.smalls_at.Given as goal
 
 abbrev pub invariant-loop-i : goal.invariant-loop-i

@@ -1,6 +1,5 @@
 -- `own::value_at` meets its contract.
 use Rattle.shortest.proofs.Spans.{ends_as}
-use borrow.Author.Rules.{rules}
 use Rattle.own.proofs.value_at.Goals as goal
 
 pub returns-then-i-gt0 : goal.returns-then-i-gt0

@@ -4,7 +4,6 @@ use native.Mathlib.Omega.{arith}
 use Prim.Native.Nat.{ℕ}
 use borrow.Author.Tests.{eqb-true}
 use Rattle.own_copy.proofs.Own.{own_whole}
-use borrow.Author.Rules.{rules}
 use Rattle.own_copy.proofs.is_own.Goals as goal
 
 pub returns-then-n-ticket : goal.returns-then-n-ticket

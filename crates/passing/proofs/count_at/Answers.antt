@@ -1,7 +1,6 @@
 -- `passing::count_at` meets its contract: the count is tested.
 use borrow.Author.Tests.{le-leb, lt-leb}
 use Rattle.passing.proofs.Ends.{else_checked, checked_passes, checked_fails}
-use borrow.Author.Rules.{rules}
 use borrow.Enum.Refused.{opened}
 use Rattle.passing.proofs.count_at.Goals as goal
 

@@ -1,7 +1,6 @@
 -- `passing::header_at` meets its contract: the id is tested, but for that of one byte or two, which is small.
 use borrow.Author.Tests.{le-leb, lt-leb}
 use Rattle.passing.proofs.Ends.{else_checked, checked_passes, checked_fails, one_header, two-header}
-use borrow.Author.Rules.{rules}
 use borrow.Enum.Refused.{opened}
 use Rattle.passing.proofs.header_at.Goals as goal
 

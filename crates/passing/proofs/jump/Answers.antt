@@ -1,6 +1,5 @@
 -- `passing::jump` meets its contract.
 use borrow.Author.Tests.{le-leb, lt-leb}
-use borrow.Author.Rules.{rules}
 use Rattle.passing.proofs.jump.Goals as goal
 
 pub returns-then-n-t : goal.returns-then-n-t

@@ -1,9 +1,7 @@
 -- `passing::long_varint_at` meets its contract: what is left of the varint is read from the place reached, after the bytes so far.
 use Prim.Native.Nat.{◌-◌}
 use mathlib.Core.Path.{sym, ◌∙◌}
-use lib.ListN.{length}
-use borrow.Author.Rules.{rules}
-use Rattle.passing.proofs.Varints.{Under, under_start, under_more, under_value, under_over, under_end}
+use Rattle.passing.proofs.Varints.{under_start, under_more, under_value, under_over, under_end}
 use Rattle.passing.proofs.long_varint_at.Goals as goal
 
 pub loop-i-init : goal.loop-i-init

@@ -2,7 +2,6 @@
 use mathlib.Core.Path.{sym, ap}
 use Rattle.passing.specs.Passing.{no_value}
 use Rattle.passing.proofs.Ends.{else_short}
-use borrow.Author.Rules.{rules}
 use borrow.Enum.Refused.{opened}
 use Rattle.passing.proofs.no_value.Goals as goal
 

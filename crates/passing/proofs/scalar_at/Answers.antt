@@ -1,6 +1,5 @@
 -- `passing::scalar_at` meets its contract.
 use Rattle.passing.proofs.Varints.{one_passes}
-use borrow.Author.Rules.{rules}
 use Rattle.passing.proofs.scalar_at.Goals as goal
 
 pub returns-then-t-at-lt128 : goal.returns-then-t-at-lt128

@@ -1,8 +1,6 @@
 -- `passing::skip_at` meets its contract: what is left of the varint is read from the place reached, after i - at bytes.
 use Prim.Native.Nat.{◌-◌}
-use lib.ListN.{length}
-use borrow.Author.Rules.{rules}
-use Rattle.passing.proofs.Varints.{Skipping, skipping_start, skipping_more, skipping_ends, skipping_last, skipping_over, skipping_end}
+use Rattle.passing.proofs.Varints.{skipping_start, skipping_more, skipping_ends, skipping_last, skipping_over, skipping_end}
 use Rattle.passing.proofs.skip_at.Goals as goal
 
 pub loop-i-init : goal.loop-i-init

@@ -1,6 +1,5 @@
 -- `passing::skip_varints` meets its contract: of the varints `left` are still to come, from the place reached on.
-use borrow.Author.Rules.{rules}
-use Rattle.passing.proofs.Ends.{Skipped, skipped_start, skipped_next, skipped_else, skipped_end}
+use Rattle.passing.proofs.Ends.{skipped_start, skipped_next, skipped_else, skipped_end}
 use borrow.Enum.Refused.{opened}
 use Rattle.passing.proofs.skip_varints.Goals as goal
 

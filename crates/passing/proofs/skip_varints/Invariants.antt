@@ -1,7 +1,5 @@
 -- `passing::skip_varints` meets its contract: of the varints `left` are still to come, from the place reached on.
-use borrow.Author.Rules.{rules}
-use Rattle.passing.proofs.Ends.{Skipped, skipped_start, skipped_next, skipped_else, skipped_end}
-use borrow.Enum.Refused.{opened}
+use Rattle.passing.proofs.Ends.{Skipped}
 use Rattle.passing.proofs.skip_varints.Given as goal
 
 abbrev pub invariant-loop-left : goal.invariant-loop-left

@@ -1,6 +1,5 @@
 -- `passing::varint_at` meets its contract.
 use Rattle.passing.proofs.Varints.{one_reaches}
-use borrow.Author.Rules.{rules}
 use Rattle.passing.proofs.varint_at.Goals as goal
 
 pub returns-then-b-lt128 : goal.returns-then-b-lt128

@@ -2,7 +2,6 @@
 use mathlib.Core.Path.{sym}
 use lib.Seq.{length-take-le}
 use borrow.Author.Tests.{le-leb, lt-leb}
-use borrow.Author.Rules.{rules}
 use Rattle.payload.proofs.first.Goals as goal
 
 pub slice_bounds-result-end : goal.slice_bounds-result-end

@@ -1,6 +1,5 @@
 -- `payload::payload` meets its contract: the part that the answer names, and none of an unsound state.
 use borrow.Author.Tests.{le-leb, lt-leb}
-use borrow.Author.Rules.{rules}
 use Rattle.payload.proofs.payload.Goals as goal
 
 pub returns-then-buf-acc : goal.returns-then-buf-acc

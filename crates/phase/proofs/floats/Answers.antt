@@ -6,7 +6,6 @@ use Rattle.machine.specs.Machine.{in_float}
 use Rattle.phase.specs.declared.Phase.TheVariants.{Float}
 use Rattle.phase.specs.Phases.{phase_in}
 use Rattle.phase.proofs.Phases.{some_left, float_back}
-use borrow.Author.Rules.{rules}
 use Rattle.phase.proofs.floats.Goals as goal
 
 pub returns-else-left-eq0 : goal.returns-else-left-eq0

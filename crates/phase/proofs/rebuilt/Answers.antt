@@ -2,7 +2,6 @@
 use Rattle.phase.specs.declared.Phase.TheVariants.{Header, Unsigned, Signed, Word, UnsignedCount, SignedCount, FloatCount, ArrayWord}
 use Rattle.varint.specs.declared.Acc.{Acc}
 use mathlib.Core.Path.{sym, ap, ◌∙◌}
-use borrow.Author.Rules.{rules}
 use Rattle.phase.proofs.rebuilt.Goals as goal
 
 pub returns-in-Header : goal.returns-in-Header

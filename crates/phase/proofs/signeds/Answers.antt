@@ -3,7 +3,6 @@ use mathlib.Core.Path.{sym, ap}
 use Rattle.machine.specs.Machine.{in_signed}
 use Rattle.phase.specs.Phases.{phase_in}
 use Rattle.phase.proofs.Phases.{some_left}
-use borrow.Author.Rules.{rules}
 use Rattle.phase.proofs.signeds.Goals as goal
 
 pub returns-else-left-eq0 : goal.returns-else-left-eq0

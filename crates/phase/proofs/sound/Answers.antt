@@ -2,7 +2,6 @@
 use mathlib.Core.Path.{sym, ap, ◌∙◌}
 use Rattle.layout.specs.Limits.{base}
 use Rattle.phase.specs.Phases.{sound_phase}
-use borrow.Author.Rules.{rules}
 use Rattle.phase.proofs.sound.Goals as goal
 
 pub returns-in-Header : goal.returns-in-Header

@@ -4,7 +4,6 @@ use mathlib.Core.Path.{subst}
 use native.Mathlib.Omega.{arith}
 use borrow.Author.Tests.{lt-leb, le-leb, lt-ltb, le-ltb}
 use Rattle.phase.proofs.Phases.{bytes_8, below}
-use borrow.Author.Rules.{rules}
 use Rattle.phase.proofs.sound_float.Goals as goal
 
 pub returns-then-id-gt-ID_MAX : goal.returns-then-id-gt-ID_MAX

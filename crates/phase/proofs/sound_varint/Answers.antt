@@ -1,6 +1,5 @@
 -- `phase::sound_varint` meets its contract.
 use borrow.Author.Tests.{lt-leb, le-leb}
-use borrow.Author.Rules.{rules}
 use Rattle.phase.proofs.sound_varint.Goals as goal
 
 pub returns-then-id-gt-ID_MAX : goal.returns-then-id-gt-ID_MAX

@@ -3,7 +3,6 @@ use mathlib.Core.Path.{sym, ap}
 use Rattle.machine.specs.Machine.{in_unsigned}
 use Rattle.phase.specs.Phases.{phase_in}
 use Rattle.phase.proofs.Phases.{some_left}
-use borrow.Author.Rules.{rules}
 use Rattle.phase.proofs.unsigneds.Goals as goal
 
 pub returns-else-left-eq0 : goal.returns-else-left-eq0

@@ -1,12 +1,8 @@
 -- `places::clear`: the first i places are zeroed.
-use Prim.Native.Nat.{ℕ, ◌-◌, ◌≤◌}
-use mathlib.Core.Path.{◌≡◌, refl, ap, ◌∙◌}
-use native.Mathlib.Omega.{arith}
-use borrow.Author.Rules.{rules}
-use mathlib.Core.List.{List}
-use lib.ListN.{length, set}
+use Prim.Native.Nat.{◌-◌, ◌≤◌}
+use mathlib.Core.Path.{◌≡◌}
+use lib.ListN.{length}
 use Rattle.places.specs.Places.{zeroed, lazy_depth}
-use Rattle.places.proofs.Places.{zeroed-more, length-zeroed}
 use Rattle.places.proofs.clear.Given as goal
 
 abbrev pub invariant-loop-i : goal.invariant-loop-i

@@ -1,13 +1,11 @@
 -- `places::ids_legal`: the ids before i are legal, so what the rest comes to is what all come to.
-use Prim.Native.Nat.{◌-◌, ◌≤◌}
+use Prim.Native.Nat.{◌-◌}
 use mathlib.Core.Path.{◌≡◌, refl, sym, ◌∙◌}
 use native.Mathlib.Omega.{arith}
 use borrow.Author.Rules.{rules}
 use borrow.Author.Tests.{le-leb, lt-leb}
-use lib.Dec.{leb}
-use lib.ListN.{length, take, drop}
-use Rattle.layout.specs.Limits.{base}
-use Rattle.places.specs.Places.{every, lazy_depth}
+use lib.ListN.{length}
+use Rattle.places.specs.Places.{lazy_depth}
 use Rattle.places.proofs.Places.{first_fails, first_on, first_end}
 use Rattle.places.proofs.ids_legal.Goals as goal
 

@@ -1,14 +1,10 @@
 -- `places::ids_legal`: the ids before i are legal, so what the rest comes to is what all come to.
 use Prim.Native.Nat.{◌-◌, ◌≤◌}
-use mathlib.Core.Path.{◌≡◌, refl, sym, ◌∙◌}
-use native.Mathlib.Omega.{arith}
-use borrow.Author.Rules.{rules}
-use borrow.Author.Tests.{le-leb, lt-leb}
+use mathlib.Core.Path.{◌≡◌}
 use lib.Dec.{leb}
-use lib.ListN.{length, take, drop}
+use lib.ListN.{take, drop}
 use Rattle.layout.specs.Limits.{base}
-use Rattle.places.specs.Places.{every, lazy_depth}
-use Rattle.places.proofs.Places.{first_fails, first_on, first_end}
+use Rattle.places.specs.Places.{every}
 use Rattle.places.proofs.ids_legal.Given as goal
 
 abbrev pub invariant-loop-i : goal.invariant-loop-i

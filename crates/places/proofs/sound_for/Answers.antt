@@ -1,6 +1,5 @@
 -- `places::sound_for`: the tests of a sound state, one after another.
 use mathlib.Core.Path.{sym, ◌∙◌}
-use borrow.Author.Rules.{rules}
 use borrow.Author.Tests.{le-leb, lt-leb}
 use Rattle.places.proofs.sound_for.Goals as goal
 

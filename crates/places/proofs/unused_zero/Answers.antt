@@ -1,12 +1,12 @@
 -- `places::unused_zero`: the places before i are zero, so what the rest comes to is what all come to.
-use Prim.Native.Nat.{◌-◌, ◌≤◌}
+use Prim.Native.Nat.{◌-◌}
 use mathlib.Core.Path.{◌≡◌, refl, sym, ◌∙◌}
 use native.Mathlib.Omega.{arith}
 use borrow.Author.Rules.{rules}
 use borrow.Author.Tests.{eq-eqb, ne_eqb}
 use lib.Dec.{eqb}
-use lib.ListN.{length, drop}
-use Rattle.places.specs.Places.{every, lazy_depth}
+use lib.ListN.{length}
+use Rattle.places.specs.Places.{lazy_depth}
 use Rattle.places.proofs.Places.{every_fails, every_on, every_end}
 use Rattle.places.proofs.unused_zero.Goals as goal
 

@@ -1,13 +1,9 @@
 -- `places::unused_zero`: the places before i are zero, so what the rest comes to is what all come to.
 use Prim.Native.Nat.{◌-◌, ◌≤◌}
-use mathlib.Core.Path.{◌≡◌, refl, sym, ◌∙◌}
-use native.Mathlib.Omega.{arith}
-use borrow.Author.Rules.{rules}
-use borrow.Author.Tests.{eq-eqb, ne_eqb}
+use mathlib.Core.Path.{◌≡◌}
 use lib.Dec.{eqb}
-use lib.ListN.{length, drop}
+use lib.ListN.{drop}
 use Rattle.places.specs.Places.{every, lazy_depth}
-use Rattle.places.proofs.Places.{every_fails, every_on, every_end}
 use Rattle.places.proofs.unused_zero.Given as goal
 
 abbrev pub invariant-loop-i : goal.invariant-loop-i

@@ -2,7 +2,6 @@
 use Rattle.layout.specs.Limits.{base}
 use Rattle.read_at_once.proofs.AtOnce.{from_header, from_unsigned, from_signed, spent_header, spent_unsigned, spent_signed}
 use mathlib.Core.Path.{sym, ◌∙◌}
-use borrow.Author.Rules.{rules}
 use Rattle.read_at_once.proofs.at_once.Goals as goal
 
 pub returns-then-chunk-eq0 : goal.returns-then-chunk-eq0

@@ -1,10 +1,8 @@
 -- `read_at_once::long_varint` meets its contract: at each turn, whatever takes the varint is as far as the bytes so far have come to.
 use Prim.Native.Nat.{◌-◌}
 use mathlib.Core.Path.{refl, sym, ◌∙◌}
-use lib.ListN.{length}
 use Rattle.layout.specs.Limits.{base}
-use Rattle.read_at_once.proofs.AtOnce.{Under, under_start, under_more, under_value}
-use borrow.Author.Rules.{rules}
+use Rattle.read_at_once.proofs.AtOnce.{under_start, under_more, under_value}
 use Rattle.read_at_once.proofs.long_varint.Goals as goal
 
 pub loop-i-init : goal.loop-i-init

@@ -2,7 +2,6 @@
 use mathlib.Core.Path.{sym, ap, ◌∙◌}
 use Rattle.read_at_once.specs.AtOnce.{raised_of}
 use Rattle.read_at_once.proofs.AtOnce.{none_raised}
-use borrow.Author.Rules.{rules}
 use borrow.Enum.Refused.{opened}
 use Rattle.read_at_once.proofs.raised.Goals as goal
 

@@ -7,7 +7,6 @@ use Rattle.phase.specs.Phases.{phase_in}
 use Rattle.machine.specs.Machine.{first_or, in_unsigned}
 use mathlib.Core.Path.{ap, ◌∙◌, subst}
 use Prim.Native.Nat.{ℕ}
-use borrow.Author.Rules.{rules}
 use Rattle.read_at_once.proofs.unsigned_at.Goals as goal
 
 pub returns : goal.returns

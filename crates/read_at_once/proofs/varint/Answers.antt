@@ -4,7 +4,6 @@ use native.Mathlib.Omega.{arith}
 use Prim.Native.Nat.{◌+◌}
 use Rattle.layout.specs.Limits.{base}
 use Rattle.read_at_once.proofs.AtOnce.{under_start, under_more, under_value}
-use borrow.Author.Rules.{rules}
 use Rattle.read_at_once.proofs.varint.Goals as goal
 
 pub returns-in-Value : goal.returns-in-Value

@@ -2,7 +2,6 @@
 use mathlib.Core.Path.{◌∙◌}
 use Rattle.layout.specs.Limits.{base}
 use Rattle.read_slowly.proofs.Calls.{no_bytes, part_read, rest_read}
-use borrow.Author.Rules.{rules}
 use Rattle.read_slowly.proofs.payload.Goals as goal
 
 pub returns-then-len-eq0 : goal.returns-then-len-eq0

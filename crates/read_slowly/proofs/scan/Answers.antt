@@ -1,16 +1,13 @@
 -- `read_slowly::scan` meets its contract: each turn, the call is what reading on from the state reached comes to.
-use Prim.Native.Nat.{◌≤◌, ◌-◌}
-use mathlib.Core.Path.{◌≡◌, ◌∙◌}
+use Prim.Native.Nat.{◌-◌}
+use mathlib.Core.Path.{◌∙◌}
 use native.Mathlib.Omega.{arith}
-use lib.ListN.{length, get_or, drop}
+use lib.ListN.{get_or}
 use mir.Syntax.{w8}
 use mir.Val.{Fits}
-use borrow.Author.Rules.{rules}
 use Rattle.layout.specs.Limits.{base}
-use Rattle.machine.specs.Calls.{call}
 use Rattle.phase.specs.Phases.{state_at}
-use Rattle.phase.specs.Sound.{AtBytes}
-use Rattle.read_slowly.proofs.Calls.{scan_on, call-scan, turn-ends, turn_goes, turn_last}
+use Rattle.read_slowly.proofs.Calls.{call-scan, turn-ends, turn_goes, turn_last}
 use borrow.Enum.Refused.{opened}
 use Rattle.read_slowly.proofs.scan.Goals as goal
 

@@ -1,17 +1,12 @@
 -- `read_slowly::scan` meets its contract: each turn, the call is what reading on from the state reached comes to.
 use Prim.Native.Nat.{◌≤◌, ◌-◌}
-use mathlib.Core.Path.{◌≡◌, ◌∙◌}
-use native.Mathlib.Omega.{arith}
-use lib.ListN.{length, get_or, drop}
-use mir.Syntax.{w8}
-use mir.Val.{Fits}
-use borrow.Author.Rules.{rules}
+use mathlib.Core.Path.{◌≡◌}
+use lib.ListN.{length, drop}
 use Rattle.layout.specs.Limits.{base}
 use Rattle.machine.specs.Calls.{call}
 use Rattle.phase.specs.Phases.{state_at}
 use Rattle.phase.specs.Sound.{AtBytes}
-use Rattle.read_slowly.proofs.Calls.{scan_on, call-scan, turn-ends, turn_goes, turn_last}
-use borrow.Enum.Refused.{opened}
+use Rattle.read_slowly.proofs.Calls.{scan_on}
 use Rattle.read_slowly.proofs.scan.Given as goal
 
 abbrev pub invariant-loop-n : goal.invariant-loop-n

@@ -1,9 +1,7 @@
 -- `shortest::long_number_at` meets its contract: the bytes so far go on, and any number above 0 may follow them.
 use Prim.Native.Nat.{◌-◌}
 use lib.ListN.{length}
-use Rattle.shortest.proofs.Spans.{none}
-use Rattle.shortest.proofs.Varints.{Going, going_start, going_from, going_more, going_ends, going_last, one_ends}
-use borrow.Author.Rules.{rules}
+use Rattle.shortest.proofs.Varints.{Going}
 use Rattle.shortest.proofs.long_number_at.Given as goal
 
 abbrev pub invariant-loop-i : goal.invariant-loop-i

@@ -3,7 +3,6 @@ use mathlib.Core.Path.{◌∙◌}
 use Rattle.layout.specs.Limits.{base}
 use Rattle.step.proofs.Steps.{over_in, more_in, value_in}
 use Rattle.machine.specs.Machine.{step, at_array_word}
-use borrow.Author.Rules.{rules}
 use borrow.Enum.Refused.{opened}
 use Rattle.step.proofs.array_word.Goals as goal
 

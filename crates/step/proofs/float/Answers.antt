@@ -14,7 +14,6 @@ use Rattle.phase.specs.Phases.{phase_in}
 use Rattle.phase.proofs.Phases.{bytes_8, byte_below, next_first}
 use Rattle.step.proofs.Steps.{joined_byte, float_more, float_whole}
 use Rattle.phase.proofs.Steps.{raised}
-use borrow.Author.Rules.{rules}
 use Rattle.step.proofs.float.Goals as goal
 
 pub overflow_mul-x : goal.overflow_mul-x

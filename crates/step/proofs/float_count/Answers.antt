@@ -3,7 +3,6 @@ use mathlib.Core.Path.{◌∙◌}
 use Rattle.layout.specs.Limits.{base}
 use Rattle.step.proofs.Steps.{over_in, more_in, value_in, count_bad_float, count_in_float}
 use Rattle.machine.specs.Machine.{step}
-use borrow.Author.Rules.{rules}
 use borrow.Enum.Refused.{opened}
 use Rattle.step.proofs.float_count.Goals as goal
 

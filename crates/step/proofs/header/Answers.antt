@@ -4,7 +4,6 @@ use Rattle.layout.specs.Limits.{base}
 use Rattle.step.proofs.Steps.{over_in, more_in, value_in}
 use Rattle.headers.proofs.Headers.{id_beyond, header_in}
 use Rattle.machine.specs.Machine.{step}
-use borrow.Author.Rules.{rules}
 use borrow.Enum.Refused.{opened}
 use Rattle.step.proofs.header.Goals as goal
 

@@ -6,7 +6,6 @@ use Rattle.phase.specs.Phases.{state_at}
 use Rattle.phase.specs.Steps.{stepped, step_on}
 use Rattle.phase.specs.Sound.{AtBytes}
 use Rattle.phase.proofs.Scans.{no_bulk}
-use borrow.Author.Rules.{rules}
 use Rattle.step.proofs.step.Goals as goal
 
 pub header-requires : goal.header-requires

@@ -8,7 +8,6 @@ use Rattle.step.proofs.Steps.{over_in, more_in, value_in}
 use Rattle.phase.proofs.Steps.{raised}
 use Rattle.phase.proofs.Phases.{next_first}
 use Rattle.machine.specs.Machine.{step, first_or, in_unsigned, at_unsigned}
-use borrow.Author.Rules.{rules}
 use borrow.Enum.Refused.{opened}
 use Rattle.step.proofs.unsigned.Goals as goal
 

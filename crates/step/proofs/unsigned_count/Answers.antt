@@ -6,7 +6,6 @@ use Rattle.types.specs.declared.ArrayKind.TheVariants as ArrayKinds
 use Rattle.step.proofs.Steps.{over_in, more_in, value_in, count_bad, count_in_lem}
 use Rattle.phase.proofs.Steps.{raised}
 use Rattle.machine.specs.Machine.{step}
-use borrow.Author.Rules.{rules}
 use borrow.Enum.Refused.{opened}
 use Rattle.step.proofs.unsigned_count.Goals as goal
 

@@ -4,7 +4,6 @@ use Rattle.phase.specs.declared.Phase.{Phase}
 use Rattle.phase.specs.Phases.{state_at}
 use Rattle.copying.specs.Owed.{due_in}
 use Rattle.turns.proofs.Tests.{none-due}
-use borrow.Author.Rules.{rules}
 use borrow.Enum.Refused.{opened}
 use Rattle.turns.proofs.due.Goals as goal
 

@@ -1,6 +1,5 @@
 -- `turns::heard`: by the reader's answer.
 use Rattle.turns.proofs.Tests.{heard_event, heard_status, heard-refused}
-use borrow.Author.Rules.{rules}
 use Rattle.turns.proofs.heard.Goals as goal
 
 pub returns-in-Event : goal.returns-in-Event

@@ -6,7 +6,6 @@ use lib.Seq.{length-take-le}
 use Rattle.turns.proofs.Events.{steady}
 use Rattle.turns.proofs.Turns.{steady_turn, ahead_went}
 use Rattle.turns.proofs.Tests.{turned_by, went_is}
-use borrow.Author.Rules.{rules}
 use borrow.Enum.Refused.{opened}
 use Rattle.turns.proofs.one_turn.Goals as goal
 

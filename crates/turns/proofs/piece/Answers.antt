@@ -4,7 +4,6 @@ use native.Mathlib.Omega.{arith}
 use lib.Seq.{length-take-le}
 use Rattle.turns.proofs.Pieces.{piece_small, piece-ends, piece_stops}
 use Rattle.turns.proofs.Tests.{turned_stop}
-use borrow.Author.Rules.{rules}
 use Rattle.turns.proofs.piece.Goals as goal
 
 pub overflow_sub-total : goal.overflow_sub-total

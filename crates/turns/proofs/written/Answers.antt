@@ -5,7 +5,6 @@ use lib.ListN.{length, drop}
 use Rattle.output.specs.Output.{output_bytes}
 use Rattle.putting.proofs.Writes.{reached_is}
 use Rattle.turns.proofs.Tests.{event_full, event_fits}
-use borrow.Author.Rules.{rules}
 use Rattle.turns.proofs.written.Goals as goal
 
 pub returns-then-room-ge-OUTPUT_MAX : goal.returns-then-room-ge-OUTPUT_MAX

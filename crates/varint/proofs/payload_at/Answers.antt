@@ -1,5 +1,5 @@
 -- `varint::payload_at` meets its contract: the mask is a remainder, and nothing is shifted out.
-use Rattle.std.proofs.Common.{arith, rules}
+use Rattle.std.proofs.Common.{arith}
 use lib.Bits.{mask_lt}
 use Rattle.varint.proofs.Digits.{shifted}
 use Rattle.varint.proofs.payload_at.Goals as goal

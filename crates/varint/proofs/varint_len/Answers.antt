@@ -1,5 +1,5 @@
 -- `varint::varint_len` meets its contract.
-use Rattle.std.proofs.Common.{le_trans, lit≤, rules}
+use Rattle.std.proofs.Common.{le_trans, lit≤}
 use lib.Count.{leading_le}
 use Rattle.varint.proofs.Zeros.{width_is}
 use Rattle.varint.proofs.varint_len.Goals as goal

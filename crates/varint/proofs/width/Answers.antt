@@ -1,5 +1,5 @@
 -- `varint::width` meets its contract.
-use Rattle.std.proofs.Common.{sym, arith, rules}
+use Rattle.std.proofs.Common.{sym, arith}
 use Rattle.varint.proofs.Shortest.{length_one, length-at_most, length_above}
 use Rattle.varint.proofs.width.Goals as goal
 

@@ -1,5 +1,5 @@
 -- `varint::zigzag_decode` meets its contract: the half, or the half with its bits flipped.
-use Rattle.std.proofs.Common.{◌≡◌, suc, ◌-◌, ◌/◌, ◌^◌, ◌<◌, ap, ◌∙◌, arith, w64, to_z, rules, eq-eqb, ne_eqb}
+use Rattle.std.proofs.Common.{◌≡◌, suc, ◌-◌, ◌/◌, ◌^◌, ◌<◌, ap, ◌∙◌, arith, w64, to_z, eq-eqb, ne_eqb}
 use mir.Facts.{to_z_pos, to_z-neg}
 use Rattle.varint.proofs.zigzag_decode.Goals as goal
 

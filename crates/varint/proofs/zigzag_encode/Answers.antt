@@ -1,5 +1,5 @@
 -- `varint::zigzag_encode` meets its contract: twice the bits, flipped below 0.
-use Rattle.std.proofs.Common.{◌≡◌, suc, ◌+◌, ◌-◌, ◌*◌, ◌^◌, sym, ap, ◌∙◌, arith, w64, of_z, rules}
+use Rattle.std.proofs.Common.{◌≡◌, suc, ◌+◌, ◌-◌, ◌*◌, ◌^◌, sym, ap, ◌∙◌, arith, w64, of_z}
 use mir.ValLaws.{to_z-of_z}
 use Rattle.layout.specs.Zigzag.{zigzag}
 use Rattle.varint.proofs.Sign.{negative, natural}

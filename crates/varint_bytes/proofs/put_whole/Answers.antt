@@ -1,10 +1,9 @@
 -- `varint_bytes::put_whole`: at each turn, the rest's varint is left to write.
 use Prim.Native.Nat.{◌-◌}
 use native.Mathlib.Omega.{arith}
-use lib.ListN.{length, length-set}
-use Rattle.layout.specs.Varint.{shortest}
+use lib.ListN.{length-set}
 use Rattle.varint.proofs.Shortest.{shortest_one, shortest-more}
-use Rattle.putting.proofs.Turns.{Left, start, next, no_room, ended}
+use Rattle.putting.proofs.Turns.{start, next, no_room, ended}
 use Rattle.varint_bytes.proofs.put_whole.Goals as goal
 
 pub loop-at-init : goal.loop-at-init

@@ -1,10 +1,8 @@
 -- `varint_bytes::put_whole`: at each turn, the rest's varint is left to write.
 use Prim.Native.Nat.{◌-◌}
-use native.Mathlib.Omega.{arith}
-use lib.ListN.{length, length-set}
+use lib.ListN.{length}
 use Rattle.layout.specs.Varint.{shortest}
-use Rattle.varint.proofs.Shortest.{shortest_one, shortest-more}
-use Rattle.putting.proofs.Turns.{Left, start, next, no_room, ended}
+use Rattle.putting.proofs.Turns.{Left}
 use Rattle.varint_bytes.proofs.put_whole.Given as goal
 
 abbrev pub invariant-loop-at : goal.invariant-loop-at

@@ -1,7 +1,6 @@
 -- `whole::at_depth` meets its contract.
 use mathlib.Core.Path.{sym, ap}
 use Rattle.whole.specs.Whole.{deepened}
-use borrow.Author.Rules.{rules}
 use Rattle.whole.proofs.at_depth.Goals as goal
 
 pub returns-in-At : goal.returns-in-At

@@ -2,7 +2,6 @@
 use mathlib.Core.Path.{ap}
 use Rattle.layout.specs.Field.{t_fixlen, t_floats, t_begin, t_end, wire_of}
 use Rattle.whole.proofs.Fields.{deepens, at_wire_lem, opens, opens_not, closes, closes_not, scalar_wire, array_wire, end_wire, passes_as}
-use borrow.Author.Rules.{rules}
 use Rattle.whole.proofs.body_at.Goals as goal
 
 pub returns-in-2 : goal.returns-in-2

@@ -3,7 +3,6 @@ use mathlib.Core.Path.{ap, ◌∙◌}
 use Rattle.whole.specs.Whole.{deepened}
 use Rattle.passing.proofs.Ends.{reaches_inside}
 use Rattle.whole.proofs.Fields.{field_then, field_else}
-use borrow.Author.Rules.{rules}
 use borrow.Enum.Refused.{opened}
 use Rattle.whole.proofs.field_at.Goals as goal
 

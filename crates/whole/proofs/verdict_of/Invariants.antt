@@ -1,10 +1,7 @@
 -- `whole::verdict_of` meets its contract: the verdict on the message is that on the bytes from the place reached, at the depth there.
 use Prim.Native.Nat.{◌-◌}
-use mathlib.Core.Path.{ap}
 use lib.ListN.{length}
-use borrow.Author.Rules.{rules}
-use Rattle.whole.specs.Whole.{verdict_in}
-use Rattle.whole.proofs.Fields.{Left, falls, left_start, left_next, left_short, left_broken, left_complete, left_open}
+use Rattle.whole.proofs.Fields.{Left}
 use Rattle.whole.proofs.verdict_of.Given as goal
 
 abbrev pub invariant-loop-at : goal.invariant-loop-at

@@ -1,7 +1,6 @@
 -- `words::announced` meets its contract.
 use Rattle.layout.specs.Limits.{base}
 use Rattle.words.proofs.Words.{payload_bad, payload_empty, payload_in}
-use borrow.Author.Rules.{rules}
 use Rattle.words.proofs.announced.Goals as goal
 
 pub returns-then-len : goal.returns-then-len

@@ -5,7 +5,6 @@ use Rattle.layout.specs.Field.{subtype_of}
 use Rattle.machine.specs.Machine.{at_element}
 use Rattle.phase.specs.Steps.{stepped}
 use Rattle.words.proofs.Words.{no_element}
-use borrow.Author.Rules.{rules}
 use Rattle.words.proofs.element.Goals as goal
 
 pub returns-in-0 : goal.returns-in-0

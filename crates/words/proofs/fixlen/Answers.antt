@@ -6,7 +6,6 @@ use Rattle.layout.specs.Field.{Subtyped, subtype_of}
 use Rattle.machine.specs.Machine.{at_subtype}
 use Rattle.types.proofs.Subtypes.{none}
 use Rattle.phase.specs.Steps.{stepped}
-use borrow.Author.Rules.{rules}
 use Rattle.words.proofs.fixlen.Goals as goal
 
 pub returns-in-0 : goal.returns-in-0

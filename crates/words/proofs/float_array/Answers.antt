@@ -1,7 +1,6 @@
 -- `words::float_array` meets its contract.
 use mathlib.Core.Path.{◌∙◌, sym}
 use Rattle.words.proofs.Words.{array_in, array_bad}
-use borrow.Author.Rules.{rules}
 use Rattle.words.proofs.float_array.Goals as goal
 
 pub returns-then-size-bytes : goal.returns-then-size-bytes

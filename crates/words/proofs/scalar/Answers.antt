@@ -2,7 +2,6 @@
 use mathlib.Core.Path.{◌∙◌, sym}
 use Rattle.layout.specs.Limits.{base}
 use Rattle.words.proofs.Words.{scalar_in, scalar-bad}
-use borrow.Author.Rules.{rules}
 use Rattle.words.proofs.scalar.Goals as goal
 
 pub returns-then-len-bytes : goal.returns-then-len-bytes

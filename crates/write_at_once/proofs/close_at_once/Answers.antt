@@ -10,7 +10,6 @@ use Rattle.places.specs.Places.{clean}
 use Rattle.places.proofs.Places.{both}
 use Rattle.at_ease.specs.AtOnce.{closes_at}
 use Rattle.at_ease.proofs.AtOnce.{refused, behind}
-use borrow.Author.Rules.{rules}
 use Rattle.write_at_once.proofs.close_at_once.Goals as goal
 
 pub returns-then-not-closes_at_ease : goal.returns-then-not-closes_at_ease

@@ -6,7 +6,6 @@ use Rattle.layout.specs.Varint.{shortest}
 use Rattle.at_ease.specs.AtOnce.{easy_at, roomy_at}
 use Rattle.at_ease.proofs.AtOnce.{refused, behind}
 use Rattle.write_at_once.proofs.Rows.{pair_whole}
-use borrow.Author.Rules.{rules}
 use Rattle.write_at_once.proofs.pair_at_once.Goals as goal
 
 pub returns-then-not-at_ease : goal.returns-then-not-at_ease

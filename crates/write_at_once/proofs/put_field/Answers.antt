@@ -2,7 +2,6 @@
 use mathlib.Core.List.{◌++◌}
 use native.Mathlib.Omega.{arith}
 use lib.ListN.{length}
-use borrow.Author.Rules.{rules}
 use Rattle.layout.specs.Varint.{shortest}
 use Rattle.at_ease.proofs.AtOnce.{Tested, has_room, tight, unclean, passed, made, unmade}
 use Rattle.write_at_once.proofs.Rows.{second_fits, row_made}

@@ -9,7 +9,6 @@ use Rattle.elements.specs.OutAfter.{elements_most}
 use Rattle.at_ease.specs.AtOnce.{easy_with, roomy_at}
 use Rattle.at_ease.proofs.AtOnce.{refused, behind, within}
 use Rattle.write_at_once.proofs.Rows.{row-whole}
-use borrow.Author.Rules.{rules}
 use Rattle.write_at_once.proofs.unsigneds_at_once.Goals as goal
 
 pub returns-then-not-at_ease_with : goal.returns-then-not-at_ease_with

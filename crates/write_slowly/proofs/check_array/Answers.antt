@@ -6,7 +6,6 @@ use Rattle.refusals.specs.Judged.{judged}
 use Rattle.checks.specs.Check.{check_of}
 use Rattle.refusals.specs.Tests.{array_too_long}
 use Rattle.write_slowly.specs.Went.{tests}
-use borrow.Author.Rules.{rules}
 use Rattle.write_slowly.proofs.check_array.Goals as goal
 
 pub returns : goal.returns

@@ -11,7 +11,6 @@ use Rattle.held.specs.Headers.{headers_of}
 use Rattle.refusals.specs.Tests.{payload_too_long}
 use Rattle.layout.specs.Copy.{fixlen_bytes}
 use Rattle.write_slowly.proofs.Went.{sized_goes, refuses, goes}
-use borrow.Author.Rules.{rules}
 use Rattle.write_slowly.proofs.fixlen_field.Goals as goal
 
 pub returns-then-not-tests : goal.returns-then-not-tests

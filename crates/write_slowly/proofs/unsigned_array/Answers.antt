@@ -7,7 +7,6 @@ use Rattle.layout.specs.Field.{unsigned_array}
 use Rattle.layout.specs.Copy.{field_bytes}
 use Rattle.refusals.specs.Tests.{array_too_long}
 use Rattle.write_slowly.proofs.Went.{sized_goes, refuses, goes}
-use borrow.Author.Rules.{rules}
 use Rattle.write_slowly.proofs.unsigned_array.Goals as goal
 
 pub returns-then-not-tests : goal.returns-then-not-tests

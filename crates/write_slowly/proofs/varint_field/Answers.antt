@@ -10,7 +10,6 @@ use Rattle.checks.specs.Check.{check_of}
 use Rattle.held.specs.Headers.{headers_of}
 use Rattle.write_slowly.specs.Went.{tests, judgement_of}
 use Rattle.write_slowly.proofs.Went.{may_go, refuses, goes}
-use borrow.Author.Rules.{rules}
 use Rattle.write_slowly.proofs.varint_field.Goals as goal
 
 pub returns-then-not-tests : goal.returns-then-not-tests

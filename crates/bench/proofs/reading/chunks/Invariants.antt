@@ -1,5 +1,4 @@
 -- `bench::reading::chunks` is safe and ends: each turn takes one from `turns`, and each call one from `calls`.
-use Rattle.std.proofs.Common.{rules}
 use Rattle.bench.proofs.reading.chunks.Given as goal
 
 abbrev pub invariant-loop-calls : goal.invariant-loop-calls

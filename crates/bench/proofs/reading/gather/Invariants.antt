@@ -1,5 +1,5 @@
 -- `bench::reading::gather` is safe and ends: each turn takes one from `turns`.
-use Rattle.std.proofs.Common.{◌≡◌, length, rules}
+use Rattle.std.proofs.Common.{◌≡◌, length}
 use Rattle.bench.proofs.reading.gather.Given as goal
 
 abbrev pub invariant-loop-turns : goal.invariant-loop-turns

@@ -1,6 +1,5 @@
 -- `copier::Copier::buffer_set`: the writer's change.
 use Rattle.copier.proofs.Calls.{changed_is}
-use borrow.Author.Rules.{rules}
 use Rattle.copier.proofs.Copier.buffer_set.Goals as goal
 
 pub returns : goal.returns

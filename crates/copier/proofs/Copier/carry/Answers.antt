@@ -4,7 +4,6 @@ use lib.ListN.{drop, length-drop}
 use Rattle.putting.proofs.Writes.{reached_is}
 use Rattle.output.specs.Output.{output_bytes}
 use Rattle.copier.proofs.Calls.{ready_within, ends-within, carry_full, carry_runs}
-use borrow.Author.Rules.{rules}
 use Rattle.copier.proofs.Copier.carry.Goals as goal
 
 pub overflow_sub-room : goal.overflow_sub-room

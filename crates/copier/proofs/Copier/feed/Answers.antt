@@ -4,7 +4,7 @@ use native.Mathlib.Omega.{arith}
 use mir.Val.{Fits}
 use mir.Syntax.{w8}
 use lib.ListN.{length}
-use Rattle.refusals.specs.Judged.{Judgement, accepted}
+use Rattle.refusals.specs.Judged.{accepted}
 use Rattle.checks.proofs.Checks.{check_passes, check_fails}
 use Rattle.copier_refusals.specs.Checked.{judged_by}
 use Rattle.copier.proofs.Calls.{feed-refused, feed_ready, feed_runs}

@@ -1,6 +1,5 @@
 -- `copier::Copier::flush`: the writer's drain.
 use Rattle.copier.proofs.Calls.{drained_is}
-use borrow.Author.Rules.{rules}
 use Rattle.copier.proofs.Copier.flush.Goals as goal
 
 pub returns : goal.returns

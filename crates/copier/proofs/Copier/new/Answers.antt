@@ -1,6 +1,5 @@
 -- `copier::Copier::new`: the parts of a fresh copier.
 use Rattle.copier.proofs.Calls.{started_is}
-use borrow.Author.Rules.{rules}
 use Rattle.copier.proofs.Copier.new.Goals as goal
 
 pub returns : goal.returns

@@ -1,5 +1,4 @@
 -- `desk::elements::shorts` is safe and ends: `i` counts to 64.
-use borrow.Author.Rules.{rules}
 use Prim.Native.Nat.{◌-◌, ◌≤◌}
 use Rattle.desk.proofs.elements.shorts.Given as goal
 

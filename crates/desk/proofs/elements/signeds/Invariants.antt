@@ -1,5 +1,4 @@
 -- `desk::elements::signeds` is safe and ends: `i` counts to 32.
-use borrow.Author.Rules.{rules}
 use Prim.Native.Nat.{◌-◌, ◌≤◌}
 use Rattle.desk.proofs.elements.signeds.Given as goal
 

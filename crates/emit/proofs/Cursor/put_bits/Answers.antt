@@ -1,7 +1,6 @@
 -- `emit::Cursor::put_bits`: low bytes that are out already, or the rest of them.
 use mathlib.Core.Path.{refl}
 use native.Mathlib.Omega.{arith}
-use borrow.Author.Rules.{rules}
 use Rattle.layout.specs.Field.{low_bytes}
 use Rattle.low_bytes.proofs.Low.{length_low}
 use Rattle.emit.proofs.Segments.{some_left, none_left}

@@ -1,7 +1,6 @@
 -- `emit::Cursor::put_bytes`: the copy from the bytes to skip on, and how many are left to skip.
 use mathlib.Core.Path.{refl}
 use native.Mathlib.Omega.{arith}
-use borrow.Author.Rules.{rules}
 use Rattle.emit.proofs.Segments.{some_left}
 use Rattle.emit.proofs.Cursor.put_bytes.Goals as goal
 

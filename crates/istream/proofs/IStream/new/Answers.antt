@@ -2,7 +2,6 @@
 use mathlib.Core.Path.{ap}
 use Rattle.phase.specs.declared.Phase.{Phase}
 use Rattle.phase.specs.Phases.{carried_at}
-use borrow.Author.Rules.{rules}
 use Rattle.istream.proofs.IStream.new.Goals as goal
 
 pub returns : goal.returns

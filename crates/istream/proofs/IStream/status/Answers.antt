@@ -1,6 +1,5 @@
 -- `istream::IStream::status` meets its contract: complete between fields at depth 0; a broken reader says so.
 use Rattle.istream.proofs.Tests.{status_complete, status_broken, status_else}
-use borrow.Author.Rules.{rules}
 use borrow.Enum.Refused.{opened}
 use Rattle.istream.proofs.IStream.status.Goals as goal
 

@@ -1,6 +1,5 @@
 -- `ostream::OStream::alter`: by whether the place is 0.
 use borrow.Author.Tests.{lt-ltb, le-ltb}
-use borrow.Author.Rules.{rules}
 use Rattle.ostream.proofs.OStream.alter.Goals as goal
 
 pub returns-then-place-gt0 : goal.returns-then-place-gt0

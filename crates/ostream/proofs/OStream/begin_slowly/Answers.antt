@@ -8,7 +8,7 @@ use lib.ListN.{length}
 use Rattle.layout.specs.Limits.{base}
 use Rattle.layout.specs.Varint.{shortest}
 use Rattle.layout.specs.Copy.{field_bytes}
-use Rattle.refusals.specs.Judged.{Judgement, accepted, judged}
+use Rattle.refusals.specs.Judged.{accepted, judged}
 use Rattle.checks.specs.Check.{check_of}
 use Rattle.refusals.specs.Tests.{unsound_writer, deepest, id_too_large}
 use Rattle.checks.proofs.Checks.{check_passes, check_fails}
@@ -18,7 +18,6 @@ use Rattle.ostream.specs.declared.OStream.{OStream}
 use Rattle.ostream.specs.Stream.{lazy_depth, held_bytes, holding, committed}
 use Rattle.ostream.specs.Private.{unwritten}
 use Rattle.ostream.specs.Calls.{begin_call}
-use borrow.Author.Rules.{rules}
 use Rattle.ostream.proofs.OStream.begin_slowly.Goals as goal
 
 pub returns-then-not-check : goal.returns-then-not-check

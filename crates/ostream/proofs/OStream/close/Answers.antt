@@ -5,7 +5,6 @@ use lib.ListN.{length}
 use borrow.Author.Tests.{ne_eqb}
 use Rattle.ostream.specs.Stream.{held_bytes}
 use Rattle.ostream.proofs.Calls.{is_sound, few_clears, settles}
-use borrow.Author.Rules.{rules}
 use Rattle.ostream.proofs.OStream.close.Goals as goal
 
 pub put_close-outcome-requires : goal.put_close-outcome-requires

@@ -2,7 +2,6 @@
 use mathlib.Core.Path.{ap}
 use mathlib.Core.List.{List}
 use Prim.Native.Nat.{ℕ}
-use borrow.Author.Rules.{rules}
 use Rattle.ostream.specs.Stream.{committed}
 use Rattle.ostream.proofs.OStream.commit.Goals as goal
 

@@ -1,7 +1,6 @@
 -- `ostream::OStream::count`: the old position, and the state at the new one; or the refusal.
 use mathlib.Core.Path.{sym, ap}
 use Rattle.ostream.specs.Private.{counted_at}
-use borrow.Author.Rules.{rules}
 use Rattle.ostream.proofs.OStream.count.Goals as goal
 
 pub returns-in-To : goal.returns-in-To

@@ -6,7 +6,7 @@ use mathlib.Core.Path.{◌≡◌, refl, sym, ap, ◌∙◌}
 use native.Mathlib.Omega.{arith}
 use lib.ListN.{length}
 use Rattle.layout.specs.Copy.{field_bytes}
-use Rattle.refusals.specs.Judged.{Judgement, accepted, judged}
+use Rattle.refusals.specs.Judged.{accepted, judged}
 use Rattle.checks.specs.Check.{check_of}
 use Rattle.refusals.specs.Tests.{unsound_writer, outermost}
 use Rattle.checks.proofs.Checks.{check_passes, check_fails}
@@ -17,7 +17,6 @@ use Rattle.ostream.specs.Stream.{dropped}
 use Rattle.ostream.specs.Private.{unwritten}
 use Rattle.ostream.specs.Calls.{end_call, end_keep_call}
 use Rattle.layout.specs.Field.{end}
-use borrow.Author.Rules.{rules}
 use Rattle.ostream.proofs.OStream.end_slowly.Goals as goal
 
 pub returns-then-not-check : goal.returns-then-not-check

@@ -8,7 +8,6 @@ use Rattle.ostream.specs.Calls.{unsound}
 use Rattle.ostream.specs.Private.{counted_at}
 use Rattle.ostream.specs.Buffer.{draining}
 use Rattle.ostream.proofs.Buffers.{counted-at}
-use borrow.Author.Rules.{rules}
 use Rattle.ostream.proofs.OStream.flush.Goals as goal
 
 pub returns : goal.returns

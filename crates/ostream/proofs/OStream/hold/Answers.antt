@@ -3,7 +3,6 @@ use Prim.Native.Nat.{ℕ, ◌+◌}
 use mathlib.Core.List.{List}
 use mathlib.Core.Path.{ap}
 use Rattle.ostream.specs.Stream.{holding}
-use borrow.Author.Rules.{rules}
 use Rattle.ostream.proofs.OStream.hold.Goals as goal
 
 pub returns : goal.returns

@@ -1,6 +1,5 @@
 -- `ostream::OStream::open`: refused, or a writer at the offset.
 use mathlib.Core.Path.{sym, ap, ◌∙◌}
-use borrow.Author.Rules.{rules}
 use Rattle.types.specs.declared.Error.TheVariants.{BadBuffer}
 use Rattle.ostream.specs.declared.OStream.{OStream}
 use Rattle.ostream.specs.declared.Answer.TheVariants.{Done}

@@ -5,7 +5,6 @@ use Rattle.ostream.specs.declared.OStream.{OStream}
 use Rattle.ostream.specs.declared.Answer.TheVariants.{Done}
 use Rattle.ostream.specs.Stream.{at, committed}
 use Rattle.ostream.specs.Private.{Clears, settled}
-use borrow.Author.Rules.{rules}
 use Rattle.ostream.proofs.OStream.settle.Goals as goal
 
 pub commit-next-requires : goal.commit-next-requires

@@ -1,6 +1,5 @@
 -- `ostream::OStream::sound`: the tests of a sound state.
 use Rattle.ostream.specs.Stream.{sound_stream}
-use borrow.Author.Rules.{rules}
 use Rattle.ostream.proofs.OStream.sound.Goals as goal
 
 pub returns : goal.returns

@@ -3,7 +3,6 @@ use Prim.Native.Nat.{ℕ, ◌-◌}
 use mathlib.Core.List.{List}
 use mathlib.Core.Path.{ap}
 use Rattle.ostream.specs.Stream.{dropped}
-use borrow.Author.Rules.{rules}
 use Rattle.ostream.proofs.OStream.unhold.Goals as goal
 
 pub returns : goal.returns

@@ -10,7 +10,6 @@ use Rattle.ostream.specs.Stream.{held_bytes}
 use Rattle.ostream.specs.Emission.{judged}
 use Rattle.ostream.specs.Calls.{array_too_long, array_call}
 use Rattle.ostream.proofs.Calls.{field_clears, goes}
-use borrow.Author.Rules.{rules}
 use Rattle.ostream.proofs.OStream.write_array_fp64.Goals as goal
 
 pub settle-requires : goal.settle-requires

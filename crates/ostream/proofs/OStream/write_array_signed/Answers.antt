@@ -9,7 +9,6 @@ use Rattle.at_ease.proofs.AtOnce.{stayed}
 use Rattle.ostream.specs.Calls.{signed_array_call}
 use Rattle.ostream.proofs.Calls.{both, committed-none}
 use Rattle.ostream.proofs.AtOnce.{is_ready, easy_with_lem, ready_array, spelled, goes_at_once, by_slow_form}
-use borrow.Author.Rules.{rules}
 use Rattle.ostream.proofs.OStream.write_array_signed.Goals as goal
 
 pub returns-then-place-gt0 : goal.returns-then-place-gt0

@@ -7,7 +7,6 @@ use Rattle.layout.specs.Copy.{field_bytes}
 use Rattle.ostream.specs.Calls.{array_too_long}
 use Rattle.ostream.specs.Stream.{held_bytes}
 use Rattle.ostream.proofs.Calls.{field_clears, goes}
-use borrow.Author.Rules.{rules}
 use Rattle.ostream.proofs.OStream.write_array_signed_slowly.Goals as goal
 
 pub settle-requires : goal.settle-requires

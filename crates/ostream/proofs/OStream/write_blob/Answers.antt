@@ -1,5 +1,4 @@
 -- `ostream::OStream::write_blob`: the layout's bytes of the field.
-use borrow.Author.Rules.{rules}
 use Rattle.layout.specs.Copy.{field_bytes}
 use Rattle.ostream.specs.Calls.{fixlen_bytes}
 use Rattle.ostream.proofs.OStream.write_blob.Goals as goal

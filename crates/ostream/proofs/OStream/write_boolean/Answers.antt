@@ -1,7 +1,6 @@
 -- `ostream::OStream::write_boolean`: an unsigned field of the bit.
 use Prim.Native.Nat.{ℕ}
 use mathlib.Core.Path.{ap, ◌∙◌}
-use borrow.Author.Rules.{rules}
 use lib.ListN.{length}
 use Rattle.ostream.specs.Emission.{written}
 use Rattle.ostream.specs.Calls.{unsigned_call}

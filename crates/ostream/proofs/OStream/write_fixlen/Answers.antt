@@ -3,13 +3,12 @@ use mathlib.Core.Bool.{Bool}
 use mathlib.Core.List.{[], ◌∷◌}
 use mathlib.Core.Path.{◌≡◌, refl, sym, ap, ◌∙◌}
 use lib.ListN.{length}
-use Rattle.refusals.specs.Judged.{Judgement, judged}
+use Rattle.refusals.specs.Judged.{judged}
 use Rattle.checks.specs.Check.{check_of}
 use Rattle.refusals.specs.Tests.{unsound_writer, string_subtype, id_too_large, payload_too_long}
 use Rattle.checks.proofs.Checks.{check_passes, check_fails}
 use Rattle.ostream.proofs.Calls.{refuses, recalled, without}
 use Rattle.ostream.specs.Calls.{fixlen_call, unsound}
-use borrow.Author.Rules.{rules}
 use Rattle.ostream.proofs.OStream.write_fixlen.Goals as goal
 
 pub returns-then-not-check : goal.returns-then-not-check

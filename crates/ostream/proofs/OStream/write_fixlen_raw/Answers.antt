@@ -8,7 +8,6 @@ use Rattle.at_ease.proofs.AtOnce.{stayed}
 use Rattle.ostream.specs.Calls.{raw_call, fixlen_bytes}
 use Rattle.ostream.proofs.Calls.{both, committed-none}
 use Rattle.ostream.proofs.AtOnce.{is_ready, easy_with_lem, ready_field, spelled, goes_at_once, by_slow_form}
-use borrow.Author.Rules.{rules}
 use Rattle.ostream.proofs.OStream.write_fixlen_raw.Goals as goal
 
 pub returns-then-place-gt0 : goal.returns-then-place-gt0

@@ -7,7 +7,6 @@ use Rattle.ostream.specs.Stream.{held_bytes}
 use Rattle.ostream.specs.Calls.{payload_too_long, raw_call, fixlen_bytes}
 use Rattle.ostream.proofs.Calls.{field_clears, goes}
 use Rattle.ostream.proofs.AtOnce.{by_slow_form}
-use borrow.Author.Rules.{rules}
 use Rattle.ostream.proofs.OStream.write_fixlen_slowly.Goals as goal
 
 pub settle-requires : goal.settle-requires

@@ -1,7 +1,6 @@
 -- `ostream::OStream::write_fp32`: `write_fp32_bits` with the float's bits.
 use mathlib.Core.Path.{ap, ◌∙◌}
 use Prim.Native.Nat.{ℕ}
-use borrow.Author.Rules.{rules}
 use lib.ListN.{length}
 use Rattle.layout.specs.Field.{fp32}
 use Rattle.ostream.specs.Emission.{written}

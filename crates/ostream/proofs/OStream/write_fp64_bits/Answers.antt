@@ -1,6 +1,5 @@
 -- `ostream::OStream::write_fp64_bits`: the layout's bytes of the field, from the float's own.
 use mathlib.Core.Path.{◌∙◌}
-use borrow.Author.Rules.{rules}
 use lib.ListN.{length}
 use Rattle.layout.specs.Field.{fp64}
 use Rattle.ostream.proofs.Floats.{float_call_lem}

@@ -9,7 +9,6 @@ use Rattle.ostream.specs.Stream.{lazy_depth, holding}
 use Rattle.ostream.specs.Calls.{begin_call}
 use Rattle.ostream.proofs.Calls.{is_sound, alters}
 use Rattle.ostream.proofs.AtOnce.{Holds, can_hold}
-use borrow.Author.Rules.{rules}
 use Rattle.ostream.proofs.OStream.write_sequence_begin_lazy.Goals as goal
 
 pub hold-requires : goal.hold-requires

@@ -13,7 +13,6 @@ use Rattle.ostream.specs.Stream.{sound_stream}
 use Rattle.ostream.specs.Calls.{end_call}
 use Rattle.ostream.proofs.Calls.{both, committed-none}
 use Rattle.ostream.proofs.AtOnce.{closes_easy, quiet, goes_at_once, by_slow_form}
-use borrow.Author.Rules.{rules}
 use Rattle.ostream.proofs.OStream.write_sequence_end.Goals as goal
 
 pub returns-then-place-gt0 : goal.returns-then-place-gt0

@@ -3,13 +3,12 @@ use mathlib.Core.Bool.{Bool}
 use mathlib.Core.List.{[], ◌∷◌}
 use mathlib.Core.Path.{◌≡◌, ap, ◌∙◌}
 use lib.ListN.{length}
-use Rattle.refusals.specs.Judged.{Judgement, accepted, judged}
+use Rattle.refusals.specs.Judged.{accepted, judged}
 use Rattle.checks.specs.Check.{check_of}
 use Rattle.refusals.specs.Tests.{unsound_writer, outermost}
 use Rattle.checks.proofs.Checks.{check_passes, check_fails}
 use Rattle.ostream.proofs.Calls.{refuses, end_knows}
 use Rattle.ostream.specs.Calls.{end_keep_call}
-use borrow.Author.Rules.{rules}
 use Rattle.ostream.proofs.OStream.write_sequence_end_keep.Goals as goal
 
 pub returns-then-not-check : goal.returns-then-not-check

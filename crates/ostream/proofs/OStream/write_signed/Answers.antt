@@ -1,7 +1,6 @@
 -- `ostream::OStream::write_signed`: the layout's bytes of the field.
 use Prim.Native.Nat.{ℕ}
 use mathlib.Core.Path.{ap, ◌∙◌}
-use borrow.Author.Rules.{rules}
 use lib.ListN.{length}
 use mir.Syntax.{w64}
 use mir.ValLaws.{to_z-of_z}

@@ -1,5 +1,4 @@
 -- `ostream::OStream::write_unsigned`: the layout's bytes of the field.
-use borrow.Author.Rules.{rules}
 use Rattle.layout.specs.Copy.{field_bytes}
 use Rattle.ostream.proofs.OStream.write_unsigned.Goals as goal
 

@@ -9,7 +9,6 @@ use Rattle.at_ease.proofs.AtOnce.{stayed}
 use Rattle.ostream.specs.Calls.{varint_call}
 use Rattle.ostream.proofs.Calls.{both, committed-none}
 use Rattle.ostream.proofs.AtOnce.{is_ready, is_easy, ready_scalar, spelled, goes_at_once, by_slow_form}
-use borrow.Author.Rules.{rules}
 use Rattle.ostream.proofs.OStream.write_varint_field.Goals as goal
 
 pub returns-then-place-gt0 : goal.returns-then-place-gt0

@@ -7,7 +7,6 @@ use Rattle.ostream.specs.Stream.{held_bytes}
 use Rattle.ostream.specs.Calls.{varint_call}
 use Rattle.ostream.proofs.Calls.{field_clears, goes}
 use Rattle.ostream.proofs.AtOnce.{by_slow_form}
-use borrow.Author.Rules.{rules}
 use Rattle.ostream.proofs.OStream.write_varint_field_slowly.Goals as goal
 
 pub settle-requires : goal.settle-requires

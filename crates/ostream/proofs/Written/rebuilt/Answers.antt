@@ -1,7 +1,6 @@
 -- `ostream::Written::rebuilt`: field by field.
 use mathlib.Core.Path.{ap}
 use Rattle.ostream.specs.declared.OStream.{OStream}
-use borrow.Author.Rules.{rules}
 use Rattle.ostream.proofs.Written.rebuilt.Goals as goal
 
 pub returns : goal.returns

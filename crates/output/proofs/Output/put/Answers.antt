@@ -3,7 +3,6 @@ use mathlib.Core.Path.{ap}
 use Rattle.output.specs.Output.{output_bytes}
 use Rattle.emit.proofs.Segments.{joined, joined-three}
 use Rattle.output.proofs.Laws.{landed, landed_none}
-use borrow.Author.Rules.{rules}
 use Rattle.output.proofs.Output.put.Goals as goal
 
 pub returns-in-Empty : goal.returns-in-Empty

@@ -5,7 +5,6 @@ use lib.ListN.{length}
 use Rattle.output.specs.declared.Output.{Output}
 use Rattle.output.specs.Output.{output_bytes}
 use Rattle.owed.proofs.Laws.{place_else}
-use borrow.Author.Rules.{rules}
 use borrow.Enum.Refused.{opened}
 use Rattle.owed.proofs.Owed.has_place.Goals as goal
 

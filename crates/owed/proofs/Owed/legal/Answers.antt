@@ -1,6 +1,5 @@
 -- `owed::Owed::legal`: the numbers that it has.
 use Rattle.owed.proofs.Laws.{legal_else}
-use borrow.Author.Rules.{rules}
 use Rattle.owed.proofs.Owed.legal.Goals as goal
 
 pub returns-in-Unsigned : goal.returns-in-Unsigned

@@ -1,6 +1,5 @@
 -- `owed::Owed::level`: by what the event does to the depth.
 use Rattle.owed.proofs.Laws.{level_else}
-use borrow.Author.Rules.{rules}
 use borrow.Enum.Refused.{opened}
 use Rattle.owed.proofs.Owed.level.Goals as goal
 

@@ -2,7 +2,6 @@
 use mathlib.Core.Path.{sym, ◌∙◌}
 use borrow.Author.Tests.{not-true, not-false}
 use Rattle.owed.proofs.Laws.{not_level, not_legal, level_and_legal}
-use borrow.Author.Rules.{rules}
 use Rattle.owed.proofs.Owed.sound.Goals as goal
 
 pub returns-then-not-level : goal.returns-then-not-level

@@ -1,6 +1,5 @@
 -- `payload::PayloadAcc::accept` meets its contract: each test of the code is the definition's test in the same place.
 use mathlib.Core.Path.{sym, ◌∙◌}
-use borrow.Author.Rules.{rules}
 use Rattle.gathering.proofs.Cases.{over_already, too_long, whole_chunk, elsewhere, next}
 use Rattle.payload.proofs.PayloadAcc.accept.Goals as goal
 

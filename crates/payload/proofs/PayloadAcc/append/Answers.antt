@@ -1,5 +1,4 @@
 -- `payload::PayloadAcc::append` meets its contract: the bytes owed are copied, and the answer is whole once they are all there.
-use borrow.Author.Rules.{rules}
 use Rattle.gathering.proofs.Cases.{partial, filled}
 use Rattle.payload.proofs.PayloadAcc.append.Goals as goal
 

@@ -1,6 +1,5 @@
 -- `payload::PayloadAcc::begin` meets its contract, in each arm of its test.
 use borrow.Author.Tests.{eq-eqb, ne_eqb}
-use borrow.Author.Rules.{rules}
 use Rattle.payload.proofs.PayloadAcc.begin.Goals as goal
 
 pub returns-then-offset-eq0 : goal.returns-then-offset-eq0

@@ -1,6 +1,5 @@
 -- `payload::PayloadAcc::feed` meets its contract: number 3 first, then what a sound state does.
 use mathlib.Core.Path.{sym, ap, ◌∙◌}
-use borrow.Author.Rules.{rules}
 use Rattle.gathering.specs.Gather.{Gatherer, accepted}
 use Rattle.payload.specs.Words.{state_of}
 use Rattle.gathering.proofs.Cases.{unsound, in_order, begun-within}

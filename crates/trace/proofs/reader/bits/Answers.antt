@@ -5,7 +5,6 @@ use lib.IntN.{ℤ}
 use mir.Syntax.{w64}
 use mir.Val.{of_z, to_z}
 use mir.ValLaws.{to_z-of_z}
-use borrow.Author.Rules.{rules}
 use Rattle.varint.proofs.Sign.{negative, natural, flipped, casts}
 use Rattle.trace.proofs.reader.bits.Goals as goal
 

@@ -1,8 +1,6 @@
 -- `trace_copier::bench::bench_copy` is safe and ends: each turn takes one from `turns`.
-use mathlib.Core.Path.{◌≡◌, ◌∙◌}
+use mathlib.Core.Path.{◌∙◌}
 use native.Mathlib.Omega.{arith}
-use lib.ListN.{length}
-use borrow.Author.Rules.{rules}
 use Rattle.trace_copier.proofs.bench.bench_copy.Goals as goal
 
 pub loop-turns-smaller-then-is_full : goal.loop-turns-smaller-then-is_full

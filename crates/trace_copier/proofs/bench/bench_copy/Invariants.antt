@@ -1,8 +1,6 @@
 -- `trace_copier::bench::bench_copy` is safe and ends: each turn takes one from `turns`.
-use mathlib.Core.Path.{◌≡◌, ◌∙◌}
-use native.Mathlib.Omega.{arith}
+use mathlib.Core.Path.{◌≡◌}
 use lib.ListN.{length}
-use borrow.Author.Rules.{rules}
 use Rattle.trace_copier.proofs.bench.bench_copy.Given as goal
 
 abbrev pub invariant-loop-turns : goal.invariant-loop-turns

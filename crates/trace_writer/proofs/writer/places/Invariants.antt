@@ -1,5 +1,4 @@
 -- `trace_writer::writer::places` is safe and ends: `i` counts to 8.
-use borrow.Author.Rules.{rules}
 use Prim.Native.Nat.{◌-◌, ◌≤◌}
 use Rattle.trace_writer.proofs.writer.places.Given as goal
 

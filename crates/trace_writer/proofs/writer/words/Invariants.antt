@@ -1,6 +1,5 @@
 -- `trace_writer::writer::words` is safe and ends: `i` counts to 8.
 use Prim.Native.Nat.{◌-◌, ◌≤◌}
-use borrow.Author.Rules.{rules}
 use Rattle.trace_writer.proofs.writer.words.Given as goal
 
 abbrev pub invariant-loop-i : goal.invariant-loop-i

@@ -1,5 +1,5 @@
 -- `varint::Acc::push` meets its contract: its four ways out are the four cases of its definition.
-use Rattle.std.proofs.Common.{ℕ, ◌+◌, ap, ◌∙◌, arith, rules}
+use Rattle.std.proofs.Common.{ℕ, ◌+◌, ap, ◌∙◌, arith}
 use lib.Bits.{bit_or}
 use Rattle.layout.specs.Limits.{base}
 use Rattle.varint.specs.declared.Push.TheVariants.{More, Value}

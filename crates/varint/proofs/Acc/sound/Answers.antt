@@ -1,5 +1,5 @@
 -- `varint::Acc::sound` meets its contract: what is left above the bytes taken is nothing.
-use Rattle.std.proofs.Common.{arith, rules}
+use Rattle.std.proofs.Common.{arith}
 use Rattle.layout.specs.Limits.{base}
 use Rattle.varint.proofs.Laws.{many, few}
 use Rattle.varint.proofs.Acc.sound.Goals as goal

@@ -5,7 +5,7 @@ use mathlib.Core.Bool.{cond}
 use lib.Dec.{eqb}
 use Rattle.types.specs.Types.{number_of}
 use Rattle.types.specs.declared.Error.{Error}
-use Rattle.types.specs.declared.Error.TheVariants as Err
+use Rattle.types.specs.declared.Error.TheVariants as Errors
 use Rattle.payload.specs.declared.Answer.{Answer}
 use Rattle.payload.specs.declared.Answer.TheVariants.{Nothing, InChunk, InBuffer, Refused}
 use Rattle.gathering.specs.Gather.{Said, nothing, in_chunk, in_buffer, number}
@@ -13,31 +13,31 @@ use Rattle.payload.specs.Words.{said_of}
 
 abbrev numbered : ℕ → Error
 numbered n =
-    cond (eqb n 1) Err.UnsoundReader
-    (cond (eqb n 2) Err.InvalidMsg
-    (cond (eqb n 3) Err.UnsoundGatherer
-    (cond (eqb n 4) Err.PayloadTooLong
-    (cond (eqb n 5) Err.BadBuffer
-    (cond (eqb n 6) Err.UnsoundWriter
-    (cond (eqb n 7) Err.StringSubtype
-    (cond (eqb n 8) Err.Nesting
-    (cond (eqb n 9) Err.IdTooLarge
-    (cond (eqb n 10) Err.TooLong
-    (cond (eqb n 18) Err.NoBuffer Err.PlaceBeyond))))))))))
+    cond (eqb n 1) Errors.UnsoundReader
+    (cond (eqb n 2) Errors.InvalidMsg
+    (cond (eqb n 3) Errors.UnsoundGatherer
+    (cond (eqb n 4) Errors.PayloadTooLong
+    (cond (eqb n 5) Errors.BadBuffer
+    (cond (eqb n 6) Errors.UnsoundWriter
+    (cond (eqb n 7) Errors.StringSubtype
+    (cond (eqb n 8) Errors.Nesting
+    (cond (eqb n 9) Errors.IdTooLarge
+    (cond (eqb n 10) Errors.TooLong
+    (cond (eqb n 18) Errors.NoBuffer Errors.PlaceBeyond))))))))))
 
 numbered_again : (e : Error) → numbered (number_of e) ≡ e
-numbered_again Err.UnsoundReader = refl
-numbered_again Err.InvalidMsg = refl
-numbered_again Err.UnsoundGatherer = refl
-numbered_again Err.PayloadTooLong = refl
-numbered_again Err.BadBuffer = refl
-numbered_again Err.UnsoundWriter = refl
-numbered_again Err.StringSubtype = refl
-numbered_again Err.Nesting = refl
-numbered_again Err.IdTooLarge = refl
-numbered_again Err.TooLong = refl
-numbered_again Err.PlaceBeyond = refl
-numbered_again Err.NoBuffer = refl
+numbered_again Errors.UnsoundReader = refl
+numbered_again Errors.InvalidMsg = refl
+numbered_again Errors.UnsoundGatherer = refl
+numbered_again Errors.PayloadTooLong = refl
+numbered_again Errors.BadBuffer = refl
+numbered_again Errors.UnsoundWriter = refl
+numbered_again Errors.StringSubtype = refl
+numbered_again Errors.Nesting = refl
+numbered_again Errors.IdTooLarge = refl
+numbered_again Errors.TooLong = refl
+numbered_again Errors.PlaceBeyond = refl
+numbered_again Errors.NoBuffer = refl
 
 abbrev answered : Said → Answer
 answered nothing = Nothing

@@ -11,7 +11,7 @@ use Rattle.types.specs.declared.FloatType.TheVariants as Floats
 use Rattle.types.specs.declared.RawType.{RawType}
 use Rattle.types.specs.declared.RawType.TheVariants as Raws
 use Rattle.types.specs.declared.Error.{Error}
-use Rattle.types.specs.declared.Error.TheVariants as Err
+use Rattle.types.specs.declared.Error.TheVariants as Errors
 
 abbrev pub subtype : FixlenType → Subtype
 subtype Fix.Fp32 = float fp32
@@ -69,32 +69,32 @@ kind_raw k = kind_number (kind k)
 
 -- "Refused, in checking order": the number of each refusal; and 02's, "a buffer length of 0 is refused with 18".
 abbrev pub number_of : Error → ℕ
-number_of Err.UnsoundReader = 1
-number_of Err.InvalidMsg = 2
-number_of Err.UnsoundGatherer = 3
-number_of Err.PayloadTooLong = 4
-number_of Err.BadBuffer = 5
-number_of Err.UnsoundWriter = 6
-number_of Err.StringSubtype = 7
-number_of Err.Nesting = 8
-number_of Err.IdTooLarge = 9
-number_of Err.TooLong = 10
-number_of Err.PlaceBeyond = 11
-number_of Err.NoBuffer = 18
+number_of Errors.UnsoundReader = 1
+number_of Errors.InvalidMsg = 2
+number_of Errors.UnsoundGatherer = 3
+number_of Errors.PayloadTooLong = 4
+number_of Errors.BadBuffer = 5
+number_of Errors.UnsoundWriter = 6
+number_of Errors.StringSubtype = 7
+number_of Errors.Nesting = 8
+number_of Errors.IdTooLarge = 9
+number_of Errors.TooLong = 10
+number_of Errors.PlaceBeyond = 11
+number_of Errors.NoBuffer = 18
 
 -- And back: the refusal with a number, by which the promises of all calls name their refusals. 01 gives no other numbers than 1 to 11, and of
 -- 02's only 18 is given so far.
 abbrev pub refusal : ℕ → Error
-refusal zero = Err.UnsoundReader
-refusal (suc zero) = Err.UnsoundReader
-refusal (suc (suc zero)) = Err.InvalidMsg
-refusal (suc (suc (suc zero))) = Err.UnsoundGatherer
-refusal (suc (suc (suc (suc zero)))) = Err.PayloadTooLong
-refusal (suc (suc (suc (suc (suc zero))))) = Err.BadBuffer
-refusal (suc (suc (suc (suc (suc (suc zero)))))) = Err.UnsoundWriter
-refusal (suc (suc (suc (suc (suc (suc (suc zero))))))) = Err.StringSubtype
-refusal (suc (suc (suc (suc (suc (suc (suc (suc zero)))))))) = Err.Nesting
-refusal (suc (suc (suc (suc (suc (suc (suc (suc (suc zero))))))))) = Err.IdTooLarge
-refusal (suc (suc (suc (suc (suc (suc (suc (suc (suc (suc zero)))))))))) = Err.TooLong
-refusal (suc (suc (suc (suc (suc (suc (suc (suc (suc (suc (suc zero))))))))))) = Err.PlaceBeyond
-refusal (suc (suc (suc (suc (suc (suc (suc (suc (suc (suc (suc (suc n)))))))))))) = cond (eqb n 6) Err.NoBuffer Err.PlaceBeyond
+refusal zero = Errors.UnsoundReader
+refusal (suc zero) = Errors.UnsoundReader
+refusal (suc (suc zero)) = Errors.InvalidMsg
+refusal (suc (suc (suc zero))) = Errors.UnsoundGatherer
+refusal (suc (suc (suc (suc zero)))) = Errors.PayloadTooLong
+refusal (suc (suc (suc (suc (suc zero))))) = Errors.BadBuffer
+refusal (suc (suc (suc (suc (suc (suc zero)))))) = Errors.UnsoundWriter
+refusal (suc (suc (suc (suc (suc (suc (suc zero))))))) = Errors.StringSubtype
+refusal (suc (suc (suc (suc (suc (suc (suc (suc zero)))))))) = Errors.Nesting
+refusal (suc (suc (suc (suc (suc (suc (suc (suc (suc zero))))))))) = Errors.IdTooLarge
+refusal (suc (suc (suc (suc (suc (suc (suc (suc (suc (suc zero)))))))))) = Errors.TooLong
+refusal (suc (suc (suc (suc (suc (suc (suc (suc (suc (suc (suc zero))))))))))) = Errors.PlaceBeyond
+refusal (suc (suc (suc (suc (suc (suc (suc (suc (suc (suc (suc (suc n)))))))))))) = cond (eqb n 6) Errors.NoBuffer Errors.PlaceBeyond

@@ -6,8 +6,8 @@ use Rattle.layout.specs.Field.{fp32, fp64, subtype_number, kind_number, each}
 use Rattle.layout.specs.Event.{Event, Unsigned, Signed, Float, Piece, Fixlen, Array, Begin, End}
 use Rattle.layout.specs.Message.{Verdict, complete, incomplete, broken_at, events_of, verdict_of}
 
--- A number in decimal digits, the first not 0 unless the number is; at most k of them. Twenty hold every number of 64 bits. (`glyph` of
--- the kit is a digit in ASCII, `digits b k n` the last k digits of n in base b, the most significant first.)
+-- A number in decimal digits, the first not 0 unless the number is; at most k of them. Twenty hold every number of 64 bits. (`hex_digit_ascii`
+-- of the kit is a digit in ASCII, `last_digits b k n` the last k digits of n in base b, the most significant first.)
 unfoldable pub decimal_in : ℕ → ℕ → List ℕ
 decimal_in zero n = []
 decimal_in (suc k) n = pick (ltb n 10) (hex_digit_ascii n ∷ []) (decimal_in k (n / 10) ++ (hex_digit_ascii (n % 10) ∷ []))

@@ -11,7 +11,7 @@ use piping::{
 use std::io::{self, Read};
 use streams::read_full;
 
-const NAME: &str = "length";
+const NAME: [u8; 6] = *b"length";
 
 // The drains over a buffer of so many bytes; none was asked for where that is 0.
 fn tell_drains(rt: &impl Print, n: u64, buffer: usize) -> io::Result<()> {
@@ -27,48 +27,59 @@ fn tell_all(rt: &impl Print, n: u64, buffer: usize) -> io::Result<()> {
     println!(rt; "")
 }
 
-fn tell(rt: &(impl Print + Eprint), n: u64, buffer: usize) -> io::Result<()> {
+fn tell(rt: &impl Print, err: &impl Print, n: u64, buffer: usize) -> io::Result<()> {
     match tell_all(rt, n, buffer) {
         Ok(()) => Ok(()),
-        Err(e) => unwritten(rt, NAME, e.kind()),
+        Err(e) => unwritten(err, &NAME, e.kind()),
     }
 }
 
 // A message that is here whole.
-fn measure(rt: &(impl Print + Eprint), message: &[u8], buffer: usize) -> io::Result<()> {
+fn measure(rt: &impl Print, err: &impl Print, message: &[u8], buffer: usize) -> io::Result<()> {
     match copy_len::length_of(message) {
-        Length::Bytes(n) => tell(rt, n as u64, buffer),
-        Length::Incomplete => incomplete(rt, NAME, message.len() as u64),
-        Length::Broken(n) => broken(rt, NAME, n as u64),
+        Length::Bytes(n) => tell(rt, err, n as u64, buffer),
+        Length::Incomplete => incomplete(err, &NAME, message.len() as u64),
+        Length::Broken(n) => broken(err, &NAME, n as u64),
     }
 }
 
 // One that may be longer is copied, and what would go out is counted: for every complete message that is the same number.
-fn count(rt: &(impl Print + Eprint), copied: Copy, out: &[u8], buffer: usize) -> io::Result<()> {
+fn count(
+    rt: &impl Print,
+    err: &impl Print,
+    copied: Copy,
+    out: &[u8],
+    buffer: usize,
+) -> io::Result<()> {
     let c = drain(rt, copied, out);
     let state = c.state;
     match state {
-        State::Complete => tell(rt, c.sent, buffer),
-        State::Incomplete => incomplete(rt, NAME, c.bytes),
-        State::Broken => broken(rt, NAME, c.bytes),
-        State::Unread => unread(rt, NAME),
-        _ => complain(rt, NAME, "the copy cannot be counted"),
+        State::Complete => tell(rt, err, c.sent, buffer),
+        State::Incomplete => incomplete(err, &NAME, c.bytes),
+        State::Broken => broken(err, &NAME, c.bytes),
+        State::Unread => unread(err, &NAME),
+        _ => complain(err, &NAME, b": the copy cannot be counted\n"),
     }
 }
 
 // Where the buffer isn't full, the input has ended.
-fn length(input: &mut impl Read, rt: &(impl Print + Eprint), buffer: usize) -> io::Result<()> {
+fn length(
+    input: &mut impl Read,
+    rt: &impl Print,
+    err: &impl Print,
+    buffer: usize,
+) -> io::Result<()> {
     let mut message = [0u8; 65536];
     let mut out = [0u8; 65536];
     let Ok(n) = read_full(input, &mut message) else {
-        return unread(rt, NAME);
+        return unread(err, &NAME);
     };
     if n < message.len() {
-        return measure(rt, &message[0..n], buffer);
+        return measure(rt, err, &message[0..n], buffer);
     }
     let begun = start(&out, n, true);
     let c = copy_all(input, rt, begun, &mut message, &mut out);
-    count(rt, c, &out, buffer)
+    count(rt, err, c, &out, buffer)
 }
 
 // A buffer of no bytes is refused before the message is read.
@@ -76,8 +87,12 @@ fn length(input: &mut impl Read, rt: &(impl Print + Eprint), buffer: usize) -> i
 fn main(rt: HostRuntime) -> io::Result<()> {
     let buffer = argument::number_at(&rt, 1) as usize;
     if buffer == 0 && argument::given(&rt, 1) {
-        complain(&rt, NAME, "a buffer of 0 bytes is refused: number 18")
+        complain(
+            &rt.stderr(),
+            &NAME,
+            b": a buffer of 0 bytes is refused: number 18\n",
+        )
     } else {
-        length(&mut rt.stdin(), &rt, buffer)
+        length(&mut rt.stdin(), &rt, &rt.stderr(), buffer)
     }
 }

@@ -7,7 +7,7 @@ use listing::Listing;
 use std::io::{self, ErrorKind, Read};
 use streams::{unread, unwritten};
 
-const NAME: &str = "events";
+const NAME: [u8; 6] = *b"events";
 
 // How far the list has come: more input may follow, the input is at its end or the message is broken, or a read or a write failed.
 #[derive(Clone, Copy)]
@@ -138,24 +138,24 @@ fn conclude(rt: &impl Print, l: Listing, out: &mut [u8]) -> io::Result<()> {
 }
 
 // Says where a write failed.
-fn tell(rt: &impl Eprint, written: io::Result<()>) -> io::Result<()> {
+fn tell(err: &impl Print, written: io::Result<()>) -> io::Result<()> {
     match written {
         Ok(()) => Ok(()),
-        Err(e) => unwritten(rt, NAME, e.kind()),
+        Err(e) => unwritten(err, &NAME, e.kind()),
     }
 }
 
-fn finish(rt: &(impl Print + Eprint), l: Listed, out: &mut [u8]) -> io::Result<()> {
+fn finish(rt: &impl Print, err: &impl Print, l: Listed, out: &mut [u8]) -> io::Result<()> {
     let state = l.state;
     let listing = l.listing;
     match state {
         State::Unread => {
             let flushed = flush(rt, out, listing.at);
-            unread(rt, NAME)?;
-            tell(rt, flushed)
+            unread(err, &NAME)?;
+            tell(err, flushed)
         }
-        State::Unwritten(why) => unwritten(rt, NAME, why),
-        _ => tell(rt, conclude(rt, listing, out)),
+        State::Unwritten(why) => unwritten(err, &NAME, why),
+        _ => tell(err, conclude(rt, listing, out)),
     }
 }
 
@@ -164,5 +164,5 @@ fn main(rt: HostRuntime) -> io::Result<()> {
     let mut chunk = [0u8; 4096];
     let mut out = [0u8; 65536];
     let l = list_all(&mut rt.stdin(), &rt, &mut chunk, &mut out);
-    finish(&rt, l, &mut out)
+    finish(&rt, &rt.stderr(), l, &mut out)
 }

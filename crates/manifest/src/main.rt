@@ -5,17 +5,17 @@
 use piping::{Copy, State, broken, copy_all, drain, incomplete, start, unread, unwritten};
 use std::io;
 
-const NAME: &str = "manifest";
+const NAME: [u8; 8] = *b"manifest";
 
 // The rest goes out, and what is wrong is said: a failed write first, since then the output is too short.
-fn finish(rt: &(impl Print + Eprint), c: Copy, out: &[u8]) -> io::Result<()> {
+fn finish(rt: &impl Print, err: &impl Print, c: Copy, out: &[u8]) -> io::Result<()> {
     let left = drain(rt, c, out);
     let state = left.state;
     match state {
-        State::Unwritten(why) => unwritten(rt, NAME, why),
-        State::Unread => unread(rt, NAME),
-        State::Broken => broken(rt, NAME, left.bytes),
-        State::Incomplete => incomplete(rt, NAME, left.bytes),
+        State::Unwritten(why) => unwritten(err, &NAME, why),
+        State::Unread => unread(err, &NAME),
+        State::Broken => broken(err, &NAME, left.bytes),
+        State::Incomplete => incomplete(err, &NAME, left.bytes),
         _ => Ok(()),
     }
 }
@@ -26,5 +26,5 @@ fn main(rt: HostRuntime) -> io::Result<()> {
     let mut out = [0u8; 65536];
     let begun = start(&out, 0, false);
     let c = copy_all(&mut rt.stdin(), &rt, begun, &mut input, &mut out);
-    finish(&rt, c, &out)
+    finish(&rt, &rt.stderr(), c, &out)
 }

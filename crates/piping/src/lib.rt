@@ -166,18 +166,20 @@ pub fn copy_all(
 
 // ---- what goes to standard error, by the program's name
 
-pub fn complain(rt: &impl Eprint, name: &str, what: &str) -> io::Result<()> {
-    eprintln!(rt; "{name}: {what}")
+pub fn complain(err: &impl Print, name: &[u8], what: &[u8]) -> io::Result<()> {
+    err.write_all(name)?;
+    err.write_all(what)
 }
 
-fn complain_at(rt: &impl Eprint, name: &str, what: &str, byte: u64) -> io::Result<()> {
-    eprintln!(rt; "{name}: {what} {byte}")
+fn complain_at(err: &impl Print, name: &[u8], what: &[u8], byte: u64) -> io::Result<()> {
+    complain(err, name, what)?;
+    println!(err; "{byte}")
 }
 
-pub fn broken(rt: &impl Eprint, name: &str, byte: u64) -> io::Result<()> {
-    complain_at(rt, name, "broken at byte", byte)
+pub fn broken(err: &impl Print, name: &[u8], byte: u64) -> io::Result<()> {
+    complain_at(err, name, b": broken at byte ", byte)
 }
 
-pub fn incomplete(rt: &impl Eprint, name: &str, bytes: u64) -> io::Result<()> {
-    complain_at(rt, name, "incomplete, it ends after byte", bytes)
+pub fn incomplete(err: &impl Print, name: &[u8], bytes: u64) -> io::Result<()> {
+    complain_at(err, name, b": incomplete, it ends after byte ", bytes)
 }

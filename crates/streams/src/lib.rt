@@ -24,16 +24,18 @@ pub fn read_full<R: Read>(input: &mut R, buf: &mut [u8]) -> io::Result<usize>
     Ok(done)
 }
 
-pub fn unread(rt: &impl Eprint, name: &str) -> io::Result<()> {
-    eprintln!(rt; "{name}: standard input cannot be read")
+pub fn unread(err: &impl Print, name: &[u8]) -> io::Result<()> {
+    err.write_all(name)?;
+    err.write_all(b": standard input cannot be read\n")
 }
 
 // That nobody reads the output any more is the reader's choice, and told apart.
-pub fn unwritten(rt: &impl Eprint, name: &str, why: ErrorKind) -> io::Result<()> {
+pub fn unwritten(err: &impl Print, name: &[u8], why: ErrorKind) -> io::Result<()> {
+    err.write_all(name)?;
     if why == ErrorKind::BrokenPipe {
-        eprintln!(rt; "{name}: nobody reads standard output any more")
+        err.write_all(b": nobody reads standard output any more\n")
     } else {
-        eprintln!(rt; "{name}: standard output cannot be written")
+        err.write_all(b": standard output cannot be written\n")
     }
 }
 

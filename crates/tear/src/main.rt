@@ -12,7 +12,7 @@ use std::io::{self, Read};
 use std::rt::Env;
 use streams::{read_full, unread, unwritten};
 
-const NAME: &str = "tear";
+const NAME: [u8; 4] = *b"tear";
 
 // How many runs where none are asked for.
 const RUNS: u64 = 1000;
@@ -86,13 +86,13 @@ fn runs(err: &impl Print, n: u64, ticket: &[u8], manifest: &[u8], sum: Sum) -> i
     Ok(n)
 }
 
-fn conclude(rt: &(impl Print + Eprint), n: u64, len: usize) -> io::Result<()> {
+fn conclude(rt: &impl Print, err: &impl Print, n: u64, len: usize) -> io::Result<()> {
     let said = println!(rt;
         "{n} runs, each a copy of the same {len} bytes;\nmessage and copy, read back in other cuts, gave the same events each time."
     );
     match said {
         Ok(()) => Ok(()),
-        Err(e) => unwritten(rt, NAME, e.kind()),
+        Err(e) => unwritten(err, &NAME, e.kind()),
     }
 }
 
@@ -114,12 +114,12 @@ fn try_all(rt: &HostRuntime, n: u64, ticket: &[u8], manifest: &[u8]) -> io::Resu
     if done < n {
         show(&err, done, ticket, manifest, sum)
     } else {
-        conclude(rt, n, manifest.len())
+        conclude(rt, &err, n, manifest.len())
     }
 }
 
 fn complain_at(rt: &impl Eprint, what: &str, byte: usize) -> io::Result<()> {
-    eprintln!(rt; "{NAME}: {what} {byte}")
+    eprintln!(rt; "tear: {what} {byte}")
 }
 
 // First the copy in one piece, in one call: its verdict, how much of the message was used, and the copy's length. Whether it is the same
@@ -179,9 +179,9 @@ fn main(rt: HostRuntime) -> io::Result<()> {
         Ok((n, false)) => tear(&rt, runs_asked(&rt), draw::part(&ticket, 0, n)),
         Ok((_, true)) => {
             eprintln!(rt;
-                "{NAME}: the message is longer than 65536 bytes, which is all that is held here"
+                "tear: the message is longer than 65536 bytes, which is all that is held here"
             )
         }
-        Err(_) => unread(&rt, NAME),
+        Err(_) => unread(&rt.stderr(), &NAME),
     }
 }

@@ -1,5 +1,6 @@
 -- `shortest::long_number_at` meets its contract: the bytes so far go on, and any number above 0 may follow them.
 use Prim.Native.Nat.{◌-◌}
+use native.Mathlib.Omega.{arith}
 use Rattle.shortest.proofs.Spans.{none}
 use Rattle.shortest.proofs.Varints.{going_start, going_from, going_more, going_ends, going_last, one_ends}
 use Rattle.shortest.proofs.long_number_at.Goals as goal
@@ -14,12 +15,9 @@ pub returns-then-i-at-2 : goal.returns-then-i-at-2
 returns-then-i-at-2 c =
     one_ends _ _ _ c.if-i-at-2.true c.loop-i-test.true c.if-b-lt128.true
 
-pub returns-then-b-eq0 : goal.returns-then-b-eq0
-returns-then-b-eq0 c = none
-
 pub returns-then-b-lt128 : goal.returns-then-b-lt128
 returns-then-b-lt128 c =
-    going_ends c.loop-i.invariant c.loop-i-test.true c.if-b-lt128.true c.if-b-eq0.false c.if-i-at.true
+    going_ends c.loop-i.invariant c.loop-i-test.true c.if-b-lt128.true (λ e. omega (e, arith)) c.if-i-at.true
 
 pub loop-i-preserved : goal.loop-i-preserved
 loop-i-preserved c =

@@ -282,7 +282,7 @@ def convert(root, crate, folder, info):
                 continue
             j = walk.loops.index(row)
             new = f"{kind}-{row[0][1]}"
-            clause = whole[whole.index(name, len(sig) if "\n" in whole else 0) :] if False else whole.split("\n", 1)[1]
+            clause = whole.split("\n", 1)[1]
             unf = ""
             if clause.startswith("unfolding"):
                 unf, clause = clause.split("\n", 1)
@@ -290,9 +290,7 @@ def convert(root, crate, folder, info):
             m = re.match(rf"{re.escape(name)}\s+(.*?)\s=\s", clause, re.S)
             params = m.group(1).split()
             rest = clause[m.end() :]
-            fixed = row[1]
             changed = [v for v, c in zip(row[1], walk.changed[j]) if c]
-            same = [v for v, c in zip(row[1], walk.changed[j]) if not c]
             table = {}
             order = [("initial", v) if c else v for v, c in zip(row[1], walk.changed[j])] + changed
             if len(params) != len(order):

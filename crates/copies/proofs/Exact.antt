@@ -6,7 +6,7 @@ use native.Mathlib.Nat.{zero-mul, suc-mul, not-suc-le-zero}
 use native.Mathlib.Omega.{arith}
 use mathlib.Core.Path.{◌≡◌, refl, sym, ap, ◌∙◌, subst}
 use mathlib.Core.Bool.{Bool, true, false, ◌&&◌, ◌||◌}
-use mathlib.Core.List.{List, [], ◌∷◌, ◌++◌, append_assoc, append-nil}
+use mathlib.Core.List.{List, [], ◌∷◌, ◌++◌, append-nil}
 use lib.Dec.{ltb}
 use borrow.Author.Tests.{ltb-true, ltb-false}
 use lib.ListN.{length, take}
@@ -22,7 +22,7 @@ use Rattle.copier.specs.Calls.{bytes, Sent, over}
 use Rattle.copies.specs.Desk.{Desk, start, Act, feed, drain, change, stray, none, counts, sending, feeding, act, acts, MayStand, Allowed}
 use Rattle.copies.specs.Stands.{out, goes_on, goings, enough}
 use Rattle.copies.specs.Demand.{Whole, Run}
-use Rattle.copies.specs.Exact.{AtFull, DrainedAtFull, flushed, transfer, transfers, made, Costs, turn, plainly}
+use Rattle.copies.specs.Exact.{AtFull, DrainedAtFull, flushed, transfer, transfers, Costs, turn, plainly}
 use Rattle.copies.proofs.Sound.{drain_is}
 use Rattle.copies.proofs.Runs.{Fine, out-length, inside, same_size, less, feed_sends, fine_act, fine_acts, stray_is}
 use Rattle.copies.proofs.Sent.{fine_start, all_bytes, at_the_end, all_sent}

@@ -38,7 +38,7 @@ use Rattle.copier.specs.Calls as calls
 use Rattle.copies.specs.Desk.{told, Desk, Stray, Act, feed, drain, change, stray, ended, filled, fed, feeding, none, counts, holding, sending, act, acts, MayStand, Allowed}
 use Rattle.copies.specs.Stands.{out, whole, Stands}
 use Rattle.copies.proofs.Owed.{owed_back}
-use Rattle.copies.proofs.Sound.{Sound, is_sound, sound_is, counted-sound, carried-sound, on_broken, on_live, drain_is, change_is, change_unfit, moved-sound, stray_back}
+use Rattle.copies.proofs.Sound.{Sound, sound_is, counted-sound, carried-sound, on_broken, on_live, drain_is, change_is, change_unfit, moved-sound, stray_back}
 
 -- ---- lists of chunks
 

@@ -20,7 +20,7 @@ use Rattle.istream.specs.Stream.{state_of}
 use Rattle.copying.specs.Owed.{rest, sound_owed}
 use Rattle.copying_laws.proofs.Bound.{out_bound}
 use Rattle.copier.specs.Copier.{copy_of}
-use Rattle.copier.specs.Calls.{bytes, Started, started, Sent}
+use Rattle.copier.specs.Calls.{Started, started, Sent}
 use Rattle.copies.specs.Desk.{Desk, opened_at, Act, feed, drain, change, stray, sending, act, acts, MayStand, Allowed}
 use Rattle.copies.specs.Stands.{out, whole, Stands}
 use Rattle.copies.proofs.Sound.{is_sound, drain_is, start_is, started-sound}

@@ -7,7 +7,6 @@ use mathlib.Core.List.{List, [], ◌∷◌, ◌++◌, append_assoc, append-nil}
 use lib.ListN.{length, take, drop, take-append-drop}
 use lib.Seq.{take-take}
 use Rattle.layout.specs.Message.{All}
-use Rattle.ostream.specs.declared.Count.TheVariants as Counts
 use Rattle.ostream.specs.declared.Counted.{Counted}
 use Rattle.ostream.specs.Buffer.{bad_buffer, sent}
 use Rattle.writes.specs.Series.{Op, Desk, Act, write, drain, change, aside, other, sending, writing, act, acts, Allowed, Lawful, Stays, join}

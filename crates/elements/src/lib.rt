@@ -1,30 +1,49 @@
-// The elements of an array of integers, in bulk: all at once where there is room for them, else from the first byte on that is not out until the buffer is
-// full. Those that are out already are only counted, and those beyond the buffer's end not looked at.
+// The elements of an array of integers, in bulk: all at once where there is room for them, else from the first byte on that is not out until
+// the buffer is full. Those that are out already are only counted, and those beyond the buffer's end not looked at.
 #![tactic(auto)]
 
-ghost use Rattle.std.specs.Prelude.{ℕ, ◌≡◌, ◌+◌, ◌-◌, ◌*◌, ◌≤◌, ◌<◌, ltb, length};
+ghost use Rattle.std.specs.Prelude.{List, ℕ, ◌≡◌, ◌+◌, ◌-◌, ◌*◌, ◌≤◌, ◌<◌, ltb, length};
 ghost use Rattle.layout.specs.Varint.{shortest};
-ghost use Rattle.layout.specs.Field.{each};
+ghost use Rattle.layout.specs.Field.{Field, unsigned_array, signed_array, each};
+ghost use Rattle.layout.specs.Copy.{field_bytes};
 ghost use Rattle.layout.specs.Limits.{pick};
 ghost use Rattle.layout.specs.Zigzag.{zigzag};
 ghost use Rattle.putting.specs.Put.{Puts, PutsAll};
 ghost use Rattle.emit.specs.Cursor.{Emitted};
-ghost use Rattle.elements.specs.OutAfter.{OutAfter, elements_most};
+ghost use Rattle.elements.specs.OutAfter.{OutAfter, elements_most, row_of};
+ghost use Rattle.elements.specs.Rows.{unsigneds_written, signeds_written};
 
 use emit::{Cursor, put_fitting};
+use types::{T_VARINTARRAY_SIGNED, T_VARINTARRAY_UNSIGNED};
 use varint::{VARINT_MAX, width, zigzag_encode};
 use varint_bytes::put_whole;
 
-// An integer of an array: the number whose varint it goes as.
+// An integer of an array: the number whose varint it goes as, and the type of such arrays.
 pub trait Integer: Copy {
+    const WIRE: u8;
+
+    ghost WIRE: { ℕ };
+
     ghost number: { Self → ℕ };
+
+    ghost array: { ℕ → List Self → Field };
 
     fn number(self) -> u64
         ensures { result ≡ number self };
+
+    ghost written: { (id : ℕ) (items : List Self) → field_bytes (array id items) ≡ row_of (id * 8 + WIRE) (λ x. shortest (number x)) items };
 }
 
 impl Integer for u64 {
-    ghost number = { λ n. n };
+    const WIRE: u8 = T_VARINTARRAY_UNSIGNED;
+
+    ghost WIRE = { 3 };
+
+    ghost number = { λ x. x };
+
+    ghost array = { unsigned_array };
+
+    ghost written = { unsigneds_written };
 
     fn number(self) -> u64 {
         self
@@ -32,7 +51,15 @@ impl Integer for u64 {
 }
 
 impl Integer for i64 {
+    const WIRE: u8 = T_VARINTARRAY_SIGNED;
+
+    ghost WIRE = { 4 };
+
     ghost number = { zigzag };
+
+    ghost array = { signed_array };
+
+    ghost written = { signeds_written };
 
     fn number(self) -> u64 {
         zigzag_encode(self)

@@ -8,17 +8,23 @@ ghost use Rattle.std.specs.Float.Ieee.{to_bits};
 ghost use Rattle.layout.specs.Field.{Width, fp32, fp64, bytes_of, low_bytes, each};
 ghost use Rattle.putting.specs.Put.{Puts};
 ghost use Rattle.emit.specs.Cursor.{Emitted};
+ghost use Rattle.floats.specs.Word.{word_number};
 
 use elements::{Out, evenly_out};
 use emit::{Cursor, put_part};
 use event::{fp32_bits, fp64_bits};
 use low_bytes::put_low;
 
-// A float of an array, by value or as its bits: how many bytes it takes, and those bits. A NaN's are the one pattern that the logic knows.
+// A float of an array, by value or as its bits: how many bytes it takes, the word before them in an array, and those bits. A NaN's are the
+// one pattern that the logic knows.
 pub trait Float: Copy {
     const BYTES: usize;
 
     ghost BYTES: { ℕ };
+
+    const WORD: u64;
+
+    ghost WORD: { ℕ };
 
     ghost width: { Width };
 
@@ -28,6 +34,8 @@ pub trait Float: Copy {
         ensures { result ≡ bits self };
 
     ghost sized: { BYTES ≡ bytes_of width };
+
+    ghost worded: { WORD ≡ word_number width };
 }
 
 impl Float for u32 {
@@ -35,11 +43,17 @@ impl Float for u32 {
 
     ghost BYTES = { 4 };
 
+    const WORD: u64 = 4 * 8;
+
+    ghost WORD = { 32 };
+
     ghost width = { fp32 };
 
     ghost bits = { λ x. x };
 
     ghost sized = { refl };
+
+    ghost worded = { refl };
 
     fn bits(self) -> u64 {
         self as u64
@@ -51,11 +65,17 @@ impl Float for u64 {
 
     ghost BYTES = { 8 };
 
+    const WORD: u64 = 8 * 8 + 1;
+
+    ghost WORD = { 65 };
+
     ghost width = { fp64 };
 
     ghost bits = { λ x. x };
 
     ghost sized = { refl };
+
+    ghost worded = { refl };
 
     fn bits(self) -> u64 {
         self
@@ -67,11 +87,17 @@ impl Float for f32 {
 
     ghost BYTES = { 4 };
 
+    const WORD: u64 = 4 * 8;
+
+    ghost WORD = { 32 };
+
     ghost width = { fp32 };
 
     ghost bits = { to_bits binary32 };
 
     ghost sized = { refl };
+
+    ghost worded = { refl };
 
     fn bits(self) -> u64 {
         fp32_bits(self) as u64
@@ -83,11 +109,17 @@ impl Float for f64 {
 
     ghost BYTES = { 8 };
 
+    const WORD: u64 = 8 * 8 + 1;
+
+    ghost WORD = { 65 };
+
     ghost width = { fp64 };
 
     ghost bits = { to_bits binary64 };
 
     ghost sized = { refl };
+
+    ghost worded = { refl };
 
     fn bits(self) -> u64 {
         fp64_bits(self)

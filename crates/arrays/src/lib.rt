@@ -17,9 +17,7 @@ use emit::Cursor;
 use floats::{Float, put_floats};
 use held::{head_len, put_head, tagged};
 use outcomes::{Reach, finish};
-use types::{
-    ARRAY_MAX, Error, LAZY_SEQ_DEPTH, T_FIXLENARRAY, T_VARINTARRAY_SIGNED, T_VARINTARRAY_UNSIGNED,
-};
+use types::{ARRAY_MAX, Error, LAZY_SEQ_DEPTH, T_FIXLENARRAY};
 use varint::VARINT_MAX;
 
 // Most bytes of an array's elements.

@@ -17,7 +17,7 @@ returns-then-end-size g c =
     let integer = g.T.Integer in
     let number = c.tagged-header.ensures ∙ ap (λ (w : ℕ). c.args.id * 8 + w) c.WIRE.ensures in
     let written = ap (λ (h : ℕ). row_of h (λ x. shortest (integer.number x)) c.args.items.now) number ∙ sym (g.met.T.Integer.written c.args.id c.args.items.now) in
-    stopped c.args.held c.args.places _ (λ x. shortest (integer.number x)) c.args.items.now _ written c.args.pos c.args.buf.now c.args.place _ _ _ _ c.requires.1 c.put_head-start.ensures c.put_varints-end.ensures c.if-end-eq0.true (ltb-true _ _ c.if-end-size.true-raw)
+    stopped c.args.held c.args.places _ (λ x. shortest (integer.number x)) c.args.items.now _ written c.args.pos c.args.buf.now c.args.place _ _ _ _ c.requires.1 c.put_head-start.ensures c.put_varints-end.ensures c.if-end-eq0.true (omega (arith, ltb-true))
 
 pub finish_counted-requires : goal.finish_counted-requires
 finish_counted-requires g c =

@@ -104,36 +104,12 @@ pub fn put_close(
 pub fn le32(x: u32) -> [u8; 4]
     ensures { result ≡ low_bytes 4 x }
 {
-    let b = x / 256;
-    let c = b / 256;
-    let d = c / 256;
-    [
-        (x % 256) as u8,
-        (b % 256) as u8,
-        (c % 256) as u8,
-        (d % 256) as u8,
-    ]
+    x.to_le_bytes()
 }
 
 // The eight bytes of a number, low byte first.
 pub fn le64(x: u64) -> [u8; 8]
     ensures { result ≡ low_bytes 8 x }
 {
-    let b = x / 256;
-    let c = b / 256;
-    let d = c / 256;
-    let e = d / 256;
-    let f = e / 256;
-    let g = f / 256;
-    let h = g / 256;
-    [
-        (x % 256) as u8,
-        (b % 256) as u8,
-        (c % 256) as u8,
-        (d % 256) as u8,
-        (e % 256) as u8,
-        (f % 256) as u8,
-        (g % 256) as u8,
-        (h % 256) as u8,
-    ]
+    x.to_le_bytes()
 }

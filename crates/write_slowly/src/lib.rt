@@ -3,22 +3,19 @@
 #![tactic(auto, using(crate::proofs::Went::refuses, crate::proofs::Went::goes))]
 
 ghost use Rattle.std.specs.Prelude.{◌≡◌, [], ◌∷◌, map, ◌++◌, ◌+◌, ◌*◌, length};
-ghost use Rattle.std.specs.Float.{binary32, binary64};
-ghost use Rattle.std.specs.Float.Ieee.{to_bits};
 ghost use Rattle.layout.specs.Varint.{shortest};
-ghost use Rattle.layout.specs.Field.{fp32, fp64, unsigned_array, signed_array, float_array};
+ghost use Rattle.layout.specs.Field.{float_array};
 ghost use Rattle.layout.specs.Copy.{field_bytes, fixlen_bytes};
 ghost use Rattle.types.specs.Types.{subtype};
 ghost use Rattle.checks.specs.Check.{check_of};
 ghost use Rattle.refusals.specs.Tests.{payload_too_long, array_too_long};
 ghost use Rattle.write_slowly.specs.Went.{went_by, judgement_of, field_from};
 
-use arrays::{
-    put_fp32_array, put_fp32_bits_array, put_fp64_array, put_fp64_bits_array, put_signed_array,
-    put_unsigned_array,
-};
+use arrays::{put_float_array, put_integer_array};
 use checks::{check_field, check_sized};
+use elements::Integer;
 use fields::{put_fixlen_field, put_varint_field};
+use floats::Float;
 use held::tagged;
 use outcomes::Reach;
 use places::sound_for;
@@ -111,104 +108,36 @@ pub fn fixlen_field(
     )
 }
 
-// An array of unsigned integers.
-pub fn unsigned_array(
+// An array of integers.
+pub fn integer_array<T: Integer>(
     buf: &mut [u8],
     pos: usize,
     depth: u16,
     held: u16,
     places: [u32; LAZY_SEQ_DEPTH],
     id: u32,
-    items: &[u64],
+    items: &[T],
     place: usize,
 ) -> Result<Reach, Error>
-    ensures { went_by result buf.new ≡ field_from pos depth held places buf.old id (array_too_long (length items.now) ∷ []) (field_bytes (unsigned_array id items.now)) place }
+    ensures { went_by result buf.new ≡ field_from pos depth held places buf.old id (array_too_long (length items.now) ∷ []) (field_bytes (T.array id items.now)) place }
 {
     check_array(pos, depth, held, places, buf.len(), id, items.len())?;
-    put_unsigned_array(buf, pos, places, held, id, items, place)
+    put_integer_array(buf, pos, places, held, id, items, place)
 }
 
-// An array of signed integers.
-pub fn signed_array(
+// An array of floats.
+pub fn float_array<T: Float>(
     buf: &mut [u8],
     pos: usize,
     depth: u16,
     held: u16,
     places: [u32; LAZY_SEQ_DEPTH],
     id: u32,
-    items: &[i64],
+    items: &[T],
     place: usize,
 ) -> Result<Reach, Error>
-    ensures { went_by result buf.new ≡ field_from pos depth held places buf.old id (array_too_long (length items.now) ∷ []) (field_bytes (signed_array id items.now)) place }
+    ensures { went_by result buf.new ≡ field_from pos depth held places buf.old id (array_too_long (length items.now) ∷ []) (field_bytes (float_array id T.width (map T.bits items.now))) place }
 {
     check_array(pos, depth, held, places, buf.len(), id, items.len())?;
-    put_signed_array(buf, pos, places, held, id, items, place)
-}
-
-// An array of floats of 32 bits, by their bits.
-pub fn fp32_bits_array(
-    buf: &mut [u8],
-    pos: usize,
-    depth: u16,
-    held: u16,
-    places: [u32; LAZY_SEQ_DEPTH],
-    id: u32,
-    items: &[u32],
-    place: usize,
-) -> Result<Reach, Error>
-    ensures { went_by result buf.new ≡ field_from pos depth held places buf.old id (array_too_long (length items.now) ∷ []) (field_bytes (float_array id fp32 items.now)) place }
-{
-    check_array(pos, depth, held, places, buf.len(), id, items.len())?;
-    put_fp32_bits_array(buf, pos, places, held, id, items, place)
-}
-
-// An array of floats of 32 bits.
-pub fn fp32_array(
-    buf: &mut [u8],
-    pos: usize,
-    depth: u16,
-    held: u16,
-    places: [u32; LAZY_SEQ_DEPTH],
-    id: u32,
-    items: &[f32],
-    place: usize,
-) -> Result<Reach, Error>
-    ensures { went_by result buf.new ≡ field_from pos depth held places buf.old id (array_too_long (length items.now) ∷ []) (field_bytes (float_array id fp32 (map (to_bits binary32) items.now))) place }
-{
-    check_array(pos, depth, held, places, buf.len(), id, items.len())?;
-    put_fp32_array(buf, pos, places, held, id, items, place)
-}
-
-// An array of floats of 64 bits, by their bits.
-pub fn fp64_bits_array(
-    buf: &mut [u8],
-    pos: usize,
-    depth: u16,
-    held: u16,
-    places: [u32; LAZY_SEQ_DEPTH],
-    id: u32,
-    items: &[u64],
-    place: usize,
-) -> Result<Reach, Error>
-    ensures { went_by result buf.new ≡ field_from pos depth held places buf.old id (array_too_long (length items.now) ∷ []) (field_bytes (float_array id fp64 items.now)) place }
-{
-    check_array(pos, depth, held, places, buf.len(), id, items.len())?;
-    put_fp64_bits_array(buf, pos, places, held, id, items, place)
-}
-
-// An array of floats of 64 bits.
-pub fn fp64_array(
-    buf: &mut [u8],
-    pos: usize,
-    depth: u16,
-    held: u16,
-    places: [u32; LAZY_SEQ_DEPTH],
-    id: u32,
-    items: &[f64],
-    place: usize,
-) -> Result<Reach, Error>
-    ensures { went_by result buf.new ≡ field_from pos depth held places buf.old id (array_too_long (length items.now) ∷ []) (field_bytes (float_array id fp64 (map (to_bits binary64) items.now))) place }
-{
-    check_array(pos, depth, held, places, buf.len(), id, items.len())?;
-    put_fp64_array(buf, pos, places, held, id, items, place)
+    put_float_array(buf, pos, places, held, id, items, place)
 }

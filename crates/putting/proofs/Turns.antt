@@ -67,6 +67,35 @@ module _ (b : List ℕ) (pos : ℕ) (s b1 : List ℕ) (mid : ℕ) (h : pos ≤ l
   pub not_beyond : mid ≤ pos + length s
   not_beyond = let r = reached_is b pos s in let e : mid ≡ reached b pos s = w.0 in omega arith
 
+-- a turn of a copy: from the place `from` of l to the place pos
+pub copied : (b : List ℕ) (pos : ℕ) (o d l : List ℕ) (from k : ℕ) → Left b pos o d (pos + k) (drop (from + k) l) → pos + k < length d → from + k < length l
+    → Left b pos o (set d (pos + k) (get_or l (from + k) 0)) (pos + (k + 1)) (drop (from + (k + 1)) l)
+copied b pos o d l from k h hd hl =
+    let p : pos + k + 1 ≡ pos + (k + 1) = omega arith in
+    let q : suc (from + k) ≡ from + (k + 1) = omega arith in
+    let e : drop (from + k) l ≡ get_or l (from + k) 0 ∷ drop (from + (k + 1)) l = drop-cons l (from + k) 0 hl ∙ ap (λ (j : ℕ). get_or l (from + k) 0 ∷ drop j l) q in
+    subst (λ (at : ℕ). Left b pos o (set d (pos + k) (get_or l (from + k) 0)) at (drop (from + (k + 1)) l)) p (next b pos o d (pos + k) (drop (from + k) l) h _ _ e hd)
+
+-- its end, where the room or the list is used up
+pub copied_all : (b : List ℕ) (pos : ℕ) (o d l : List ℕ) (from k : ℕ) → Left b pos o d (pos + k) (drop (from + k) l) → k ≡ min (length l - from) (length b - pos) → pos ≤ length b → from ≤ length l
+    → Puts b pos o d (pos + k)
+copied_all b pos o d l from k h e hb hl = go (leb (length l - from) (length b - pos)) refl
+  where
+    go : (t : Bool) → leb (length l - from) (length b - pos) ≡ t → Puts b pos o d (pos + k)
+    go true q =
+        let g : length l - from ≤ length b - pos = leb-true _ _ q in
+        none_left b pos o d (pos + k) (drop (from + k) l) h (omega (arith, length-drop (from + k) l))
+    go false q =
+        let g : length b - pos < length l - from = leb-false _ _ q in
+        let z : length d ≡ length b = h.size in
+        no_room b pos o d (pos + k) (drop (from + k) l) h (omega arith)
+
+pub copy_start : (b : List ℕ) (pos : ℕ) (l : List ℕ) (from : ℕ) → Left b pos (drop from l) b (pos + 0) (drop (from + 0) l)
+copy_start b pos l from =
+    let p : pos ≡ pos + 0 = omega arith in
+    let q : from ≡ from + 0 = omega arith in
+    subst (λ (at : ℕ). Left b pos (drop from l) b at (drop (from + 0) l)) p (subst (λ (k : ℕ). Left b pos (drop from l) b pos (drop k l)) q (start b pos (drop from l)))
+
 -- ---- by another name for what is put
 
 pub says : (b : List ℕ) (at : ℕ) (s t b' : List ℕ) (r : ℕ) → s ≡ t → Puts b at s b' r → Puts b at t b' r

@@ -1,10 +1,10 @@
--- `emit::put_rest`: as much of the rest as there is room for, as a block.
-use Prim.Native.Nat.{ℕ, ◌+◌, ◌-◌}
-use mathlib.Core.Path.{◌≡◌, ap, ◌∙◌}
+-- `emit::put_rest`: a copy whose turns are counted beforehand, so that none tests for room.
+use mathlib.Core.Path.{◌≡◌, subst}
+use Prim.Native.Nat.{ℕ, ◌+◌}
 use native.Mathlib.Omega.{arith}
-use lib.ListN.{take, drop, length-drop}
-use Rattle.low_bytes.proofs.Stores.{stored}
-use Rattle.putting.proofs.Turns.{start, no_room, none_left}
+use lib.ListN.{drop, length-drop}
+use Rattle.putting.proofs.Turns.{start, no_room, none_left, copied, copied_all, copy_start}
+use Rattle.putting.specs.Put.{Puts}
 use Rattle.emit.proofs.put_rest.Goals as goal
 
 pub returns-then-buf-pos : goal.returns-then-buf-pos
@@ -13,8 +13,13 @@ returns-then-buf-pos c = no_room _ _ _ _ _ _ (start _ _ _) c.if-buf-pos.true
 pub returns-then-bytes-from : goal.returns-then-bytes-from
 returns-then-bytes-from c = none_left _ _ _ _ _ _ (start _ _ _) (omega (arith, length-drop c.args.from c.args.bytes.now))
 
+pub loop-k-init : goal.loop-k-init
+loop-k-init c = copy_start c.args.buf.now c.args.pos c.args.bytes.now c.args.from
+
+pub loop-k-preserved : goal.loop-k-preserved
+loop-k-preserved c = copied _ _ _ _ _ _ _ c.loop-k.invariant (omega arith) (omega arith)
+
 pub returns : goal.returns
 returns c =
-    let l = length-drop c.args.from c.args.bytes.now in
-    let k : c.args.from + c.min-n.result - c.args.from ≡ c.min-n.result = omega arith in
-    stored _ _ _ _ _ _ (omega arith) (omega arith) (omega arith) (c.copy_from_slice.ensures.after ∙ ap (λ (j : ℕ). take j (drop c.args.from c.args.bytes.now)) k)
+    let n : c.loop-k.k ≡ c.min-n.result = omega arith in
+    subst (λ (k : ℕ). Puts c.args.buf.now c.args.pos (drop c.args.from c.args.bytes.now) c.loop-k.buf (c.args.pos + k)) n (copied_all _ _ _ _ _ _ _ c.loop-k.invariant (omega arith) (omega arith) (omega arith))

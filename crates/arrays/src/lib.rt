@@ -2,10 +2,8 @@
 #![tactic(auto)]
 
 ghost use Rattle.std.specs.Prelude.{◌≡◌, ◌++◌, map, ◌+◌, ◌-◌, ◌*◌, ◌≤◌, ltb, length};
-ghost use Rattle.std.specs.Float.{binary32, binary64};
-ghost use Rattle.std.specs.Float.Ieee.{to_bits};
 ghost use Rattle.layout.specs.Varint.{shortest};
-ghost use Rattle.layout.specs.Field.{fp32, fp64, bytes_of, unsigned_array, signed_array, float_array};
+ghost use Rattle.layout.specs.Field.{fp64, bytes_of, float_array};
 ghost use Rattle.layout.specs.Copy.{field_bytes};
 ghost use Rattle.layout.specs.Limits.{base, pick};
 ghost use Rattle.emit.specs.Cursor.{Emitted};
@@ -14,15 +12,12 @@ ghost use Rattle.elements.specs.OutAfter.{elements_most};
 ghost use Rattle.places.specs.Places.{lazy_depth};
 ghost use Rattle.held.specs.Headers.{headers_of, head_of, start_at, Ended};
 
-use elements::{Out, counted, put_varints, put_zigzags, varints_out, zigzags_out};
+use elements::{Integer, Out, counted, put_varints, varints_out};
 use emit::Cursor;
-use float_values::{put_f32s, put_f64s};
-use floats::{put_fp32s, put_fp64s};
+use floats::{Float, put_floats};
 use held::{head_len, put_head, tagged};
-use outcomes::{Outcome, finish};
-use types::{
-    ARRAY_MAX, LAZY_SEQ_DEPTH, T_FIXLENARRAY, T_VARINTARRAY_SIGNED, T_VARINTARRAY_UNSIGNED,
-};
+use outcomes::{Reach, finish};
+use types::{ARRAY_MAX, Error, LAZY_SEQ_DEPTH, T_FIXLENARRAY};
 use varint::VARINT_MAX;
 
 // Most bytes of an array's elements.
@@ -50,7 +45,7 @@ fn finish_counted(
     out: Out,
     most: usize,
     place: usize,
-) -> Outcome
+) -> Result<Reach, Error>
     requires { (held ≤ lazy_depth) × (pos ≤ size) × (out.part ≤ most) × (most ≤ 9223372036854775808 + elements_most base.count) }
     ensures { result ≡ reaches pos size (length (head_of held places header n) + pick (ltb out.whole n) (most + 1) (most - out.part)) place }
 {
@@ -59,66 +54,29 @@ fn finish_counted(
     finish(pos, size, head + len, place)
 }
 
-// An array of unsigned integers. Where it ends before the buffer does, its elements need no second look; nor do those beyond the
-// buffer's end.
-pub fn put_unsigned_array(
+// An array of integers. Where it ends before the buffer does, its elements need no second look; nor do those beyond the buffer's end.
+pub fn put_integer_array<T: Integer>(
     buf: &mut [u8],
     pos: usize,
     places: [u32; LAZY_SEQ_DEPTH],
     held: u16,
     id: u32,
-    items: &[u64],
+    items: &[T],
     place: usize,
-) -> Outcome
+) -> Result<Reach, Error>
     requires { (held ≤ lazy_depth) × (pos ≤ length buf.old) × (length items.now ≤ base.count) }
-    ensures { Ended pos buf.old (headers_of held places ++ field_bytes (unsigned_array id items.now)) place result buf.new }
+    ensures { Ended pos buf.old (headers_of held places ++ field_bytes (T.array id items.now)) place result buf.new }
 {
     let size = buf.len();
-    let header = tagged(id, T_VARINTARRAY_UNSIGNED);
+    let header = tagged(id, T::WIRE);
     let count = items.len() as u64;
     let start = put_head(buf, pos, places, held, header, count, place);
     let end = put_varints(start, buf, items);
     if end.skip == 0 && end.pos < size {
-        return Outcome::Through(end.pos);
+        return Ok(Reach::Through(end.pos));
     }
     let most = farthest(place, size - pos);
     let out = varints_out(items, most);
-    finish_counted(
-        size,
-        pos,
-        places,
-        held,
-        header,
-        items.len(),
-        out,
-        most,
-        place,
-    )
-}
-
-// An array of signed integers, likewise.
-pub fn put_signed_array(
-    buf: &mut [u8],
-    pos: usize,
-    places: [u32; LAZY_SEQ_DEPTH],
-    held: u16,
-    id: u32,
-    items: &[i64],
-    place: usize,
-) -> Outcome
-    requires { (held ≤ lazy_depth) × (pos ≤ length buf.old) × (length items.now ≤ base.count) }
-    ensures { Ended pos buf.old (headers_of held places ++ field_bytes (signed_array id items.now)) place result buf.new }
-{
-    let size = buf.len();
-    let header = tagged(id, T_VARINTARRAY_SIGNED);
-    let count = items.len() as u64;
-    let start = put_head(buf, pos, places, held, header, count, place);
-    let end = put_zigzags(start, buf, items);
-    if end.skip == 0 && end.pos < size {
-        return Outcome::Through(end.pos);
-    }
-    let most = farthest(place, size - pos);
-    let out = zigzags_out(items, most);
     finish_counted(
         size,
         pos,
@@ -169,7 +127,7 @@ fn finish_floats(
     n: usize,
     bytes: usize,
     place: usize,
-) -> Outcome
+) -> Result<Reach, Error>
     requires { (held ≤ lazy_depth) × (pos ≤ size) × (n ≤ base.count) × (bytes ≤ bytes_of fp64 * base.count) }
     ensures { result ≡ reaches pos size (length (head_of held places (id * 8 + 5) n) + (1 + bytes)) place }
 {
@@ -177,82 +135,22 @@ fn finish_floats(
     finish(pos, size, head + (1 + bytes), place)
 }
 
-// An array of floats of 32 bits, by their bits.
-pub fn put_fp32_bits_array(
+// An array of floats.
+pub fn put_float_array<T: Float>(
     buf: &mut [u8],
     pos: usize,
     places: [u32; LAZY_SEQ_DEPTH],
     held: u16,
     id: u32,
-    items: &[u32],
+    items: &[T],
     place: usize,
-) -> Outcome
+) -> Result<Reach, Error>
     requires { (held ≤ lazy_depth) × (pos ≤ length buf.old) × (length items.now ≤ base.count) }
-    ensures { Ended pos buf.old (headers_of held places ++ field_bytes (float_array id fp32 items.now)) place result buf.new }
+    ensures { Ended pos buf.old (headers_of held places ++ field_bytes (float_array id T.width (map T.bits items.now))) place result buf.new }
 {
     let size = buf.len();
     let n = items.len();
-    let word = put_announced(buf, pos, places, held, id, n as u64, tagged(4, 0), place);
-    put_fp32s(word, buf, items);
-    finish_floats(size, pos, places, held, id, n, n * 4, place)
-}
-
-// An array of floats of 32 bits. A NaN's bits are the one pattern that the logic knows.
-pub fn put_fp32_array(
-    buf: &mut [u8],
-    pos: usize,
-    places: [u32; LAZY_SEQ_DEPTH],
-    held: u16,
-    id: u32,
-    items: &[f32],
-    place: usize,
-) -> Outcome
-    requires { (held ≤ lazy_depth) × (pos ≤ length buf.old) × (length items.now ≤ base.count) }
-    ensures { Ended pos buf.old (headers_of held places ++ field_bytes (float_array id fp32 (map (to_bits binary32) items.now))) place result buf.new }
-{
-    let size = buf.len();
-    let n = items.len();
-    let word = put_announced(buf, pos, places, held, id, n as u64, tagged(4, 0), place);
-    put_f32s(word, buf, items);
-    finish_floats(size, pos, places, held, id, n, n * 4, place)
-}
-
-// An array of floats of 64 bits, by their bits.
-pub fn put_fp64_bits_array(
-    buf: &mut [u8],
-    pos: usize,
-    places: [u32; LAZY_SEQ_DEPTH],
-    held: u16,
-    id: u32,
-    items: &[u64],
-    place: usize,
-) -> Outcome
-    requires { (held ≤ lazy_depth) × (pos ≤ length buf.old) × (length items.now ≤ base.count) }
-    ensures { Ended pos buf.old (headers_of held places ++ field_bytes (float_array id fp64 items.now)) place result buf.new }
-{
-    let size = buf.len();
-    let n = items.len();
-    let word = put_announced(buf, pos, places, held, id, n as u64, tagged(8, 1), place);
-    put_fp64s(word, buf, items);
-    finish_floats(size, pos, places, held, id, n, n * 8, place)
-}
-
-// An array of floats of 64 bits. A NaN's bits are the one pattern that the logic knows.
-pub fn put_fp64_array(
-    buf: &mut [u8],
-    pos: usize,
-    places: [u32; LAZY_SEQ_DEPTH],
-    held: u16,
-    id: u32,
-    items: &[f64],
-    place: usize,
-) -> Outcome
-    requires { (held ≤ lazy_depth) × (pos ≤ length buf.old) × (length items.now ≤ base.count) }
-    ensures { Ended pos buf.old (headers_of held places ++ field_bytes (float_array id fp64 (map (to_bits binary64) items.now))) place result buf.new }
-{
-    let size = buf.len();
-    let n = items.len();
-    let word = put_announced(buf, pos, places, held, id, n as u64, tagged(8, 1), place);
-    put_f64s(word, buf, items);
-    finish_floats(size, pos, places, held, id, n, n * 8, place)
+    let word = put_announced(buf, pos, places, held, id, n as u64, T::WORD, place);
+    put_floats(word, buf, items);
+    finish_floats(size, pos, places, held, id, n, n * T::BYTES, place)
 }

@@ -14,7 +14,7 @@ use borrow.Author.Tests.{leb-true, leb-false, ltb-true, ltb-false}
 use Rattle.layout.specs.Limits.{base, longest, pick}
 use Rattle.layout.specs.Varint.{shortest}
 use Rattle.layout.specs.Field.{each}
-use Rattle.varint.proofs.Shortest.{drop-shortest}
+use Rattle.varint.proofs.Shortest.{drop-shortest, length-longest, length_some}
 use Rattle.varint.proofs.Digits.{pow128}
 use Rattle.emit.specs.declared.Cursor.{Cursor}
 use Rattle.putting.specs.Put.{reached, Puts}
@@ -131,23 +131,23 @@ module _ {A : Type 0} (f : A → List ℕ) (l : List A) (b : List ℕ) (pos : �
 
 -- ---- the loop that writes: the elements of l from the i-th on are left to write
 
-pub record Going {A : Type 0} (f : A → List ℕ) (l : List A) (b : List ℕ) (pos : ℕ) (o d : List ℕ) (at i : ℕ) : Type 0 where
-  pub left : Left b pos o d at (each f (drop i l))
+pub record Going {A : Type 0} (f : A → List ℕ) (l : List A) (b : List ℕ) (pos : ℕ) (d : List ℕ) (at i : ℕ) : Type 0 where
+  pub left : Left b pos (each f l) d at (each f (drop i l))
   pub inside : at ≤ length d
 
 module _ {A : Type 0} (f : A → List ℕ) (l : List A) (b : List ℕ) (pos : ℕ) where
-  pub going_start : (from : ℕ) → pos ≤ length b → Going f l b pos (each f (drop from l)) b pos from
-  going_start from h = record { left = start b pos (each f (drop from l)); inside = h }
+  pub going_start : pos ≤ length b → Going f l b pos b pos 0
+  going_start h = record { left = start b pos (each f l); inside = h }
 
-  module _ (o d : List ℕ) (at i : ℕ) (w : Going f l b pos o d at i) where
-    pub going_next : (x : A) (s d' : List ℕ) (end : ℕ) → i < length l → s ≡ f (get_or l i x) → Puts d at s d' end → Going f l b pos o d' end (i + 1)
-    going_next x s d' end h q g = let (m, t) = left_next f l b pos o d at i 0 x s d' end w.left w.inside h (omega arith) q g in record { left = m; inside = t }
+  module _ (d : List ℕ) (at i : ℕ) (w : Going f l b pos d at i) where
+    pub going_next : (x : A) (s d' : List ℕ) (end : ℕ) → i < length l → s ≡ f (get_or l i x) → Puts d at s d' end → Going f l b pos d' end (i + 1)
+    going_next x s d' end h q g = let (m, t) = left_next f l b pos (each f l) d at i 0 x s d' end w.left w.inside h (omega arith) q g in record { left = m; inside = t }
 
-    pub going_end : length l ≤ i → Puts b pos o d at
-    going_end h = none_left b pos o d at (each f (drop i l)) w.left (ap length (each_end f l i h))
+    pub going_end : length l ≤ i → Puts b pos (each f l) d at
+    going_end h = none_left b pos (each f l) d at (each f (drop i l)) w.left (ap length (each_end f l i h))
 
-    pub going_full : length d ≤ at → Puts b pos o d at
-    going_full h = no_room b pos o d at (each f (drop i l)) w.left h
+    pub going_full : length d ≤ at → Puts b pos (each f l) d at
+    going_full h = no_room b pos (each f l) d at (each f (drop i l)) w.left h
 
 -- ---- that loop from a place on, where the first `part` bytes of the i-th are out
 
@@ -262,3 +262,17 @@ module _ {A : Type 0} (f : A → List ℕ) (l : List A) (c : Cursor) (b : List �
       let (p, q) = followed b c.pos _ d at (each f (drop i l)) d' end w.left g in
       let o : 0 - length (each f (drop i l)) ≡ c.skip - length (each f l) = w.rest in
       some_left c b (each f l) _ end 0 d' (omega arith) refl p q
+
+-- ---- varints: of the first that is not all out, whose number is n, the number shifted down
+
+module _ {A : Type 0} (number : A → ℕ) (l : List A) (c : Cursor) (b : List ℕ) (whole part : ℕ) (w : OutAfter (λ x. shortest (number x)) l c.skip whole part) (i : whole < length l) (x : A) (n : ℕ) (e : n ≡ number (get_or l whole x)) where
+  pub head_short : part < length (shortest n)
+  head_short = let k = w.short x i in let m = ap (λ (v : ℕ). length (shortest v)) e in omega arith
+
+  pub head_bits : n < 2 ^ 64 → part * 7 < 64
+  head_bits h = let k = head_short in let m = length-longest base n h in omega arith
+
+  pub head_out : c.pos ≤ length b → (d : List ℕ) (end : ℕ) → Puts b c.pos (shortest (n / 2 ^ (part * 7))) d end → Resumed (λ x. shortest (number x)) l c b d end (whole + 1) 0
+  head_out h d end g =
+      let s : shortest (n / 2 ^ (part * 7)) ≡ drop part (shortest (number (get_or l whole x))) = sym (drop_shifted part n head_short) ∙ ap (λ (v : ℕ). drop part (shortest v)) e in
+      resumed_next (λ x. shortest (number x)) l c b b c.pos whole part (resumed_start (λ x. shortest (number x)) l c b whole part h w) (λ y. length_some (number y)) x _ d end i s g

@@ -1,95 +1,162 @@
-// The elements of an array of floats by their bits, in bulk: all at once where there is room for them, else from the first byte on that is
-// not out until the buffer is full.
+// The elements of an array of floats, by value or as their bits, in bulk: all at once where there is room for them, else from the first
+// byte on that is not out until the buffer is full.
 #![tactic(auto)]
 
-ghost use Rattle.std.specs.Prelude.{◌+◌, ◌*◌, ◌≤◌, length};
-ghost use Rattle.layout.specs.Field.{low_bytes, each};
+ghost use Rattle.std.specs.Prelude.{◌≡◌, ℕ, ◌+◌, ◌*◌, ◌≤◌, length, refl};
+ghost use Rattle.std.specs.Float.{binary32, binary64};
+ghost use Rattle.std.specs.Float.Ieee.{to_bits};
+ghost use Rattle.layout.specs.Field.{Width, fp32, fp64, bytes_of, low_bytes, each};
 ghost use Rattle.putting.specs.Put.{Puts};
 ghost use Rattle.emit.specs.Cursor.{Emitted};
+ghost use Rattle.floats.specs.Word.{word_number};
 
-use elements::evenly_out;
-use emit::{Cursor, least};
-use low_bytes::{put_eight, put_four, put_part};
+use elements::{Out, evenly_out};
+use emit::{Cursor, put_part};
+use event::{fp32_bits, fp64_bits};
+use low_bytes::put_low;
 
-// The elements of a float array of 32 bits, by their bits, where there is room for all: no test at each byte.
-fn put_fours(buf: &mut [u8], pos: usize, items: &[u32]) -> usize
-    requires { pos + 4 * length items.now ≤ length buf.old }
-    ensures { Puts buf.old pos (each (low_bytes 4) items.now) buf.new result }
+// A float of an array, by value or as its bits: how many bytes it takes, the word before them in an array, and those bits. A NaN's are the
+// one pattern that the logic knows.
+pub trait Float: Copy {
+    const BYTES: usize;
+
+    ghost BYTES: { ℕ };
+
+    const WORD: u64;
+
+    ghost WORD: { ℕ };
+
+    ghost width: { Width };
+
+    ghost bits: { Self → ℕ };
+
+    fn bits(self) -> u64
+        ensures { result ≡ bits self };
+
+    ghost sized: { BYTES ≡ bytes_of width };
+
+    ghost worded: { WORD ≡ word_number width };
+}
+
+impl Float for u32 {
+    const BYTES: usize = 4;
+
+    ghost BYTES = { 4 };
+
+    const WORD: u64 = 4 * 8;
+
+    ghost WORD = { 32 };
+
+    ghost width = { fp32 };
+
+    ghost bits = { λ x. x };
+
+    ghost sized = { refl };
+
+    ghost worded = { refl };
+
+    fn bits(self) -> u64 {
+        self as u64
+    }
+}
+
+impl Float for u64 {
+    const BYTES: usize = 8;
+
+    ghost BYTES = { 8 };
+
+    const WORD: u64 = 8 * 8 + 1;
+
+    ghost WORD = { 65 };
+
+    ghost width = { fp64 };
+
+    ghost bits = { λ x. x };
+
+    ghost sized = { refl };
+
+    ghost worded = { refl };
+
+    fn bits(self) -> u64 {
+        self
+    }
+}
+
+impl Float for f32 {
+    const BYTES: usize = 4;
+
+    ghost BYTES = { 4 };
+
+    const WORD: u64 = 4 * 8;
+
+    ghost WORD = { 32 };
+
+    ghost width = { fp32 };
+
+    ghost bits = { to_bits binary32 };
+
+    ghost sized = { refl };
+
+    ghost worded = { refl };
+
+    fn bits(self) -> u64 {
+        fp32_bits(self) as u64
+    }
+}
+
+impl Float for f64 {
+    const BYTES: usize = 8;
+
+    ghost BYTES = { 8 };
+
+    const WORD: u64 = 8 * 8 + 1;
+
+    ghost WORD = { 65 };
+
+    ghost width = { fp64 };
+
+    ghost bits = { to_bits binary64 };
+
+    ghost sized = { refl };
+
+    ghost worded = { refl };
+
+    fn bits(self) -> u64 {
+        fp64_bits(self)
+    }
+}
+
+// The elements where there is room for all: no test at each byte.
+fn put_fittings<T: Float>(buf: &mut [u8], pos: usize, items: &[T]) -> usize
+    requires { pos + T.BYTES * length items.now ≤ length buf.old }
+    ensures { Puts buf.old pos (each (λ x. low_bytes T.BYTES (T.bits x)) items.now) buf.new result }
 {
     let mut at = pos;
-    let mut i: usize = 0;
-    while i < items.len() {
-        let bits = items[i];
-        at = put_four(buf, at, bits as u64);
-        i += 1;
+    for &x in items {
+        at = put_low(buf, at, x.bits(), T::BYTES);
     }
     at
 }
 
-// The elements of a float array of 64 bits, by their bits, where there is room for all.
-fn put_eights(buf: &mut [u8], pos: usize, items: &[u64]) -> usize
-    requires { pos + 8 * length items.now ≤ length buf.old }
-    ensures { Puts buf.old pos (each (low_bytes 8) items.now) buf.new result }
-{
-    let mut at = pos;
-    let mut i: usize = 0;
-    while i < items.len() {
-        let bits = items[i];
-        at = put_eight(buf, at, bits);
-        i += 1;
-    }
-    at
-}
-
-// The elements of a float array of 32 bits, by their bits: the rest of the first that is not all out, as many whole ones as there is room
-// for, which go as a block, and what goes of the next.
-pub fn put_fp32s(cursor: Cursor, buf: &mut [u8], items: &[u32]) -> Cursor
+// The elements: the rest of the first that is not all out, as many whole ones as there is room for, which go as a block, and what goes of
+// the next.
+pub fn put_floats<T: Float>(cursor: Cursor, buf: &mut [u8], items: &[T]) -> Cursor
     requires { cursor.pos ≤ length buf.old }
-    ensures { Emitted cursor buf.old (each (low_bytes 4) items.now) result buf.new }
+    ensures { Emitted cursor buf.old (each (λ x. low_bytes T.BYTES (T.bits x)) items.now) result buf.new }
 {
-    let pos = cursor.pos;
-    let skip = cursor.skip;
-    let out = evenly_out(items.len(), skip, 4);
-    let first = out.whole;
-    let part = out.part;
-    if items.len() <= first {
+    let Cursor { pos, skip } = cursor;
+    let bytes = T::BYTES;
+    let Out { whole, part } = evenly_out(items.len(), skip, bytes);
+    if items.len() <= whole {
         return Cursor { pos, skip: part };
     }
-    let head = items[first];
-    let at = put_part(buf, pos, head as u64, 4, part);
-    let next = first + 1;
-    let last = next + least((buf.len() - at) / 4, items.len() - next);
-    let end = put_fours(buf, at, &items[next..last]);
+    let at = put_part(buf, pos, items[whole].bits(), bytes, part);
+    let next = whole + 1;
+    let last = next + ((buf.len() - at) / bytes).min(items.len() - next);
+    let end = put_fittings(buf, at, &items[next..last]);
     if items.len() <= last {
         return Cursor { pos: end, skip: 0 };
     }
-    let tail = items[last];
-    let stop = put_part(buf, end, tail as u64, 4, 0);
-    Cursor { pos: stop, skip: 0 }
-}
-
-// The elements of a float array of 64 bits, by their bits, likewise.
-pub fn put_fp64s(cursor: Cursor, buf: &mut [u8], items: &[u64]) -> Cursor
-    requires { cursor.pos ≤ length buf.old }
-    ensures { Emitted cursor buf.old (each (low_bytes 8) items.now) result buf.new }
-{
-    let pos = cursor.pos;
-    let skip = cursor.skip;
-    let out = evenly_out(items.len(), skip, 8);
-    let first = out.whole;
-    let part = out.part;
-    if items.len() <= first {
-        return Cursor { pos, skip: part };
-    }
-    let head = items[first];
-    let at = put_part(buf, pos, head, 8, part);
-    let next = first + 1;
-    let last = next + least((buf.len() - at) / 8, items.len() - next);
-    let end = put_eights(buf, at, &items[next..last]);
-    if items.len() <= last {
-        return Cursor { pos: end, skip: 0 };
-    }
-    let tail = items[last];
-    let stop = put_part(buf, end, tail, 8, 0);
+    let stop = put_part(buf, end, items[last].bits(), bytes, 0);
     Cursor { pos: stop, skip: 0 }
 }

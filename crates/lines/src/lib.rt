@@ -1,6 +1,7 @@
 // The lines of the event list: what an event says, put as text into a lent buffer as far as there is room.
 #![tactic(auto)]
 
+ghost use Rattle.std.specs.Prelude.{◌≤◌, ◌<◌, ◌^◌};
 ghost use Rattle.std.proofs.Math.Seq.{slice};
 ghost use Rattle.layout.specs.Field.{each};
 ghost use Rattle.event.specs.Event.{event_of};
@@ -8,7 +9,7 @@ ghost use Rattle.event_list.specs.Lines.{decimal, hexadecimal, byte_line, lines_
 ghost use Rattle.shown.specs.Spelled.{part_text, line_text};
 ghost use Rattle.putting.specs.Put.{Puts};
 
-use emit::{least, put_rest};
+use emit::put_rest;
 use event::{Bounds, Event};
 use shown::{Line, Part, Shown, shown_of};
 
@@ -20,20 +21,14 @@ fn put_decimal(out: &mut [u8], at: usize, n: u64) -> usize
     put_rest(out, at, &digits[..k], 0)
 }
 
-fn put_bits32(out: &mut [u8], at: usize, n: u32) -> usize
-    ensures { Puts out.old at (hexadecimal 8 n) out.new result }
+// A number by so many digits, where it has no more.
+fn put_hexadecimal(out: &mut [u8], at: usize, n: u64, digits: usize) -> usize
+    requires { (0 < digits) × (digits ≤ 16) × (n < 16 ^ digits) }
+    ensures { Puts out.old at (hexadecimal digits n) out.new result }
 {
-    let mut digits = [0u8; 16];
-    let k = io::hex(n as u64, 8, &mut digits);
-    put_rest(out, at, &digits[..k], 0)
-}
-
-fn put_bits64(out: &mut [u8], at: usize, n: u64) -> usize
-    ensures { Puts out.old at (hexadecimal 16 n) out.new result }
-{
-    let mut digits = [0u8; 16];
-    let k = io::hex(n, 16, &mut digits);
-    put_rest(out, at, &digits[..k], 0)
+    let mut text = [0u8; 16];
+    let k = io::hex(n, digits, &mut text);
+    put_rest(out, at, &text[..k], 0)
 }
 
 fn put_part(out: &mut [u8], at: usize, p: Part) -> usize
@@ -51,11 +46,11 @@ fn put_part(out: &mut [u8], at: usize, p: Part) -> usize
         }
         Part::Bits32(n) => {
             let next = put_rest(out, at, b" ", 0);
-            put_bits32(out, next, n)
+            put_hexadecimal(out, next, n as u64, 8)
         }
         Part::Bits64(n) => {
             let next = put_rest(out, at, b" ", 0);
-            put_bits64(out, next, n)
+            put_hexadecimal(out, next, n, 16)
         }
     }
 }
@@ -88,10 +83,8 @@ fn put_bytes(out: &mut [u8], at: usize, bytes: &[u8]) -> usize
     ensures { Puts out.old at (each byte_line bytes.now) out.new result }
 {
     let mut next = at;
-    let mut i: usize = 0;
-    while i < bytes.len() {
-        next = put_byte(out, next, bytes[i]);
-        i += 1;
+    for &b in bytes {
+        next = put_byte(out, next, b);
     }
     next
 }
@@ -100,8 +93,8 @@ fn put_bytes(out: &mut [u8], at: usize, bytes: &[u8]) -> usize
 fn put_piece(out: &mut [u8], at: usize, chunk: &[u8], b: Bounds) -> usize
     ensures { Puts out.old at (each byte_line (slice b.from b.to chunk.now)) out.new result }
 {
-    let to = least(b.to, chunk.len());
-    let from = least(b.from, to);
+    let to = b.to.min(chunk.len());
+    let from = b.from.min(to);
     put_bytes(out, at, &chunk[from..to])
 }
 

@@ -1,3 +1,3 @@
--- `Low` has the laws of a number's low bytes, `Stores` those of four and of eight in a row.
+-- `Low` has the laws of a number's low bytes, `Stores` that of a part of a buffer written at once.
 pub mod Low
 pub mod Stores

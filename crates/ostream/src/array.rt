@@ -3,56 +3,19 @@ ghost use Rattle.std.specs.Prelude.{◌≡◌, map, length};
 ghost use Rattle.std.specs.Float.{binary32, binary64};
 ghost use Rattle.std.specs.Float.Ieee.{to_bits};
 ghost use Rattle.layout.specs.Field.{fp32, fp64};
+ghost use Rattle.layout.specs.Copy.{field_bytes};
 ghost use Rattle.ostream.specs.Emission.{result_of, written};
-ghost use Rattle.ostream.specs.Calls.{unsigned_array_call, signed_array_call, float_array_call};
+ghost use Rattle.ostream.specs.Calls.{array_call, unsigned_array_call, signed_array_call, float_array_call};
 
 use crate::{Answer, OStream, Written};
-use write_at_once::{signeds_at_once, unsigneds_at_once};
-use write_slowly::{
-    fp32_array, fp32_bits_array, fp64_array, fp64_bits_array, signed_array, unsigned_array,
-};
+use elements::Integer;
+use floats::Float;
+use write_at_once::integers_at_once;
+use write_slowly::{float_array, integer_array};
 
 impl OStream {
     // An array of unsigned integers.
     pub fn write_array_unsigned(
-        mut self,
-        buf: &mut [u8],
-        id: u32,
-        items: &[u64],
-        place: usize,
-    ) -> Written
-        ensures { result_of result buf.new ≡ written (unsigned_array_call self (length buf.old) id items.now) self buf.old place }
-    {
-        if 0 < place {
-            return self
-                .rebuilt()
-                .write_array_unsigned_slowly(buf, id, items, place)
-                .rebuilt();
-        }
-        let places = self.pending;
-        let end = unsigneds_at_once(
-            buf,
-            self.offset,
-            self.depth,
-            self.npending,
-            places,
-            id,
-            items,
-        );
-        if self.offset < end {
-            self.offset = end;
-            return Written {
-                answer: Answer::Done,
-                stream: self,
-            };
-        }
-        self.rebuilt()
-            .write_array_unsigned_slowly(buf, id, items, place)
-            .rebuilt()
-    }
-
-    // The slow form of `write_array_unsigned`, from any state and place.
-    fn write_array_unsigned_slowly(
         self,
         buf: &mut [u8],
         id: u32,
@@ -61,87 +24,19 @@ impl OStream {
     ) -> Written
         ensures { result_of result buf.new ≡ written (unsigned_array_call self (length buf.old) id items.now) self buf.old place }
     {
-        let size = buf.len();
-        let places = self.pending;
-        let outcome = unsigned_array(
-            buf,
-            self.offset,
-            self.depth,
-            self.npending,
-            places,
-            id,
-            items,
-            place,
-        );
-        self.settle(size, outcome, self.depth)
+        self.write_integers(buf, id, items, place)
     }
 
     // An array of signed integers.
-    pub fn write_array_signed(
-        mut self,
-        buf: &mut [u8],
-        id: u32,
-        items: &[i64],
-        place: usize,
-    ) -> Written
+    pub fn write_array_signed(self, buf: &mut [u8], id: u32, items: &[i64], place: usize) -> Written
         ensures { result_of result buf.new ≡ written (signed_array_call self (length buf.old) id items.now) self buf.old place }
     {
-        if 0 < place {
-            return self
-                .rebuilt()
-                .write_array_signed_slowly(buf, id, items, place)
-                .rebuilt();
-        }
-        let places = self.pending;
-        let end = signeds_at_once(
-            buf,
-            self.offset,
-            self.depth,
-            self.npending,
-            places,
-            id,
-            items,
-        );
-        if self.offset < end {
-            self.offset = end;
-            return Written {
-                answer: Answer::Done,
-                stream: self,
-            };
-        }
-        self.rebuilt()
-            .write_array_signed_slowly(buf, id, items, place)
-            .rebuilt()
-    }
-
-    // The slow form of `write_array_signed`, from any state and place.
-    fn write_array_signed_slowly(
-        self,
-        buf: &mut [u8],
-        id: u32,
-        items: &[i64],
-        place: usize,
-    ) -> Written
-        ensures { result_of result buf.new ≡ written (signed_array_call self (length buf.old) id items.now) self buf.old place }
-    {
-        let size = buf.len();
-        let places = self.pending;
-        let outcome = signed_array(
-            buf,
-            self.offset,
-            self.depth,
-            self.npending,
-            places,
-            id,
-            items,
-            place,
-        );
-        self.settle(size, outcome, self.depth)
+        self.write_integers(buf, id, items, place)
     }
 
     // An array of floats of 32 bits, by their bits. The word stands even where the array is empty.
     pub fn write_array_fp32_bits(
-        mut self,
+        self,
         buf: &mut [u8],
         id: u32,
         items: &[u32],
@@ -149,49 +44,19 @@ impl OStream {
     ) -> Written
         ensures { result_of result buf.new ≡ written (float_array_call self (length buf.old) id fp32 items.now) self buf.old place }
     {
-        let size = buf.len();
-        let places = self.pending;
-        let outcome = fp32_bits_array(
-            buf,
-            self.offset,
-            self.depth,
-            self.npending,
-            places,
-            id,
-            items,
-            place,
-        );
-        self.settle(size, outcome, self.depth)
+        self.write_floats(buf, id, items, place)
     }
 
     // An array of floats of 32 bits. A NaN's bits are the one pattern that the logic knows.
-    pub fn write_array_fp32(
-        mut self,
-        buf: &mut [u8],
-        id: u32,
-        items: &[f32],
-        place: usize,
-    ) -> Written
+    pub fn write_array_fp32(self, buf: &mut [u8], id: u32, items: &[f32], place: usize) -> Written
         ensures { result_of result buf.new ≡ written (float_array_call self (length buf.old) id fp32 (map (to_bits binary32) items.now)) self buf.old place }
     {
-        let size = buf.len();
-        let places = self.pending;
-        let outcome = fp32_array(
-            buf,
-            self.offset,
-            self.depth,
-            self.npending,
-            places,
-            id,
-            items,
-            place,
-        );
-        self.settle(size, outcome, self.depth)
+        self.write_floats(buf, id, items, place)
     }
 
     // An array of floats of 64 bits, by their bits.
     pub fn write_array_fp64_bits(
-        mut self,
+        self,
         buf: &mut [u8],
         id: u32,
         items: &[u64],
@@ -199,9 +64,67 @@ impl OStream {
     ) -> Written
         ensures { result_of result buf.new ≡ written (float_array_call self (length buf.old) id fp64 items.now) self buf.old place }
     {
+        self.write_floats(buf, id, items, place)
+    }
+
+    // An array of floats of 64 bits. A NaN's bits are the one pattern that the logic knows.
+    pub fn write_array_fp64(self, buf: &mut [u8], id: u32, items: &[f64], place: usize) -> Written
+        ensures { result_of result buf.new ≡ written (float_array_call self (length buf.old) id fp64 (map (to_bits binary64) items.now)) self buf.old place }
+    {
+        self.write_floats(buf, id, items, place)
+    }
+
+    // An array of integers.
+    fn write_integers<T: Integer>(
+        mut self,
+        buf: &mut [u8],
+        id: u32,
+        items: &[T],
+        place: usize,
+    ) -> Written
+        ensures { result_of result buf.new ≡ written (array_call self (length buf.old) id (length items.now) (field_bytes (T.array id items.now))) self buf.old place }
+    {
+        if 0 < place {
+            return self
+                .rebuilt()
+                .write_integers_slowly(buf, id, items, place)
+                .rebuilt();
+        }
+        let places = self.pending;
+        let end = integers_at_once(
+            buf,
+            self.offset,
+            self.depth,
+            self.npending,
+            places,
+            id,
+            items,
+        );
+        if self.offset < end {
+            self.offset = end;
+            return Written {
+                answer: Ok(Answer::Done),
+                stream: self,
+            };
+        }
+        self.rebuilt()
+            .write_integers_slowly(buf, id, items, place)
+            .rebuilt()
+    }
+
+    // The slow form of `write_integers`, from any state and place.
+    fn write_integers_slowly<T: Integer>(
+        self,
+        buf: &mut [u8],
+        id: u32,
+        items: &[T],
+        place: usize,
+    ) -> Written
+        ensures { result_of result buf.new ≡ written (array_call self (length buf.old) id (length items.now) (field_bytes (T.array id items.now))) self buf.old place }
+    {
         let size = buf.len();
         let places = self.pending;
-        let outcome = fp64_bits_array(
+        let outcome = integer_array(
             buf,
             self.offset,
             self.depth,
@@ -214,19 +137,13 @@ impl OStream {
         self.settle(size, outcome, self.depth)
     }
 
-    // An array of floats of 64 bits. A NaN's bits are the one pattern that the logic knows.
-    pub fn write_array_fp64(
-        mut self,
-        buf: &mut [u8],
-        id: u32,
-        items: &[f64],
-        place: usize,
-    ) -> Written
-        ensures { result_of result buf.new ≡ written (float_array_call self (length buf.old) id fp64 (map (to_bits binary64) items.now)) self buf.old place }
+    // An array of floats.
+    fn write_floats<T: Float>(self, buf: &mut [u8], id: u32, items: &[T], place: usize) -> Written
+        ensures { result_of result buf.new ≡ written (float_array_call self (length buf.old) id T.width (map T.bits items.now)) self buf.old place }
     {
         let size = buf.len();
         let places = self.pending;
-        let outcome = fp64_array(
+        let outcome = float_array(
             buf,
             self.offset,
             self.depth,

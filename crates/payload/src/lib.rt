@@ -36,11 +36,7 @@ fn copy_in(buf: &mut [u8], pos: usize, src: &[u8], n: usize)
     requires { (pos + n ≤ length buf.old) × (n ≤ length src.now) }
     ensures { buf.new ≡ paste buf.old pos src.now n }
 {
-    let mut k: usize = 0;
-    while k < n {
-        buf[pos + k] = src[k];
-        k += 1;
-    }
+    buf[pos..pos + n].copy_from_slice(&src[..n]);
 }
 
 // How many bytes of a chunk the payload still owes.

@@ -3,9 +3,7 @@
 
 ghost use Rattle.std.specs.Prelude.{[], ◌∷◌, ◌++◌, ◌+◌, ◌*◌, ◌≤◌, ◌&&◌, ltb, length};
 ghost use Rattle.layout.specs.Varint.{shortest};
-ghost use Rattle.layout.specs.Zigzag.{zigzag};
 ghost use Rattle.layout.specs.Limits.{base};
-ghost use Rattle.layout.specs.Field.{unsigned_array, signed_array};
 ghost use Rattle.layout.specs.Copy.{field_bytes, fixlen_bytes};
 ghost use Rattle.types.specs.Types.{subtype};
 ghost use Rattle.elements.specs.OutAfter.{elements_most, row_of};
@@ -13,14 +11,11 @@ ghost use Rattle.places.specs.Places.{clean};
 ghost use Rattle.at_ease.specs.AtOnce.{roomy_at, easy_at, easy_with, closes_at, PutsIf, PutsWhole, PutsEasily};
 
 use at_ease::{at_ease, at_ease_with, closes_at_ease, has_room, put_end};
-use elements::{put_fitting_zigzags, put_fittings};
+use elements::{Integer, put_fittings};
 use emit::{put_fitting, put_rest};
 use held::tagged;
 use places::unused_zero;
-use types::{
-    ARRAY_MAX, FIXLEN_MAX, FixlenType, LAZY_SEQ_DEPTH, T_FIXLEN, T_VARINTARRAY_SIGNED,
-    T_VARINTARRAY_UNSIGNED,
-};
+use types::{ARRAY_MAX, FIXLEN_MAX, FixlenType, LAZY_SEQ_DEPTH, T_FIXLEN};
 use varint::VARINT_MAX;
 
 // Two varints at once, where no place is in use and there is room for the longest; where they end. Else nothing, and pos. (Out of line, as
@@ -66,16 +61,16 @@ pub fn put_field(
     put_rest(buf, end, bytes, 0)
 }
 
-// An array of unsigned integers, likewise: header, count, elements.
-pub fn put_unsigneds(
+// An array of integers, likewise: header, count, elements.
+pub fn put_integers<T: Integer>(
     buf: &mut [u8],
     pos: usize,
     places: [u32; LAZY_SEQ_DEPTH],
     header: u64,
-    items: &[u64],
+    items: &[T],
 ) -> usize
     requires { length items.now ≤ base.count }
-    ensures { PutsWhole (roomy_at (length buf.old) pos places (elements_most (length items.now))) buf.old pos (row_of header shortest items.now) buf.new result }
+    ensures { PutsWhole (roomy_at (length buf.old) pos places (elements_most (length items.now))) buf.old pos (row_of header (λ x. shortest (T.number x)) items.now) buf.new result }
 {
     if !has_room(buf.len(), pos, VARINT_MAX * items.len()) {
         return pos;
@@ -86,28 +81,6 @@ pub fn put_unsigneds(
     let mid = put_fitting(buf, pos, header);
     let at = put_fitting(buf, mid, items.len() as u64);
     put_fittings(buf, at, items)
-}
-
-// An array of signed integers, likewise.
-pub fn put_signeds(
-    buf: &mut [u8],
-    pos: usize,
-    places: [u32; LAZY_SEQ_DEPTH],
-    header: u64,
-    items: &[i64],
-) -> usize
-    requires { length items.now ≤ base.count }
-    ensures { PutsWhole (roomy_at (length buf.old) pos places (elements_most (length items.now))) buf.old pos (row_of header (λ z. shortest (zigzag z)) items.now) buf.new result }
-{
-    if !has_room(buf.len(), pos, VARINT_MAX * items.len()) {
-        return pos;
-    }
-    if !unused_zero(places, 0) {
-        return pos;
-    }
-    let mid = put_fitting(buf, pos, header);
-    let at = put_fitting(buf, mid, items.len() as u64);
-    put_fitting_zigzags(buf, at, items)
 }
 
 // ---- the same behind the tests that come before them, as a call of the writer makes them first
@@ -151,40 +124,22 @@ pub fn field_at_once(
     put_field(buf, pos, places, tagged(id, T_FIXLEN), word, bytes)
 }
 
-// An array of unsigned integers.
-pub fn unsigneds_at_once(
+// An array of integers.
+pub fn integers_at_once<T: Integer>(
     buf: &mut [u8],
     pos: usize,
     depth: u16,
     held: u16,
     places: [u32; LAZY_SEQ_DEPTH],
     id: u32,
-    items: &[u64],
+    items: &[T],
 ) -> usize
-    ensures { PutsEasily (easy_with depth held id (length items.now) base.count) buf.old pos places (elements_most (length items.now)) (field_bytes (unsigned_array id items.now)) buf.new result }
+    ensures { PutsEasily (easy_with depth held id (length items.now) base.count) buf.old pos places (elements_most (length items.now)) (field_bytes (T.array id items.now)) buf.new result }
 {
     if !at_ease_with(depth, held, id, items.len(), ARRAY_MAX) {
         return pos;
     }
-    put_unsigneds(buf, pos, places, tagged(id, T_VARINTARRAY_UNSIGNED), items)
-}
-
-// An array of signed integers.
-pub fn signeds_at_once(
-    buf: &mut [u8],
-    pos: usize,
-    depth: u16,
-    held: u16,
-    places: [u32; LAZY_SEQ_DEPTH],
-    id: u32,
-    items: &[i64],
-) -> usize
-    ensures { PutsEasily (easy_with depth held id (length items.now) base.count) buf.old pos places (elements_most (length items.now)) (field_bytes (signed_array id items.now)) buf.new result }
-{
-    if !at_ease_with(depth, held, id, items.len(), ARRAY_MAX) {
-        return pos;
-    }
-    put_signeds(buf, pos, places, tagged(id, T_VARINTARRAY_SIGNED), items)
+    put_integers(buf, pos, places, tagged(id, T::WIRE), items)
 }
 
 // A close.

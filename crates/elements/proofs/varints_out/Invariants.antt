@@ -1,12 +1,7 @@
--- `elements::varints_out`: at each turn, i elements are out, and what is left of the bytes belongs to those after them.
-use Prim.Native.Nat.{◌-◌}
-use lib.ListN.{length}
+-- `elements::varints_out`: at each turn, as many elements as the index are out, and what is left of the bytes belongs to those after them.
 use Rattle.layout.specs.Varint.{shortest}
 use Rattle.elements.proofs.Resumed.{Counting}
 use Rattle.elements.proofs.varints_out.Given as goal
 
 abbrev pub invariant-loop-i : goal.invariant-loop-i
-invariant-loop-i l = Counting shortest l.items l.skip l.left l.i
-
-abbrev pub decreases-loop-i : goal.decreases-loop-i
-decreases-loop-i l = length l.items - l.i
+invariant-loop-i g l = Counting (λ x. shortest (g.T.Integer.number x)) l.items l.skip l.left l.i

@@ -1,8 +1,7 @@
--- `fields::le32`: each byte by a division more.
-use mathlib.Core.Path.{refl}
-use Rattle.layout.specs.Field.{low_bytes}
+-- `fields::le32`: the library's bytes of the number.
+use mathlib.Core.Path.{◌∙◌}
+use Rattle.low_bytes.proofs.Low.{le_four}
 use Rattle.fields.proofs.le32.Goals as goal
 
 pub returns : goal.returns
-unfolding low_bytes
-returns c = refl
+returns c = c.to_le_bytes.ensures ∙ le_four c.args.x

@@ -1,8 +1,7 @@
--- `fields::le64`: each byte by a division more.
-use mathlib.Core.Path.{refl}
-use Rattle.layout.specs.Field.{low_bytes}
+-- `fields::le64`: the library's bytes of the number.
+use mathlib.Core.Path.{◌∙◌}
+use Rattle.low_bytes.proofs.Low.{le_eight}
 use Rattle.fields.proofs.le64.Goals as goal
 
 pub returns : goal.returns
-unfolding low_bytes
-returns c = refl
+returns c = c.to_le_bytes.ensures ∙ le_eight c.args.x

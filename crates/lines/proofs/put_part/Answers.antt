@@ -18,8 +18,8 @@ returns-in-Minus c =
 
 pub returns-in-Bits32 : goal.returns-in-Bits32
 returns-in-Bits32 c =
-    says _ _ _ _ _ _ (sym (ap part_text c.in-Bits32.is)) (joined _ _ _ _ _ _ _ _ c.put_rest-next-in-Bits32.ensures c.put_bits32.ensures)
+    says _ _ _ _ _ _ (sym (ap part_text c.in-Bits32.is)) (joined _ _ _ _ _ _ _ _ c.put_rest-next-in-Bits32.ensures c.put_hexadecimal.ensures)
 
 pub returns-in-Bits64 : goal.returns-in-Bits64
 returns-in-Bits64 c =
-    says _ _ _ _ _ _ (sym (ap part_text c.in-Bits64.is)) (joined _ _ _ _ _ _ _ _ c.put_rest-next-in-Bits64.ensures c.put_bits64.ensures)
+    says _ _ _ _ _ _ (sym (ap part_text c.in-Bits64.is)) (joined _ _ _ _ _ _ _ _ c.put_rest-next-in-Bits64.ensures c.put_hexadecimal-in-Bits64.ensures)

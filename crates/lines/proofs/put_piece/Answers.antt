@@ -16,6 +16,6 @@ within f t from to l p q =
 
 pub returns : goal.returns
 returns c =
-    let f : (c.least-from.result) ≡ min c.args.b.from (c.least-to.result) = c.least-from.ensures in
-    let t : (c.least-to.result) ≡ min c.args.b.to (length (c.args.chunk.now)) = c.least-to.ensures in
-    says _ _ _ _ _ _ (ap (each byte_line) (part_is (c.least-from.result) (c.least-to.result) (c.args.chunk.now) ∙ within _ _ (c.least-from.result) (c.least-to.result) (c.args.chunk.now) f t)) c.put_bytes.ensures
+    let f : (c.min-from.result) ≡ min c.args.b.from (c.min-to.result) = c.min-from.ensures in
+    let t : (c.min-to.result) ≡ min c.args.b.to (length (c.args.chunk.now)) = c.min-to.ensures in
+    says _ _ _ _ _ _ (ap (each byte_line) (part_is (c.min-from.result) (c.min-to.result) (c.args.chunk.now) ∙ within _ _ (c.min-from.result) (c.min-to.result) (c.args.chunk.now) f t)) c.put_bytes.ensures

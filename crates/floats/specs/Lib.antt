@@ -1,0 +1,2 @@
+-- The word of an array of floats.
+pub mod Word

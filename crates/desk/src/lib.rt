@@ -3,46 +3,31 @@
 
 #![tactic(auto)]
 
-pub mod elements;
+pub mod calls;
+
+// A desk of the size that a script's calls have.
+pub type Desk = [u64; 32];
 
 pub fn word(desk: &[u64], i: usize) -> u64 {
-    if i < desk.len() { desk[i] } else { 0 }
-}
-
-fn put_word(desk: &mut [u64], at: usize, n: u64) -> usize {
-    if at < desk.len() {
-        desk[at] = n;
-        return at + 1;
-    }
-    at
+    desk.get(i).copied().unwrap_or(0)
 }
 
 // Words from a place on.
 pub fn lay(desk: &mut [u64], at: usize, words: &[u64]) {
-    let mut next = at;
-    let mut i: usize = 0;
-    while i < words.len() {
-        next = put_word(desk, next, words[i]);
-        i += 1;
+    for (place, n) in desk.iter_mut().skip(at).zip(words) {
+        *place = *n;
     }
 }
 
+// A word's low bits: three functions, for `as` that drops bits is none here, and a trait would hold the same three.
 pub fn narrow(n: u64) -> u32 {
-    (n % 4294967296) as u32
+    (n & 0xffff_ffff) as u32
 }
 
 pub fn short(n: u64) -> u16 {
-    (n % 65536) as u16
+    (n & 0xffff) as u16
 }
 
 pub fn byte(n: u64) -> u8 {
-    (n % 256) as u8
-}
-
-pub fn signed(n: u64) -> i64 {
-    if n < 9223372036854775808 {
-        n as i64
-    } else {
-        !((!n) as i64)
-    }
+    (n & 0xff) as u8
 }

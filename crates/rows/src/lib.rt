@@ -2,124 +2,138 @@
 // crate `vectors` says what a row has.
 #![tactic(auto)]
 
-use check::same;
-use script::{after, end_of, unhex, word};
-use std::num::wrapping_add_u64;
+ghost use Rattle.std.specs.Prelude.{◌<◌, ⊤, MatchOption};
 
-// No call.
-pub const UNKNOWN: u32 = 29;
+use desk::Desk;
+use desk::calls::{ArrayCall, CopierCall, WriterCall};
+use script::{after, unhex};
+use std::alloc::{AllocError, Global};
+
+// What a row does: it begins with a fresh desk, lends a buffer, takes a part, or makes a call.
+#[derive(Clone, Copy)]
+pub enum Row {
+    Fresh,
+    Buffer,
+    Part,
+    Call(Call),
+}
+
+#[derive(Clone, Copy)]
+pub enum Call {
+    Write(WriterCall),
+    Array(ArrayCall),
+    Read,
+    Gather,
+    Copy(CopierCall),
+}
+
+// What a call finds and leaves: the desk, and the buffer that is lent.
+#[derive(Clone, Drop)]
+pub struct State {
+    pub desk: Desk,
+    pub buf: Vec<u8>,
+}
 
 // ---- what a row says
 
-pub fn code(name: &[u8]) -> u32 {
-    for k in 0..UNKNOWN {
-        let known = word(
-            b"buffer unsigned signed boolean fixlen fp32 fp64 str blob unsigneds signeds fp32s fp64s begin end keep flush set fp32_bits fp64_bits open read gather part copier copy copied copy_set fresh",
-            k,
-        );
-        if same(known, name) {
-            return k;
+fn writer_call(name: &[u8]) -> Option<WriterCall> {
+    Some(match name {
+        b"unsigned" => WriterCall::Unsigned,
+        b"signed" => WriterCall::Signed,
+        b"boolean" => WriterCall::Boolean,
+        b"fixlen" => WriterCall::Fixlen,
+        b"fp32" => WriterCall::Fp32,
+        b"fp64" => WriterCall::Fp64,
+        b"str" => WriterCall::Str,
+        b"blob" => WriterCall::Blob,
+        b"begin" => WriterCall::Begin,
+        b"end" => WriterCall::End,
+        b"keep" => WriterCall::EndKeep,
+        b"flush" => WriterCall::Flush,
+        b"set" => WriterCall::BufferSet,
+        b"open" => WriterCall::Open,
+        _ => return None,
+    })
+}
+
+fn other_call(name: &[u8]) -> Option<Call> {
+    Some(match name {
+        b"unsigneds" => Call::Array(ArrayCall::Unsigneds),
+        b"signeds" => Call::Array(ArrayCall::Signeds),
+        b"fp32_bits" => Call::Array(ArrayCall::Fp32Bits),
+        b"fp64_bits" => Call::Array(ArrayCall::Fp64Bits),
+        b"read" => Call::Read,
+        b"gather" => Call::Gather,
+        b"copier" => Call::Copy(CopierCall::Open),
+        b"copy" => Call::Copy(CopierCall::Feed),
+        b"copied" => Call::Copy(CopierCall::Flush),
+        b"copy_set" => Call::Copy(CopierCall::BufferSet),
+        _ => return None,
+    })
+}
+
+// What the row of this name does, if it has one.
+pub fn row_named(name: &[u8]) -> Option<Row> {
+    match name {
+        b"fresh" => Some(Row::Fresh),
+        b"buffer" => Some(Row::Buffer),
+        b"part" => Some(Row::Part),
+        _ => writer_call(name)
+            .map(Call::Write)
+            .or_else(|| other_call(name))
+            .map(Row::Call),
+    }
+}
+
+// The letters of the desk's words, in the order of compare/PROTOCOL.md.
+const LETTERS: [u8; 32] = *b"QRKICTVPDHABEFGJLMONSUWanikvoftp";
+
+// A letter and a number: that letter's word, and what it is. Other words of a row set nothing.
+fn setting(word: &[u8]) -> Option<(usize, u64)>
+    ensures { MatchOption result ⊤ (λ p. p.0 < 32) }
+{
+    let (letter, digits) = word.split_first()?;
+    let i = LETTERS.iter().position(|l| l == letter)?;
+    let n = str::from_utf8(digits).ok()?.parse::<u64>().ok()?;
+    Some((i, n))
+}
+
+pub fn set(text: &[u8], mut desk: Desk) -> Desk {
+    for word in text.split(|b| *b == b' ') {
+        if let Some((i, n)) = setting(word) {
+            desk[i] = n;
         }
     }
-    UNKNOWN
-}
-
-fn digit(b: u8) -> u64 {
-    if b'0' <= b && b <= b'9' {
-        (b - b'0') as u64
-    } else {
-        0
-    }
-}
-
-fn number(text: &[u8]) -> u64 {
-    let mut n: u64 = 0;
-    for &b in text {
-        n = wrapping_add_u64(wrapping_add_u64(n << 3, n << 1), digit(b));
-    }
-    n
-}
-
-// A letter and a number: the desk's word of that letter, by the order of compare/PROTOCOL.md. Other words of a row set nothing.
-fn put(mut desk: [u64; 32], token: &[u8]) -> [u64; 32] {
-    if token.len() == 0 {
-        return desk;
-    }
-    let i = end_of(b"QRKICTVPDHABEFGJLMONSUWanikvoftp", 0, token[0]);
-    if i < 32 {
-        desk[i] = number(&token[1..]);
-    }
     desk
-}
-
-pub fn set(text: &[u8], start: [u64; 32]) -> [u64; 32] {
-    let mut desk = start;
-    let mut from: usize = 0;
-    while from < text.len() {
-        let end = end_of(text, from, b' ');
-        let next = put(desk, &text[from..end]);
-        desk = next;
-        from = end + 1;
-    }
-    desk
-}
-
-// The bytes of a word in hexadecimal, and how many.
-#[derive(Clone, Copy)]
-pub struct Bytes {
-    pub bytes: [u8; 256],
-    pub len: usize,
-}
-
-pub fn bytes_of(hex: &[u8]) -> Bytes {
-    let mut bytes = [0u8; 256];
-    let len = unhex(hex, &mut bytes);
-    Bytes { bytes, len }
 }
 
 // A row's numbers and its answer are its own: these words begin at zero.
-pub fn cleared(mut desk: [u64; 32]) -> [u64; 32] {
-    for i in 23..32 {
-        desk[i] = 0;
-    }
+pub fn cleared(mut desk: Desk) -> Desk {
+    desk[23..].fill(0);
     desk
 }
 
 // ---- what a call left
 
-fn same_words(a: [u64; 32], b: [u64; 32]) -> bool {
-    for i in 0..32 {
-        if a[i] != b[i] {
-            return false;
-        }
-    }
-    true
-}
-
 // Words that a row doesn't name are as they were at the call; with `~`, they are free.
-fn unnamed(told: &[u8], before: [u64; 32], after: [u64; 32]) -> [u64; 32] {
-    if end_of(told, 0, b'~') < told.len() {
-        return after;
-    }
-    before
+fn unnamed(told: &[u8], before: Desk, after: Desk) -> Desk {
+    if told.contains(&b'~') { after } else { before }
 }
 
 // The buffer begins with these bytes, and is behind them as it was.
-fn same_bytes(hex: &[u8], before: [u8; 256], after: [u8; 256]) -> bool {
-    let mut want = before;
-    unhex(hex, &mut want);
-    same(&want, &after)
+fn same_bytes(start: &[u8], before: &[u8], after: &[u8]) -> bool {
+    after.starts_with(start) && after.get(start.len()..) == before.get(start.len()..)
 }
 
 // Whether desk and buffer are what the row tells.
-pub fn right(told: &[u8], was: [u64; 32], is: [u64; 32], old: [u8; 256], new: [u8; 256]) -> bool {
-    same_words(is, set(told, unnamed(told, was, is))) && same_bytes(after(told, b'>'), old, new)
+pub fn right(alloc: Global, told: &[u8], was: &State, is: &State) -> Result<bool, AllocError> {
+    let start = unhex(alloc, after(told, b'>'))?;
+    let want = set(told, unnamed(told, was.desk, is.desk));
+    Ok(is.desk == want && same_bytes(&start, &was.buf, &is.buf))
 }
 
 // Whether a part is the one that the row tells.
-pub fn same_part(told: &[u8], part: Bytes) -> bool {
-    let want = bytes_of(after(told, b'>'));
-    let told = want.bytes;
-    let got = part.bytes;
-    want.len == part.len && same(&told, &got)
+pub fn same_part(alloc: Global, told: &[u8], part: &[u8]) -> Result<bool, AllocError> {
+    let want = unhex(alloc, after(told, b'>'))?;
+    Ok(want.as_slice() == part)
 }

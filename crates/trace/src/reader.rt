@@ -7,11 +7,6 @@ use phase::{Carried, Phase};
 use types::{FloatType, RawType};
 use varint::Acc;
 
-// The 64 bits of a signed number.
-pub fn bits(v: i64) -> u64 {
-    if v < 0 { !((!v) as u64) } else { v as u64 }
-}
-
 pub fn float_type(n: u64) -> FloatType {
     if n == 0 {
         FloatType::Fp32
@@ -61,17 +56,6 @@ fn within(phase: u64, id: u32, count: u32, a: Acc) -> [u64; 6] {
     [phase, 0, id as u64, count as u64, a.taken as u64, a.value]
 }
 
-fn other(phase: u64, kind: u8, id: u32, count: u32, taken: u8, value: u64) -> [u64; 6] {
-    [
-        phase,
-        kind as u64,
-        id as u64,
-        count as u64,
-        taken as u64,
-        value,
-    ]
-}
-
 fn numbers(p: Phase) -> [u64; 6] {
     match p {
         Phase::Header(a) => within(0, 0, 0, a),
@@ -82,29 +66,21 @@ fn numbers(p: Phase) -> [u64; 6] {
         Phase::SignedCount(id, a) => within(5, id, 0, a),
         Phase::FloatCount(id, a) => within(6, id, 0, a),
         Phase::ArrayWord(id, n, a) => within(7, id, n, a),
-        Phase::Float(id, t, left, k, v) => other(8, t.fixlen().raw(), id, left, k, v),
-        Phase::Payload(id, r, n, o) => other(9, r.fixlen().raw(), id, n, 0, o as u64),
-        Phase::Empty(id, r) => other(10, r.fixlen().raw(), id, 0, 0, 0),
-        Phase::Broken => other(11, 0, 0, 0, 0, 0),
+        Phase::Float(id, t, left, k, v) => {
+            [8, t.fixlen().raw() as u64, id as u64, left as u64, k as u64, v]
+        }
+        Phase::Payload(id, r, n, o) => {
+            [9, r.fixlen().raw() as u64, id as u64, n as u64, 0, o as u64]
+        }
+        Phase::Empty(id, r) => [10, r.fixlen().raw() as u64, id as u64, 0, 0, 0],
+        Phase::Broken => [11, 0, 0, 0, 0, 0],
     }
 }
 
 pub fn store(stream: IStream, desk: &mut [u64]) {
-    let p = stream.phase;
-    let w = numbers(p);
-    lay(
-        desk,
-        0,
-        &[
-            w[0],
-            stream.carried.depth as u64,
-            w[1],
-            w[2],
-            w[3],
-            w[4],
-            w[5],
-        ],
-    );
+    let [phase, kind, id, count, taken, value] = numbers(stream.phase);
+    let depth = stream.carried.depth as u64;
+    lay(desk, 0, &[phase, depth, kind, id, count, taken, value]);
 }
 
 // What a call tells, the desk's words 23 to 30 with the bytes read at 24.
@@ -117,39 +93,33 @@ struct Tale {
     piece: Bounds,
 }
 
-fn no_piece() -> Bounds {
-    Bounds {
+fn told(tag: u64, id: u32, kind: u8, value: u64) -> Tale {
+    let piece = Bounds {
         total: 0,
         offset: 0,
         from: 0,
         to: 0,
-    }
-}
-
-fn told(tag: u64, id: u32, kind: u8, value: u64) -> Tale {
+    };
     Tale {
         tag,
         id,
         kind,
         value,
-        piece: no_piece(),
+        piece,
     }
 }
 
-fn piece(id: u32, kind: u8, b: Bounds) -> Tale {
+fn piece(id: u32, kind: u8, piece: Bounds) -> Tale {
     Tale {
-        tag: 7,
-        id,
-        kind,
-        value: b.total as u64,
-        piece: b,
+        piece,
+        ..told(7, id, kind, piece.total as u64)
     }
 }
 
 fn event(e: Event) -> Tale {
     match e {
         Event::Unsigned(id, v) => told(1, id, 0, v),
-        Event::Signed(id, v) => told(2, id, 0, bits(v)),
+        Event::Signed(id, v) => told(2, id, 0, v.cast_unsigned()),
         Event::Fp32(id, x) => told(3, id, 0, fp32_bits(x) as u64),
         Event::Fp32Nan(id, n) => told(3, id, 0, n as u64),
         Event::Fp64(id, x) => told(4, id, 0, fp64_bits(x)),
@@ -179,20 +149,12 @@ fn answer(a: Answer) -> Tale {
 }
 
 fn tell(t: Tale, read: usize, desk: &mut [u64]) {
+    lay(desk, 23, &[t.tag, read as u64, t.id as u64, t.kind as u64]);
     let b = t.piece;
     lay(
         desk,
-        23,
-        &[
-            t.tag,
-            read as u64,
-            t.id as u64,
-            t.kind as u64,
-            t.value,
-            b.offset as u64,
-            b.from as u64,
-            b.to as u64,
-        ],
+        27,
+        &[t.value, b.offset as u64, b.from as u64, b.to as u64],
     );
 }
 
@@ -201,22 +163,16 @@ fn fed(stream: IStream, how: u64, chunk: &[u8]) -> Fed {
     if how == 0 {
         return stream.feed(chunk);
     }
-    let k = istream::lent(stream, chunk);
-    let h = k.heard;
-    let answer = h.answer;
-    let left = k.stream;
+    let taken = istream::lent(stream, chunk);
     Fed {
-        read: h.read,
-        answer,
-        stream: left,
+        read: taken.heard.read,
+        answer: taken.heard.answer,
+        stream: taken.stream,
     }
 }
 
-pub fn trace_read(desk: &mut [u64], chunk: &[u8]) -> i64 {
+pub fn trace_read(desk: &mut [u64], chunk: &[u8]) {
     let f = fed(reader(desk), word(desk, 31), chunk);
-    let a = f.answer;
-    let left = f.stream;
-    store(left, desk);
-    tell(answer(a), f.read, desk);
-    0
+    store(f.stream, desk);
+    tell(answer(f.answer), f.read, desk);
 }

@@ -1,43 +1,30 @@
-// The calls of a script that write an array, its elements given by their bytes.
+// The calls of a script that write an array, its elements given by their bytes: what is left over at the end is none.
 #![tactic(auto)]
 
-ghost use Rattle.std.specs.Prelude.{◌≤◌};
-
-use desk::elements::{shorts, signeds, unsigneds};
+use desk::calls::ArrayCall;
+use std::alloc::{AllocError, Global};
 use trace_writer::{trace_fp32_bits, trace_fp64_bits, trace_signeds, trace_unsigneds};
 
-fn at_most(n: usize, most: usize) -> usize
-    ensures { result ≤ most }
-{
-    if n < most { n } else { most }
-}
-
-fn put_unsigneds(code: u32, desk: &mut [u64], data: &[u8], buf: &mut [u8]) -> i64 {
-    let elements = unsigneds(data);
-    let n = at_most(data.len() / 8, 32);
-    if code == 9 {
-        trace_unsigneds(desk, &elements[0..n], buf)
-    } else {
-        trace_fp64_bits(desk, &elements[0..n], buf)
+pub fn array(
+    alloc: Global,
+    call: ArrayCall,
+    desk: &mut [u64],
+    data: &[u8],
+    buf: &mut [u8],
+) -> Result<(), AllocError> {
+    let (fours, _) = data.as_chunks::<4>();
+    let (eights, _) = data.as_chunks::<8>();
+    let shorts: Vec<u32> = fours.iter().map(|b| u32::from_le_bytes(*b)).collect(alloc)?;
+    let longs: Vec<u64> = eights
+        .iter()
+        .map(|b| u64::from_le_bytes(*b))
+        .collect(alloc)?;
+    let signeds: Vec<i64> = longs.iter().map(|n| n.cast_signed()).collect(alloc)?;
+    match call {
+        ArrayCall::Unsigneds => trace_unsigneds(desk, &longs, buf),
+        ArrayCall::Signeds => trace_signeds(desk, &signeds, buf),
+        ArrayCall::Fp32Bits => trace_fp32_bits(desk, &shorts, buf),
+        ArrayCall::Fp64Bits => trace_fp64_bits(desk, &longs, buf),
     }
-}
-
-fn put_signeds(desk: &mut [u64], data: &[u8], buf: &mut [u8]) -> i64 {
-    let elements = signeds(data);
-    let n = at_most(data.len() / 8, 32);
-    trace_signeds(desk, &elements[0..n], buf)
-}
-
-fn put_fp32s(desk: &mut [u64], data: &[u8], buf: &mut [u8]) -> i64 {
-    let elements = shorts(data);
-    let n = at_most(data.len() / 4, 64);
-    trace_fp32_bits(desk, &elements[0..n], buf)
-}
-
-pub fn array(code: u32, desk: &mut [u64], data: &[u8], buf: &mut [u8]) -> i64 {
-    match code {
-        10 => put_signeds(desk, data, buf),
-        18 => put_fp32s(desk, data, buf),
-        _ => put_unsigneds(code, desk, data, buf),
-    }
+    Ok(())
 }

@@ -3,20 +3,17 @@
 
 #[unsafe(no_mangle)]
 pub extern "C" fn trace_read(desk: &mut [u64], chunk: &[u8]) -> i64 {
-    trace::reader::trace_read(desk, chunk)
+    trace::reader::trace_read(desk, chunk);
+    0
 }
 
 #[unsafe(no_mangle)]
 pub extern "C" fn trace_gather(desk: &mut [u64], buf: &mut [u8], chunk: &[u8]) -> i64 {
-    trace::gatherer::trace_gather(desk, buf, chunk)
+    trace::gatherer::trace_gather(desk, buf, chunk);
+    0
 }
 
 #[unsafe(no_mangle)]
-pub extern "C" fn trace_part<'a>(
-    desk: &[u64],
-    buf: &'a [u8],
-    chunk: &'a [u8],
-    out: &mut [u8],
-) -> u64 {
-    trace::gatherer::trace_part(desk, buf, chunk, out)
+pub extern "C" fn trace_part(desk: &[u64], buf: &[u8], chunk: &[u8], out: &mut [u8]) -> u64 {
+    trace::gatherer::trace_part(desk, buf, chunk, out) as u64
 }

@@ -2,9 +2,10 @@
 // value, and the place reached in it. A call finds its number at 24 and an offset at 28, tells its answer at 23, the bytes used or to be
 // sent at 24, and a refusal's number at 27 (of drain and change at 24).
 use copier::{Answer, Copied, Copier, Drained, Opened, Opening};
-use desk::{byte, lay, narrow, signed, word};
+use desk::calls::CopierCall;
+use desk::{byte, lay, narrow, word};
 use owed::Owed;
-use trace::reader::{bits, float_type, raw_type, reader, verdict};
+use trace::reader::{float_type, raw_type, reader, verdict};
 use trace_writer::writer::{counted, writer};
 use types::ArrayKind;
 
@@ -24,9 +25,9 @@ fn owed(desk: &[u64]) -> Owed {
     match word(desk, 18) {
         0 => Owed::Nothing,
         1 => Owed::Unsigned(id, value),
-        2 => Owed::Signed(id, signed(value)),
+        2 => Owed::Signed(id, value.cast_signed()),
         3 => Owed::Element(value),
-        4 => Owed::SignedElement(signed(value)),
+        4 => Owed::SignedElement(value.cast_signed()),
         5 => Owed::Fp32(narrow(value)),
         6 => Owed::Fp64(value),
         7 => Owed::Float(id, float_type(kind)),
@@ -55,9 +56,9 @@ fn numbers(o: Owed, place: u8) -> [u64; 5] {
     match o {
         Owed::Nothing => of(0, 0, 0, 0, place),
         Owed::Unsigned(id, v) => of(1, id, 0, v, place),
-        Owed::Signed(id, v) => of(2, id, 0, bits(v), place),
+        Owed::Signed(id, v) => of(2, id, 0, v.cast_unsigned(), place),
         Owed::Element(v) => of(3, 0, 0, v, place),
-        Owed::SignedElement(v) => of(4, 0, 0, bits(v), place),
+        Owed::SignedElement(v) => of(4, 0, 0, v.cast_unsigned(), place),
         Owed::Fp32(n) => of(5, 0, 0, n as u64, place),
         Owed::Fp64(n) => of(6, 0, 0, n, place),
         Owed::Float(id, t) => of(7, id, t.fixlen().raw(), 0, place),
@@ -69,75 +70,50 @@ fn numbers(o: Owed, place: u8) -> [u64; 5] {
 }
 
 fn store(k: Copier, desk: &mut [u64]) {
-    let o = k.owed;
     trace::reader::store(k.reader, desk);
     trace_writer::writer::store(k.writer, desk);
-    lay(desk, 18, &numbers(o, k.place));
+    lay(desk, 18, &numbers(k.owed, k.place));
 }
 
-// What a call leaves: the copier, and the words 23 to 27.
-#[derive(Clone, Copy)]
-struct Left {
-    copier: Copier,
-    told: [u64; 5],
-}
+// ---- what a call leaves: the copier, and the words 23 to 27
 
-fn opened(o: Opened) -> Left {
-    let a = o.answer;
-    let copier = o.copier;
-    let told = match a {
+fn opened(o: Opened, desk: &mut [u64]) {
+    let told = match o.answer {
         Opening::Open => [0u64; 5],
         Opening::Refused(e) => [3, 0, 0, 0, e.number() as u64],
     };
-    Left { copier, told }
+    store(o.copier, desk);
+    lay(desk, 23, &told);
 }
 
-fn copied(f: Copied) -> Left {
-    let a = f.answer;
-    let copier = f.copier;
+fn copied(f: Copied, desk: &mut [u64]) {
     let used = f.used as u64;
-    let told = match a {
+    let told = match f.answer {
         Answer::Full => [1, used, 0, 0, 0],
         Answer::Status(s) => [verdict(s), used, 0, 0, 0],
         Answer::Refused(e) => [18, used, 0, 0, e.number() as u64],
     };
-    Left { copier, told }
+    store(f.copier, desk);
+    lay(desk, 23, &told);
 }
 
 // The words 25 to 27 stay as they are.
-fn sent(d: Drained, desk: &[u64]) -> Left {
-    let a = d.answer;
-    let copier = d.copier;
-    let n = counted(a);
-    Left {
-        copier,
-        told: [n[0], n[1], word(desk, 25), word(desk, 26), word(desk, 27)],
-    }
+fn sent(d: Drained, desk: &mut [u64]) {
+    store(d.copier, desk);
+    lay(desk, 23, &counted(d.answer));
 }
 
-// The calls that write nothing. Of a buffer change `data` is the new buffer.
-fn idle(k: Copier, desk: &[u64], data: &[u8], buf: &[u8]) -> Left {
-    let offset = word(desk, 28) as usize;
-    match word(desk, 24) {
-        24 => opened(Copier::new(buf, offset)),
-        26 => sent(k.flush(buf), desk),
-        _ => sent(k.buffer_set(buf, data, offset), desk),
-    }
-}
-
-fn called(desk: &[u64], data: &[u8], buf: &mut [u8]) -> Left {
+// Of a buffer change `data` is the new buffer. A number of no call leaves all as it is.
+pub fn trace_copy(desk: &mut [u64], data: &[u8], buf: &mut [u8]) {
+    let Ok(call) = CopierCall::try_from(word(desk, 24)) else {
+        return;
+    };
     let k = copier(desk);
-    if word(desk, 24) == 25 {
-        copied(k.feed(data, buf))
-    } else {
-        idle(k, desk, data, buf)
+    let offset = word(desk, 28) as usize;
+    match call {
+        CopierCall::Open => opened(Copier::new(buf, offset), desk),
+        CopierCall::Feed => copied(k.feed(data, buf), desk),
+        CopierCall::Flush => sent(k.flush(buf), desk),
+        CopierCall::BufferSet => sent(k.buffer_set(buf, data, offset), desk),
     }
-}
-
-pub fn trace_copy(desk: &mut [u64], data: &[u8], buf: &mut [u8]) -> i64 {
-    let left = called(desk, data, buf);
-    let told = left.told;
-    store(left.copier, desk);
-    lay(desk, 23, &told);
-    0
 }

@@ -3,10 +3,11 @@
 
 #[unsafe(no_mangle)]
 pub extern "C" fn trace_copy(desk: &mut [u64], data: &[u8], buf: &mut [u8]) -> i64 {
-    trace_copier::copies::trace_copy(desk, data, buf)
+    trace_copier::copies::trace_copy(desk, data, buf);
+    0
 }
 
 #[unsafe(no_mangle)]
 pub extern "C" fn bench_copy(ticket: &[u8], size: usize, buf: &mut [u8], out: &mut [u8]) -> u64 {
-    trace_copier::bench::bench_copy(ticket, size, buf, out)
+    trace_copier::bench::bench_copy(ticket, size, buf, out) as u64
 }

@@ -1,20 +1,19 @@
 // One call of the writer. Its state are the desk's words 7 to 17: position, depth, how many ids are held, and their eight places. A call
 // finds its number at 24, its id at 25, a kind at 26, a value at 27, an offset at 28 and the place to go on from at 31, and tells its
 // answer at 23 and 24.
-use desk::{lay, narrow, short, signed, word};
+use desk::calls::WriterCall;
+use desk::{lay, narrow, short, word};
 use event::Event;
 use ostream::{Answer, Count, Counted, OStream, Written};
-use types::FixlenType;
+use types::{Error, FixlenType};
 
 // The eight places.
 fn places(desk: &[u64]) -> [u32; 8] {
-    let mut p = [0u32; 8];
-    let mut i: usize = 0;
-    while i < 8 {
-        p[i] = narrow(word(desk, 10 + i));
-        i += 1;
+    let mut places = [0u32; 8];
+    for (place, n) in places.iter_mut().zip(desk.iter().skip(10)) {
+        *place = narrow(*n);
     }
-    p
+    places
 }
 
 pub fn writer(desk: &[u64]) -> OStream {
@@ -26,39 +25,19 @@ pub fn writer(desk: &[u64]) -> OStream {
     }
 }
 
-// The words of a writer, from 7 on.
-fn words(s: OStream) -> [u64; 11] {
-    let held = s.pending;
-    let mut w = [
-        s.offset as u64,
-        s.depth as u64,
-        s.npending as u64,
-        0,
-        0,
-        0,
-        0,
-        0,
-        0,
-        0,
-        0,
-    ];
-    let mut i: usize = 0;
-    while i < 8 {
-        w[3 + i] = held[i] as u64;
-        i += 1;
-    }
-    w
-}
-
 pub fn store(s: OStream, desk: &mut [u64]) {
-    lay(desk, 7, &words(s));
+    lay(
+        desk,
+        7,
+        &[s.offset as u64, s.depth as u64, s.npending as u64],
+    );
+    lay(desk, 10, &s.pending.map(u64::from));
 }
 
 // A call's numbers.
 #[derive(Clone, Copy)]
 pub struct Call {
     pub writer: OStream,
-    pub code: u64,
     pub id: u32,
     pub kind: u64,
     pub value: u64,
@@ -69,7 +48,6 @@ pub struct Call {
 pub fn asked(desk: &[u64]) -> Call {
     Call {
         writer: writer(desk),
-        code: word(desk, 24),
         id: narrow(word(desk, 25)),
         kind: word(desk, 26),
         value: word(desk, 27),
@@ -80,45 +58,31 @@ pub fn asked(desk: &[u64]) -> Call {
 
 // ---- what a call tells
 
+fn refused(e: Error) -> [u64; 2] {
+    [3, e.number() as u64]
+}
+
 pub fn counted(c: Count) -> [u64; 2] {
     match c {
         Count::Bytes(n) => [4, n as u64],
-        Count::Refused(e) => [3, e.number() as u64],
+        Count::Refused(e) => refused(e),
     }
 }
 
 // What a call leaves on the desk: the writer, and the answer.
-#[derive(Clone, Copy)]
-pub struct Left {
-    pub writer: OStream,
-    pub answer: [u64; 2],
-}
-
-pub fn told(w: Written) -> Left {
-    let a = w.answer;
-    let writer = w.stream;
-    let answer = match a {
+pub fn told(w: Written, desk: &mut [u64]) {
+    let answer = match w.answer {
         Answer::Done => [0, 0],
         Answer::Full(n) => [1, n as u64],
-        Answer::Refused(e) => [3, e.number() as u64],
+        Answer::Refused(e) => refused(e),
     };
-    Left { writer, answer }
+    store(w.stream, desk);
+    lay(desk, 23, &answer);
 }
 
-fn sent(c: Counted) -> Left {
-    let a = c.answer;
-    let writer = c.stream;
-    Left {
-        writer,
-        answer: counted(a),
-    }
-}
-
-pub fn leave(t: Left, desk: &mut [u64]) -> i64 {
-    let a = t.answer;
-    store(t.writer, desk);
-    lay(desk, 23, &a);
-    0
+fn sent(c: Counted, desk: &mut [u64]) {
+    store(c.stream, desk);
+    lay(desk, 23, &counted(c.answer));
 }
 
 // ---- the calls by number
@@ -133,42 +97,18 @@ fn subtype(n: u64) -> FixlenType {
 }
 
 // Floats go by the calls for floats, and where one is a NaN, whose bits no float carries, by those for bits.
-fn float(c: Call, buf: &mut [u8]) -> Written {
-    let e = if c.code == 5 {
-        event::fp32(c.id, narrow(c.value))
-    } else {
-        event::fp64(c.id, c.value)
-    };
-    match e {
+fn fp32(c: Call, buf: &mut [u8]) -> Written {
+    let bits = narrow(c.value);
+    match event::fp32(c.id, bits) {
         Event::Fp32(_, x) => c.writer.write_fp32(buf, c.id, x, c.place),
-        Event::Fp32Nan(_, bits) => c.writer.write_fp32_bits(buf, c.id, bits, c.place),
+        _ => c.writer.write_fp32_bits(buf, c.id, bits, c.place),
+    }
+}
+
+fn fp64(c: Call, buf: &mut [u8]) -> Written {
+    match event::fp64(c.id, c.value) {
         Event::Fp64(_, x) => c.writer.write_fp64(buf, c.id, x, c.place),
         _ => c.writer.write_fp64_bits(buf, c.id, c.value, c.place),
-    }
-}
-
-fn number(c: Call, buf: &mut [u8]) -> Written {
-    let code = c.code;
-    match code {
-        1 => c.writer.write_unsigned(buf, c.id, c.value, c.place),
-        2 => c.writer.write_signed(buf, c.id, signed(c.value), c.place),
-        3 => c.writer.write_boolean(buf, c.id, c.value != 0, c.place),
-        13 => c.writer.write_sequence_begin_lazy(buf, c.id, c.place),
-        14 => c.writer.write_sequence_end(buf, c.place),
-        15 => c.writer.write_sequence_end_keep(buf, c.place),
-        _ => float(c, buf),
-    }
-}
-
-fn write(c: Call, data: &[u8], buf: &mut [u8]) -> Written {
-    let code = c.code;
-    match code {
-        4 => c
-            .writer
-            .write_fixlen(buf, c.id, data, subtype(c.kind), c.place),
-        7 => c.writer.write_str(buf, c.id, data, c.place),
-        8 => c.writer.write_blob(buf, c.id, data, c.place),
-        _ => number(c, buf),
     }
 }
 
@@ -182,18 +122,32 @@ fn open(c: Call, buf: &[u8]) -> Written {
 }
 
 // Of a buffer change `data` is the new buffer, and kind 1 says that the old one is drained.
-fn called(c: Call, data: &[u8], buf: &mut [u8]) -> Left {
-    let code = c.code;
-    match code {
-        16 => sent(c.writer.flush(buf)),
-        17 => sent(c.writer.buffer_set(buf, data, c.offset, c.kind != 0)),
-        20 => told(open(c, buf)),
-        _ => told(write(c, data, buf)),
-    }
+fn made(call: WriterCall, c: Call, data: &[u8], buf: &mut [u8], desk: &mut [u64]) {
+    let w = c.writer;
+    let written = match call {
+        WriterCall::Flush => return sent(w.flush(buf), desk),
+        WriterCall::BufferSet => {
+            return sent(w.buffer_set(buf, data, c.offset, c.kind != 0), desk);
+        }
+        WriterCall::Open => open(c, buf),
+        WriterCall::Unsigned => w.write_unsigned(buf, c.id, c.value, c.place),
+        WriterCall::Signed => w.write_signed(buf, c.id, c.value.cast_signed(), c.place),
+        WriterCall::Boolean => w.write_boolean(buf, c.id, c.value != 0, c.place),
+        WriterCall::Fixlen => w.write_fixlen(buf, c.id, data, subtype(c.kind), c.place),
+        WriterCall::Fp32 => fp32(c, buf),
+        WriterCall::Fp64 => fp64(c, buf),
+        WriterCall::Str => w.write_str(buf, c.id, data, c.place),
+        WriterCall::Blob => w.write_blob(buf, c.id, data, c.place),
+        WriterCall::Begin => w.write_sequence_begin_lazy(buf, c.id, c.place),
+        WriterCall::End => w.write_sequence_end(buf, c.place),
+        WriterCall::EndKeep => w.write_sequence_end_keep(buf, c.place),
+    };
+    told(written, desk);
 }
 
-pub fn trace_write(desk: &mut [u64], data: &[u8], buf: &mut [u8]) -> i64 {
-    let c = asked(desk);
-    let t = called(c, data, buf);
-    leave(t, desk)
+// A number of no call leaves all as it is.
+pub fn trace_write(desk: &mut [u64], data: &[u8], buf: &mut [u8]) {
+    if let Ok(call) = WriterCall::try_from(word(desk, 24)) {
+        made(call, asked(desk), data, buf, desk);
+    }
 }

@@ -1,31 +1,33 @@
-// A call by its number, over the first bytes of a buffer.
-ghost use Rattle.std.specs.Prelude.{◌≤◌};
-
+// A script's call.
+use desk::Desk;
+use rows::Call;
+use std::alloc::{AllocError, Global};
 use trace::gatherer::trace_gather;
 use trace::reader::trace_read;
 use trace_arrays::array;
 use trace_copier::copies::trace_copy;
 use trace_writer::writer::trace_write;
 
-fn at_most(n: usize, most: usize) -> usize
-    ensures { result ≤ most }
-{
-    if n < most { n } else { most }
-}
-
-fn made(code: u32, desk: &mut [u64], data: &[u8], buf: &mut [u8]) -> i64 {
-    if 23 < code {
-        return trace_copy(desk, data, buf);
+// A writer's and a copier's find their number on the desk; no other looks there.
+pub fn make(
+    alloc: Global,
+    call: Call,
+    desk: &mut Desk,
+    data: &[u8],
+    buf: &mut [u8],
+) -> Result<(), AllocError> {
+    match call {
+        Call::Write(call) => {
+            desk[24] = u64::from(call);
+            trace_write(desk, data, buf);
+        }
+        Call::Copy(call) => {
+            desk[24] = u64::from(call);
+            trace_copy(desk, data, buf);
+        }
+        Call::Array(call) => array(alloc, call, desk, data, buf)?,
+        Call::Read => trace_read(desk, data),
+        Call::Gather => trace_gather(desk, buf, data),
     }
-    match code {
-        9 | 10 | 18 | 19 => array(code, desk, data, buf),
-        21 => trace_read(desk, data),
-        22 => trace_gather(desk, buf, data),
-        _ => trace_write(desk, data, buf),
-    }
-}
-
-pub fn call(code: u32, desk: &mut [u64], data: &[u8], buf: &mut [u8], size: usize) -> i64 {
-    let n = at_most(size, buf.len());
-    made(code, desk, data, &mut buf[0..n])
+    Ok(())
 }

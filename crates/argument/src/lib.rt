@@ -1,41 +1,47 @@
 // A number that a program is given as an argument.
 #![tactic(auto)]
 
+ghost use Rattle.std.specs.Prelude.{◌<◌, IfSome};
+
 use std::env::FillError;
-use std::num::wrapping_add_u64;
 use std::rt::Env;
 
-// Whether there is an argument with this number. The program's own name has 0.
-pub fn given(rt: &impl Env, i: usize) -> bool {
-    let mut word = [0u8; 1];
-    !matches!(rt.arg(i, &mut word), Err(FillError::NotPresent))
+// Why there is no number: there is no such argument, or it is no number.
+#[derive(Clone, Copy)]
+pub enum NoNumber {
+    Missing,
+    Malformed,
 }
 
-// A digit's value; 10 for any other byte.
-fn digit(b: u8) -> u64 {
-    if b'0' <= b && b <= b'9' {
-        (b - b'0') as u64
+// A digit's value.
+fn digit(b: u8) -> Option<u8>
+    ensures { IfSome result (λ d. d < 10) }
+{
+    if b.is_ascii_digit() {
+        Some(b - b'0')
     } else {
-        10
+        None
     }
 }
 
-// A word in decimal, of up to 19 digits; 0 where it is none.
-fn number(word: &[u8]) -> u64 {
+// A word in decimal, of up to 19 digits after its leading zeros. (`parse` takes a sign as well, and 20 digits.)
+fn number(word: &[u8]) -> Option<u64> {
     let mut n: u64 = 0;
-    let mut i: usize = 0;
-    while i < word.len() && digit(word[i]) < 10 && n < 1000000000000000000 {
-        n = wrapping_add_u64(wrapping_add_u64(n << 3, n << 1), digit(word[i]));
-        i += 1;
+    for &b in word {
+        if 1000000000000000000 <= n {
+            return None;
+        }
+        n = n * 10 + u64::from(digit(b)?);
     }
-    if i == word.len() { n } else { 0 }
+    Some(n)
 }
 
-// The number that it says; 0 where it says none, or isn't there.
-pub fn number_at(rt: &impl Env, i: usize) -> u64 {
+// The number that the ith argument says. The program's own name has 0.
+pub fn number_at(rt: &impl Env, i: usize) -> Result<u64, NoNumber> {
     let mut word = [0u8; 4096];
     match rt.arg(i, &mut word) {
-        Ok(n) => number(&word[..n]),
-        Err(_) => 0,
+        Ok(n) => number(&word[..n]).ok_or(NoNumber::Malformed),
+        Err(FillError::NotPresent) => Err(NoNumber::Missing),
+        Err(FillError::TooLong) => Err(NoNumber::Malformed),
     }
 }

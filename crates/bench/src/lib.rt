@@ -6,11 +6,7 @@ mod reading;
 
 // Reads the bytes in chunks of `size` bytes (0: whole), and answers a digest of the events.
 pub fn bench_read(bytes: &[u8], size: usize) -> u64 {
-    if size == 0 {
-        reading::chunks(bytes, bytes.len())
-    } else {
-        reading::chunks(bytes, size)
-    }
+    reading::chunks(bytes, if size == 0 { bytes.len() } else { size })
 }
 
 // Gathers a payload from pieces of `size` bytes, and answers how many bytes are whole in the end.

@@ -2,14 +2,13 @@
 use event::Event;
 use istream::{Answer, IStream};
 use payload::PayloadAcc;
-use std::num::wrapping_add_u64;
 
 fn plus(digest: u64, id: u32, n: u64) -> u64 {
-    wrapping_add_u64(wrapping_add_u64(digest, id as u64), n)
+    digest.wrapping_add(u64::from(id)).wrapping_add(n)
 }
 
 fn size(from: usize, to: usize) -> u64 {
-    if from <= to { (to - from) as u64 } else { 0 }
+    to.saturating_sub(from) as u64
 }
 
 fn sum(digest: u64, e: Event) -> u64 {
@@ -29,66 +28,38 @@ fn sum(digest: u64, e: Event) -> u64 {
     }
 }
 
-fn rest<'a>(bytes: &'a [u8], at: usize) -> &'a [u8] {
-    if at <= bytes.len() {
-        &bytes[at..]
-    } else {
-        bytes
-    }
-}
-
-fn first<'a>(bytes: &'a [u8], n: usize) -> &'a [u8] {
-    if n <= bytes.len() { &bytes[..n] } else { bytes }
-}
-
-fn ahead(at: usize, n: usize, end: usize) -> usize {
-    if end <= at {
-        return end;
-    }
-    if n < end - at { at + n } else { end }
-}
-
-// Each chunk is called on until it is spent and the verdict comes.
+// Each chunk is called on until it is spent and the verdict comes. Nothing but the count says to the prover that this ends.
 pub fn chunks(bytes: &[u8], size: usize) -> u64 {
     let mut stream = IStream::new();
     let mut digest: u64 = 0;
-    let mut at: usize = 0;
-    let mut turns = bytes.len();
-    while turns > 0 && at < bytes.len() {
-        let chunk = first(rest(bytes, at), size);
+    for chunk in bytes.chunks(size.max(1)) {
         let mut left = chunk;
-        let mut calls = u64::MAX;
-        while calls > 0 {
+        for _ in 0..u64::MAX {
             let f = stream.feed(left);
             stream = f.stream;
-            let read = f.read;
-            let answer = f.answer;
-            let Answer::Event(e) = answer else {
+            let Answer::Event(e) = f.answer else {
                 break;
             };
-            if left.len() < read {
+            let Some(rest) = left.get(f.read..) else {
                 break;
-            }
-            left = &left[read..];
+            };
+            left = rest;
             digest = sum(digest, e);
-            calls -= 1;
         }
-        at = ahead(at, size, bytes.len());
-        turns -= 1;
     }
     digest
 }
 
+// No byte is whole where the pieces have none.
 pub fn gather(bytes: &[u8], size: usize, buf: &mut [u8]) -> u64 {
+    if size == 0 {
+        return 0;
+    }
     let mut acc = PayloadAcc::new();
     let mut at: usize = 0;
-    let mut turns = bytes.len();
-    while turns > 0 && at < bytes.len() {
-        let piece = first(rest(bytes, at), size);
-        let f = acc.feed(buf, bytes.len(), at, piece);
-        acc = f.acc;
-        at = ahead(at, size, bytes.len());
-        turns -= 1;
+    for piece in bytes.chunks(size) {
+        acc = acc.feed(buf, bytes.len(), at, piece).acc;
+        at = at.wrapping_add(piece.len());
     }
     if acc.complete {
         acc.buffered() as u64

@@ -3,96 +3,73 @@
 // Where the message isn't complete, the buffer has no byte, or a read or a write fails, a line on standard error says so.
 #![tactic(auto)]
 
+use argument::{NoNumber, number_at};
 use copy_len::Length;
 use drains::rounded_up;
-use piping::{
-    Copy, State, broken, complain, copy_all, drain, incomplete, start, unread, unwritten,
-};
+use piping::{Failure, Trouble, complain, copy_all, unwritten};
 use std::io::{self, Read};
+use std::num::NonZeroUsize;
 use streams::read_full;
 
 const NAME: [u8; 6] = *b"length";
 
-// The drains over a buffer of so many bytes; none was asked for where that is 0.
-fn tell_drains(rt: &impl Print, n: u64, buffer: usize) -> io::Result<()> {
-    if buffer == 0 {
-        return Ok(());
+// A message that is here whole.
+fn measure(message: &[u8]) -> Result<u64, Trouble> {
+    match copy_len::length_of(message) {
+        Length::Bytes(n) => Ok(n as u64),
+        Length::Incomplete => Err(Trouble::Incomplete(message.len() as u64)),
+        Length::Broken(n) => Err(Trouble::Broken(n as u64)),
     }
-    print!(rt; " {}", rounded_up(n as usize, buffer))
 }
 
-fn tell_all(rt: &impl Print, n: u64, buffer: usize) -> io::Result<()> {
+// One that may be longer is copied, and what would go out is counted: for every complete message that is the same number. Where the buffer
+// isn't full, the input has ended.
+fn length(input: &mut impl Read) -> Result<u64, Trouble> {
+    let mut message = [0u8; 65536];
+    let n = read_full(input, &mut message).map_err(|_| Failure::Unread)?;
+    if n < message.len() {
+        return measure(&message[..n]);
+    }
+    let mut chunk = [0u8; 65536];
+    let mut out = [0u8; 65536];
+    let mut whole = message.as_slice().chain(input);
+    copy_all(&mut whole, &mut io::sink(), &mut chunk, &mut out)
+}
+
+// The length, and the drains over a buffer where one was given.
+fn tell(rt: &impl Print, n: u64, buffer: Option<NonZeroUsize>) -> io::Result<()> {
     print!(rt; "{n}")?;
-    tell_drains(rt, n, buffer)?;
+    if let Some(bytes) = buffer {
+        print!(rt; " {}", rounded_up(n as usize, bytes.get()))?;
+    }
     println!(rt; "")
 }
 
-fn tell(rt: &impl Print, err: &impl Print, n: u64, buffer: usize) -> io::Result<()> {
-    match tell_all(rt, n, buffer) {
-        Ok(()) => Ok(()),
-        Err(e) => unwritten(err, &NAME, e.kind()),
+fn tell_all(rt: &HostRuntime, buffer: Option<NonZeroUsize>) -> io::Result<()> {
+    let err = rt.stderr();
+    match length(&mut rt.stdin()) {
+        Ok(n) => tell(rt, n, buffer).or_else(|e| unwritten(&err, &NAME, e.kind())),
+        Err(Trouble::Failed(Failure::Unwritten(_))) => {
+            complain(&err, &NAME, b": the copy cannot be counted\n")
+        }
+        Err(trouble) => trouble.say(&err, &NAME),
     }
 }
 
-// A message that is here whole.
-fn measure(rt: &impl Print, err: &impl Print, message: &[u8], buffer: usize) -> io::Result<()> {
-    match copy_len::length_of(message) {
-        Length::Bytes(n) => tell(rt, err, n as u64, buffer),
-        Length::Incomplete => incomplete(err, &NAME, message.len() as u64),
-        Length::Broken(n) => broken(err, &NAME, n as u64),
-    }
-}
-
-// One that may be longer is copied, and what would go out is counted: for every complete message that is the same number.
-fn count(
-    rt: &impl Print,
-    err: &impl Print,
-    copied: Copy,
-    out: &[u8],
-    buffer: usize,
-) -> io::Result<()> {
-    let c = drain(rt, copied, out);
-    let state = c.state;
-    match state {
-        State::Complete => tell(rt, err, c.sent, buffer),
-        State::Incomplete => incomplete(err, &NAME, c.bytes),
-        State::Broken => broken(err, &NAME, c.bytes),
-        State::Unread => unread(err, &NAME),
-        _ => complain(err, &NAME, b": the copy cannot be counted\n"),
-    }
-}
-
-// Where the buffer isn't full, the input has ended.
-fn length(
-    input: &mut impl Read,
-    rt: &impl Print,
-    err: &impl Print,
-    buffer: usize,
-) -> io::Result<()> {
-    let mut message = [0u8; 65536];
-    let mut out = [0u8; 65536];
-    let Ok(n) = read_full(input, &mut message) else {
-        return unread(err, &NAME);
-    };
-    if n < message.len() {
-        return measure(rt, err, &message[0..n], buffer);
-    }
-    let begun = start(&out, n, true);
-    let c = copy_all(input, rt, begun, &mut message, &mut out);
-    count(rt, err, c, &out, buffer)
-}
-
-// A buffer of no bytes is refused before the message is read.
+// A buffer of no bytes is refused before the message is read, and so is what is no number.
 // Only a line that standard error doesn't take ends it with an error of its own.
 fn main(rt: HostRuntime) -> io::Result<()> {
-    let buffer = argument::number_at(&rt, 1) as usize;
-    if buffer == 0 && argument::given(&rt, 1) {
-        complain(
+    let buffer = match number_at(&rt, 1) {
+        Ok(n) => NonZeroUsize::new(n as usize),
+        Err(NoNumber::Missing) => return tell_all(&rt, None),
+        Err(NoNumber::Malformed) => None,
+    };
+    if buffer.is_none() {
+        return complain(
             &rt.stderr(),
             &NAME,
             b": a buffer of 0 bytes is refused: number 18\n",
-        )
-    } else {
-        length(&mut rt.stdin(), &rt, &rt.stderr(), buffer)
+        );
     }
+    tell_all(&rt, buffer)
 }

@@ -4,67 +4,59 @@
 // A record: the lengths of the message's two chunks, a byte each, and their bytes.
 #![tactic(auto)]
 
-use listing::Listing;
+use last_line::{Verdict, put_verdict};
+use listing::{Listing, list};
 use std::io::{self, Read};
 use streams::read_full;
 
-// The next n bytes, and whether they were there.
-fn take(input: &mut impl Read, buf: &mut [u8], n: usize) -> io::Result<bool> {
-    if buf.len() < n {
-        return Ok(false);
-    }
-    let got = read_full(input, &mut buf[0..n])?;
-    Ok(got == n)
+// Fills the buffer's first n bytes from the input; none where there are fewer.
+fn take<'a>(input: &mut impl Read, buf: &'a mut [u8], n: usize) -> io::Result<Option<&'a [u8]>> {
+    let Some(place) = buf.get_mut(..n) else {
+        return Ok(None);
+    };
+    let got = read_full(input, place)?;
+    Ok(if got == n { Some(place) } else { None })
 }
 
-fn list_chunk(l: Listing, chunk: &[u8], out: &mut [u8]) -> Listing {
-    listing::list(l.chunk(), chunk, out)
-}
-
-fn first<'a>(s: &'a [u8], n: usize) -> &'a [u8] {
-    if n <= s.len() { &s[0..n] } else { s }
-}
-
-fn print(rt: &impl Print, l: Listing, out: &mut [u8]) -> io::Result<()> {
-    let verdict = l.verdict;
-    let end = last_line::put_verdict(out, l.at, verdict);
-    rt.write_all(first(out, end))
-}
-
-fn wide(b: u8) -> usize {
-    b as usize
-}
-
-// A message in its two chunks; whether there was one, and then its list is out.
-fn record(input: &mut impl Read, rt: &impl Print, out: &mut [u8]) -> io::Result<bool> {
+// A message in its two chunks; none where the input ends before it does.
+fn record<'a>(
+    input: &mut impl Read,
+    a: &'a mut [u8],
+    b: &'a mut [u8],
+) -> io::Result<Option<(&'a [u8], &'a [u8])>> {
     let mut head = [0u8; 2];
-    if !take(input, &mut head, 2)? {
-        return Ok(false);
+    if read_full(input, &mut head)? < 2 {
+        return Ok(None);
     }
-    let mut a = [0u8; 255];
-    let mut b = [0u8; 255];
-    let na = wide(head[0]);
-    let nb = wide(head[1]);
-    if !take(input, &mut a, na)? || !take(input, &mut b, nb)? {
-        return Ok(false);
-    }
-    let l = list_chunk(Listing::new(), first(&a, na), out);
-    let m = list_chunk(l, first(&b, nb), out);
-    print(rt, m, out)?;
-    Ok(true)
+    let [na, nb] = head;
+    let Some(first) = take(input, a, usize::from(na))? else {
+        return Ok(None);
+    };
+    let Some(second) = take(input, b, usize::from(nb))? else {
+        return Ok(None);
+    };
+    Ok(Some((first, second)))
+}
+
+// The list of a message, the verdict behind it.
+fn print(rt: &impl Print, first: &[u8], second: &[u8], out: &mut [u8]) -> io::Result<()> {
+    let l = list(Listing::new().chunk(), first, out);
+    let m = list(l.chunk(), second, out);
+    let end = put_verdict(out, m.at, m.verdict.unwrap_or(Verdict::Incomplete));
+    rt.write_all(out.get(..end).unwrap_or_default())
 }
 
 // Nothing says that an input ends, so the turns are counted, up to a number that no run uses up.
-fn all(input: &mut impl Read, rt: &impl Print, out: &mut [u8]) -> io::Result<()> {
+fn main(rt: HostRuntime) -> io::Result<()> {
+    let mut input = rt.stdin();
+    let mut a = [0u8; 255];
+    let mut b = [0u8; 255];
+    let mut out = [0u8; 65536];
     for _ in 0..u64::MAX {
-        if !record(input, rt, out)? {
+        let Some((first, second)) = record(&mut input, &mut a, &mut b)? else {
             break;
-        }
+        };
+        print(&rt, first, second, &mut out)?;
     }
     Ok(())
-}
-
-fn main(rt: HostRuntime) -> io::Result<()> {
-    let mut out = [0u8; 65536];
-    all(&mut rt.stdin(), &rt, &mut out)
 }

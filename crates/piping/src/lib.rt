@@ -1,167 +1,125 @@
-// A message from standard input through the copier, chunk by chunk, to standard output; or only counted. And what a program says of a message, or
-// of a file, that isn't as it should be: `./sofab` makes its status of these lines.
+// A message through the copier, chunk by chunk, to a sink. And what a program says of a message, or of a file, that isn't as it should be:
+// `./sofab` makes its status of these lines.
 #![tactic(auto)]
 
 use copier::{Answer, Copier};
 use istream::Status;
 use ostream::Count;
-use std::io::{self, ErrorKind, Read};
-use std::num::{wrapping_add_u64, wrapping_add_usize};
-pub use streams::{unread, unwritten};
+use std::io::{self, ErrorKind, Read, Write};
+pub use streams::{Failure, unread, unwritten};
 
-// Where the copy stands: the chunk's rest is still to be handed in; the verdict once the chunk is spent; or it can't go on.
+// Why there is no whole copy: the message ends early, after so many bytes, or is broken, at such a byte; or a read or a write failed.
 #[derive(Clone, Copy)]
-pub enum State {
-    More,
-    Complete,
-    Incomplete,
-    Broken,
-    Unread,
-    Unwritten(ErrorKind),
+pub enum Trouble {
+    Incomplete(u64),
+    Broken(u64),
+    Failed(Failure),
 }
 
-// The copier, the chunk and how much of it is used, how many bytes of the message it was given and how many it gave, where it stands, whether
-// that is all, and whether the copy is only counted.
+impl From<Failure> for Trouble {
+    fn from(failure: Failure) -> Trouble {
+        Trouble::Failed(failure)
+    }
+}
+
+impl Trouble {
+    // What goes to standard error, by the program's name.
+    pub fn say(self, err: &impl Print, name: &[u8]) -> io::Result<()> {
+        match self {
+            Trouble::Incomplete(bytes) => incomplete(err, name, bytes),
+            Trouble::Broken(byte) => broken(err, name, byte),
+            Trouble::Failed(failure) => failure.say(err, name),
+        }
+    }
+}
+
+// The copier, and how many bytes of the message it was given and how many it gave.
 #[derive(Clone, Copy)]
-pub struct Copy {
-    pub copier: Copier,
-    pub from: usize,
-    pub to: usize,
-    pub bytes: u64,
-    pub sent: u64,
-    pub state: State,
-    pub ended: bool,
-    pub counted: bool,
+struct Copy {
+    copier: Copier,
+    bytes: u64,
+    sent: u64,
 }
 
-// Before the first call, with so many bytes of the input read already. A message of no byte is complete. The buffer is taken: it has more
-// than one byte.
-pub fn start(out: &[u8], read: usize, counted: bool) -> Copy {
-    let opened = Copier::new(out, 0);
-    let copier = opened.copier;
-    Copy {
-        copier,
-        from: 0,
-        to: read,
-        bytes: 0,
-        sent: 0,
-        state: if read == 0 {
-            State::Complete
-        } else {
-            State::More
-        },
-        ended: false,
-        counted,
+impl Copy {
+    // The buffer's bytes go to the sink.
+    fn drain(&mut self, sink: &mut impl Write, out: &[u8]) -> Result<(), Failure> {
+        let drained = self.copier.flush(out);
+        self.copier = drained.copier;
+        let Count::Bytes(n) = drained.answer else {
+            return Err(Failure::Unwritten(ErrorKind::WriteZero));
+        };
+        let Some(bytes) = out.get(..n) else {
+            return Err(Failure::Unwritten(ErrorKind::WriteZero));
+        };
+        self.sent = self.sent.wrapping_add(n as u64);
+        sink.write_all(bytes)
+            .map_err(|e| Failure::Unwritten(e.kind()))
     }
-}
 
-fn verdict(s: Status) -> State {
-    match s {
-        Status::Complete => State::Complete,
-        Status::Incomplete => State::Incomplete,
+    // A chunk, call by call until it is spent. After "full" that goes on, once the bytes are out.
+    fn take(
+        &mut self,
+        chunk: &[u8],
+        sink: &mut impl Write,
+        out: &mut [u8],
+    ) -> Result<Status, Trouble> {
+        let mut rest = chunk;
+        for _ in 0..u64::MAX {
+            let copied = self.copier.feed(rest, out);
+            self.copier = copied.copier;
+            self.bytes = self.bytes.wrapping_add(copied.used as u64);
+            rest = rest.get(copied.used..).unwrap_or_default();
+            match copied.answer {
+                Answer::Full => self.drain(sink, out)?,
+                Answer::Status(status) => return Ok(status),
+                Answer::Refused(_) => return Err(Trouble::Broken(self.bytes)),
+            }
+        }
+        Ok(Status::Incomplete)
     }
-}
 
-fn state_after(a: Answer) -> State {
-    match a {
-        Answer::Full => State::More,
-        Answer::Status(s) => verdict(s),
-        Answer::Refused(_) => State::Broken,
-    }
-}
-
-// Whether no further call follows: the message is broken, or a read or a write failed.
-fn stuck(s: State) -> bool {
-    matches!(s, State::Broken | State::Unread | State::Unwritten(_))
-}
-
-// The buffer's first n bytes go to standard output.
-fn write(rt: &impl Print, out: &[u8], n: usize) -> io::Result<()> {
-    if out.len() < n {
-        return Err(io::Error::from(ErrorKind::WriteZero));
-    }
-    rt.write_all(&out[0..n])
-}
-
-// The buffer's bytes go to standard output, or are only counted.
-pub fn drain(rt: &impl Print, mut c: Copy, out: &[u8]) -> Copy {
-    let drained = c.copier.flush(out);
-    let answer = drained.answer;
-    let next = drained.copier;
-    c.copier = next;
-    let Count::Bytes(n) = answer else {
-        c.state = State::Unwritten(ErrorKind::WriteZero);
-        return c;
-    };
-    c.sent = wrapping_add_u64(c.sent, n as u64);
-    if c.counted {
-        return c;
-    }
-    if let Err(e) = write(rt, out, n) {
-        c.state = State::Unwritten(e.kind());
-    }
-    c
-}
-
-fn part(input: &[u8], from: usize, to: usize) -> &[u8] {
-    if from <= to && to <= input.len() {
-        &input[from..to]
-    } else {
-        &input[0..0]
+    // Chunk by chunk to the end of the input; a message of no byte is complete. Nothing says that an input ends, so the turns are counted,
+    // up to a number that no run uses up.
+    fn take_all(
+        &mut self,
+        input: &mut impl Read,
+        sink: &mut impl Write,
+        chunk: &mut [u8],
+        out: &mut [u8],
+    ) -> Result<(), Trouble> {
+        let mut status = Status::Complete;
+        for _ in 0..u64::MAX {
+            let n = input.read(chunk).map_err(|_| Failure::Unread)?;
+            if n == 0 {
+                break;
+            }
+            status = self.take(&chunk[..n], sink, out)?;
+        }
+        match status {
+            Status::Complete => Ok(()),
+            Status::Incomplete => Err(Trouble::Incomplete(self.bytes)),
+        }
     }
 }
 
-// The next chunk, where this one is spent. At the input's end the verdict stays as it is.
-fn refill(input: &mut impl Read, mut c: Copy, chunk: &mut [u8]) -> Copy {
-    if let State::More = c.state {
-        return c;
-    }
-    c.from = 0;
-    c.to = 0;
-    match input.read(chunk) {
-        Ok(n) => c.to = n,
-        Err(_) => c.state = State::Unread,
-    }
-    c.ended = c.to == 0;
-    c
-}
-
-// One call on the rest of the chunk. After "full" that goes on, once the bytes are out.
-fn step(rt: &impl Print, mut c: Copy, chunk: &[u8], out: &mut [u8]) -> Copy {
-    if c.ended {
-        return c;
-    }
-    let copied = c.copier.feed(part(chunk, c.from, c.to), out);
-    let answer = copied.answer;
-    let next = copied.copier;
-    c.copier = next;
-    c.from = wrapping_add_usize(c.from, copied.used);
-    c.bytes = wrapping_add_u64(c.bytes, copied.used as u64);
-    c.state = state_after(answer);
-    if let State::More = c.state {
-        c = drain(rt, c, out);
-    }
-    c.ended = stuck(c.state);
-    c
-}
-
-// Call by call to the end of the input. Nothing says that an input ends, so the turns are counted, up to a number that no run uses up.
+// The copy of a message, and how many bytes it has. The buffer is taken: it has more than one byte. What it holds goes out in the end
+// whatever the message is; a failed write is said first, since then the output is too short.
 pub fn copy_all(
     input: &mut impl Read,
-    rt: &impl Print,
-    begun: Copy,
+    sink: &mut impl Write,
     chunk: &mut [u8],
     out: &mut [u8],
-) -> Copy {
-    let mut c = begun;
-    for _ in 0..u64::MAX {
-        if c.ended {
-            break;
-        }
-        c = refill(input, c, chunk);
-        c = step(rt, c, chunk, out);
-    }
-    c
+) -> Result<u64, Trouble> {
+    let mut copy = Copy {
+        copier: Copier::new(out, 0).copier,
+        bytes: 0,
+        sent: 0,
+    };
+    let taken = copy.take_all(input, sink, chunk, out);
+    copy.drain(sink, out)?;
+    taken?;
+    Ok(copy.sent)
 }
 
 // ---- what goes to standard error, by the program's name

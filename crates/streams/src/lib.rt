@@ -24,6 +24,22 @@ pub fn read_full<R: Read>(input: &mut R, buf: &mut [u8]) -> io::Result<usize>
     Ok(done)
 }
 
+// Which stream failed a program.
+#[derive(Clone, Copy)]
+pub enum Failure {
+    Unread,
+    Unwritten(ErrorKind),
+}
+
+impl Failure {
+    pub fn say(self, err: &impl Print, name: &[u8]) -> io::Result<()> {
+        match self {
+            Failure::Unread => unread(err, name),
+            Failure::Unwritten(why) => unwritten(err, name, why),
+        }
+    }
+}
+
 pub fn unread(err: &impl Print, name: &[u8]) -> io::Result<()> {
     err.write_all(name)?;
     err.write_all(b": standard input cannot be read\n")

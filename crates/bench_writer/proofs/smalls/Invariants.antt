@@ -1,9 +1,0 @@
--- `bench_writer::smalls` is safe and ends: each turn makes a call, or is the last.
-use Rattle.std.proofs.Common.{◌≡◌, ◌-◌, ◌≤◌, length}
-use Rattle.bench_writer.proofs.smalls.Given as goal
-
-abbrev pub invariant-loop-i : goal.invariant-loop-i
-invariant-loop-i l = (length l.buf ≡ length l.initial.buf) × (l.to ≤ l.n)
-
-abbrev pub decreases-loop-i : goal.decreases-loop-i
-decreases-loop-i l = l.to - l.i

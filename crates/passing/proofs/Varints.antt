@@ -16,7 +16,6 @@ use Rattle.varint.specs.declared.Push.TheVariants.{More, Value, Overlong}
 use Rattle.varint.specs.Varint.{Sound, start, unanswer, pushed}
 use Rattle.varint.proofs.Laws.{sound-start, sound_more, layout_step}
 use Rattle.varint.proofs.Step as steps
-use Rattle.passing.specs.declared.Stop.{Stop}
 use Rattle.passing.specs.declared.Stop.TheVariants.{Short, Broken}
 use Rattle.passing.specs.Passing.{Reaches, Passes, ends}
 

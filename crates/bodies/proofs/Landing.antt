@@ -2,10 +2,8 @@
 use Prim.Native.Nat.{ℕ, zero, suc, ◌+◌, ◌-◌, ◌*◌, ◌/◌, ◌%◌, ◌≤◌, ◌<◌}
 use mathlib.Core.Path.{◌≡◌, refl, sym, ap, ◌∙◌, subst}
 use mathlib.Core.Bool.{Bool, true, false}
-use mathlib.Core.List.{List, [], ◌∷◌}
+use mathlib.Core.List.{List}
 use native.Mathlib.Omega.{arith}
-use types.Run.{OneOf, miss}
-use denote.Enum.Declared.{tag_of}
 use lib.Dec.{leb}
 use lib.ListN.{length, drop, length-drop}
 use lib.Seq.{drop-drop}
@@ -14,57 +12,47 @@ use Rattle.layout.specs.Limits.{base, pick}
 use Rattle.layout.specs.Varint.{Outcome, whole, short, broken, varint}
 use Rattle.layout.specs.Reading.{Reading, given, low_from}
 use Rattle.layout.specs.Event.{Unsigned, Float}
-use Rattle.layout.specs.Field.{Raw, Field, Width, Subtyped, fp32, fp64, string, blob, bytes_of, subtype_number, subtype_of, known, unknown, float, raw, payload, unsigned_array, float_array}
+use Rattle.layout.specs.Field.{Raw, Field, Width, Subtyped, fp32, fp64, string, blob, bytes_of, subtype_number, subtype_of, known, float, raw, payload, unsigned_array, float_array}
 use Rattle.layout.specs.Field.{t_fixlen, t_unsigneds, t_floats}
 use Rattle.layout.specs.Message.{checked, count_of, payload_of, fixlen, float_array_of, body, depth_after, elements}
-use Rattle.passing.specs.declared.Found.{Found}
-use Rattle.passing.specs.declared.Found.TheVariants as Founds
-use Rattle.passing.specs.declared.Land.{Land}
-use Rattle.passing.specs.declared.Land.TheVariants as Lands
-use Rattle.passing.specs.Passing.{Reaches, Passes, skips, jumped, no_value}
+use Rattle.std.specs.Prelude.{Result, Ok, Err}
+use Rattle.passing.specs.declared.Stop.{Stop}
+use Rattle.passing.specs.declared.Stop.TheVariants.{Short, Broken}
+use Rattle.passing.specs.Passing.{Reaches, Passes, skips, jumped}
 use Rattle.bodies.specs.Bodies.{deep, after_body, after_word, after_floats}
-use Rattle.passing.specs.contracts.Found as found
-use Rattle.passing.proofs.Ends.{landed_before}
+use Rattle.passing.proofs.Ends.{before, stopped}
 use Rattle.bodies.proofs.Bodies.{hop, hops, hop_short, ends_low, ends_payload, ends_floats, ends-elements, deep-scalar, deep-becoming}
 
 -- ---- answers
 
 -- n bytes from a place on
-pub jumps : (t : List ℕ) (at n : ℕ) (r : Land) (o : ℕ → Outcome ℕ) → at ≤ length t → r ≡ jumped t at n → ((d : ℕ) → o d ≡ hop d n (drop at t)) → Passes t at o r
+pub jumps : (t : List ℕ) (at n : ℕ) (r : Result ℕ Stop) (o : ℕ → Outcome ℕ) → at ≤ length t → r ≡ jumped t at n → ((d : ℕ) → o d ≡ hop d n (drop at t)) → Passes t at o r
 jumps t at n r o h e k = subst (Passes t at o) (sym e) (go (leb n (length t - at)) refl)
   where
-    go : (x : Bool) → leb n (length t - at) ≡ x → Passes t at o (pick x (Lands.At (at + n)) Lands.Short)
-    go true p =
+    go : (x : Bool) → leb n (length t - at) ≡ x → Passes t at o (pick x (Ok (at + n)) (Err Short))
+    go true p d =
         let l : n ≤ length t - at = leb-true _ _ p in
         record {
-          same = λ d. k d ∙ hops d n (drop at t) (omega (arith, length-drop at t)) ∙ ap (λ (l : List ℕ). whole d l) (drop-drop n at t);
+          same = k d ∙ hops d n (drop at t) (omega (arith, length-drop at t)) ∙ ap (λ (l : List ℕ). whole d l) (drop-drop n at t);
           past = (omega arith, omega arith);
         }
-    go false p =
+    go false p d =
         let l : length t - at < n = leb-false _ _ p in
-        record { same = λ d. k d ∙ hop_short d n (drop at t) (omega (arith, length-drop at t)); past = tt }
+        record { same = k d ∙ hop_short d n (drop at t) (omega (arith, length-drop at t)); past = tt }
 
-pub breaks : (t : List ℕ) (i : ℕ) (o : ℕ → Outcome ℕ) → i ≤ length t → ((d : ℕ) → o d ≡ broken (drop i t)) → Passes t i o (Lands.Broken i)
-breaks t i o h k = record { same = k; past = h }
+pub breaks : (t : List ℕ) (i : ℕ) (o : ℕ → Outcome ℕ) → i ≤ length t → ((d : ℕ) → o d ≡ broken (drop i t)) → Passes t i o (Err (Broken i))
+breaks t i o h k d = record { same = k d; past = h }
 
 -- a value, and what follows it
-pub then : (t : List ℕ) (at : ℕ) (o : Outcome ℕ) (f : Found) (v i : ℕ) (k : ℕ → List ℕ → Reading Field) (r : Land) → f ≡ Founds.Value v i → Reaches t at o f →
+then : {t : List ℕ} {at : ℕ} {o : Outcome ℕ} {v i : ℕ} (k : ℕ → List ℕ → Reading Field) (r : Result ℕ Stop) → Reaches t at o (Ok (v, i)) →
     Passes t i (λ d. deep d (k v (drop i t)).outcome) r → Passes t at (λ d. deep d (given o k).outcome) r
 unfolding given
-then t at o f v i k r e q p =
-    let g : Reaches t at o (Founds.Value v i) = subst (Reaches t at o) e q in
-    record {
-      same = λ d. ap (λ (o : Outcome ℕ). deep d (given o k).outcome) g.same ∙ p.same d;
-      past = landed_before t at i r (omega (arith, g.past.0)) p.past;
-    }
+then k r q p d = before r (λ j h. (omega (arith, q.past.0, h.0), h.1)) (ap (λ (o : Outcome ℕ). deep d (given o k).outcome) q.same) (p d)
 
 -- no value found: nothing follows
-pub else_given : (t : List ℕ) (at : ℕ) (o : Outcome ℕ) (f : Found) (k : ℕ → List ℕ → Reading Field) → OneOf (1 ∷ 2 ∷ []) (tag_of found.the_type f) →
-    Reaches t at o f → Passes t at (λ d. deep d (given o k).outcome) (no_value f)
+stops : {t : List ℕ} {at : ℕ} {o : Outcome ℕ} (k : ℕ → List ℕ → Reading Field) (e : Stop) → Reaches t at o (Err e) → Passes t at (λ d. deep d (given o k).outcome) (Err e)
 unfolding given deep
-else_given t at o (Founds.Value v i) k h r = absurd (miss (1 ∷ 2 ∷ []) 0 tt h)
-else_given t at o Founds.Short k h r = record { same = λ d. ap (λ (o : Outcome ℕ). deep d (given o k).outcome) r.same; past = tt }
-else_given t at o (Founds.Broken i) k h r = record { same = λ d. ap (λ (o : Outcome ℕ). deep d (given o k).outcome) r.same; past = r.past }
+stops k e q d = stopped e (λ (o : Outcome ℕ). deep d (given o k).outcome) refl (λ bs. refl) q
 
 -- ---- what follows the word of a fixed-length field
 
@@ -101,63 +89,49 @@ numbered : (wd : Width) → subtype_of (subtype_number (float wd)) ≡ known (fl
 numbered fp32 = refl
 numbered fp64 = refl
 
-raw_of : (n : ℕ) → (n ≡ 0 → ⊥) → (n ≡ 1 → ⊥) → n < 4 → (r : Raw) × (subtype_of n ≡ known (raw r))
-raw_of zero a b h = absurd (a refl)
-raw_of (suc zero) a b h = absurd (b refl)
-raw_of (suc (suc zero)) a b h = (string, refl)
-raw_of (suc (suc (suc zero))) a b h = (blob, refl)
-raw_of (suc (suc (suc (suc n)))) a b h = absurd (omega arith)
+-- the words of the two floats, of a string or blob, and of nothing
+word_breaks : (d id n s : ℕ) (bs : List ℕ) → (s ≡ 0 → n ≡ 4 → ⊥) → (s ≡ 1 → n ≡ 8 → ⊥) → (2 ≤ s → s < 4 → base.size < n) → deep d (fixlen base id n (subtype_of s) bs).outcome ≡ broken bs
+unfolding deep fixlen
+word_breaks d id n zero bs a b c = float_breaks d id n bs fp32 (a refl)
+word_breaks d id n (suc zero) bs a b c = float_breaks d id n bs fp64 (b refl)
+word_breaks d id n (suc (suc zero)) bs a b c = raw_breaks d id n bs string (c (omega arith) (omega arith))
+word_breaks d id n (suc (suc (suc zero))) bs a b c = raw_breaks d id n bs blob (c (omega arith) (omega arith))
+word_breaks d id n (suc (suc (suc (suc s)))) bs a b c = refl
 
-unknown_of : (n : ℕ) → 4 ≤ n → subtype_of n ≡ unknown
-unknown_of zero h = absurd (omega arith)
-unknown_of (suc zero) h = absurd (omega arith)
-unknown_of (suc (suc zero)) h = absurd (omega arith)
-unknown_of (suc (suc (suc zero))) h = absurd (omega arith)
-unknown_of (suc (suc (suc (suc n)))) h = refl
+word_fits : (d id n s : ℕ) (bs : List ℕ) → 2 ≤ s → s < 4 → n ≤ base.size → deep d (fixlen base id n (subtype_of s) bs).outcome ≡ hop d n bs
+word_fits d id n zero bs a b h = absurd (omega arith)
+word_fits d id n (suc zero) bs a b h = absurd (omega arith)
+word_fits d id n (suc (suc zero)) bs a b h = raw_fits d id n bs string h
+word_fits d id n (suc (suc (suc zero))) bs a b h = raw_fits d id n bs blob h
+word_fits d id n (suc (suc (suc (suc s)))) bs a b h = absurd (omega arith)
 
--- what follows the word of a fixed-length field
 module _ {t : List ℕ} {i : ℕ} (w : ℕ) (inside : i ≤ length t) (id : ℕ) where
-  by_subtype : (s : Subtyped) (r : Land) → subtype_of (w % 8) ≡ s → Passes t i (λ d. deep d (fixlen base id (w / 8) s (drop i t)).outcome) r →
+  pub bytes_float : (wd : Width) (r : Result ℕ Stop) → w % 8 ≡ subtype_number (float wd) → w / 8 ≡ bytes_of wd → r ≡ jumped t i (bytes_of wd) →
       Passes t i (after_word id w (drop i t)) r
   unfolding after_word
-  by_subtype s r k p = subst (λ (s : Subtyped). Passes t i (λ d. deep d (fixlen base id (w / 8) s (drop i t)).outcome) r) (sym k) p
+  bytes_float wd r s h j =
+      jumps t i (bytes_of wd) r _ inside j
+      (λ d.
+      ap (λ (x : Subtyped). deep d (fixlen base id (w / 8) x (drop i t)).outcome) (ap subtype_of s ∙ numbered wd)
+      ∙ float_fits d id (w / 8) (drop i t) wd h
+      ∙ ap (λ (n : ℕ). hop d n (drop i t)) h)
 
-  pub bytes_float : (wd : Width) (r : Land) → subtype_of (w % 8) ≡ known (float wd) → w / 8 ≡ bytes_of wd → r ≡ jumped t i (bytes_of wd) →
-      Passes t i (after_word id w (drop i t)) r
-  bytes_float wd r k h j =
-      by_subtype (known (float wd)) r k
-      (jumps t i (bytes_of wd) r _ inside j (λ d. float_fits d id (w / 8) (drop i t) wd h ∙ ap (λ (n : ℕ). hop d n (drop i t)) h))
+  pub bytes_raw : (r : Result ℕ Stop) → 2 ≤ w % 8 → w % 8 < 4 → w / 8 ≤ base.size → r ≡ jumped t i (w / 8) → Passes t i (after_word id w (drop i t)) r
+  unfolding after_word
+  bytes_raw r a b h j = jumps t i (w / 8) r _ inside j (λ d. word_fits d id (w / 8) (w % 8) (drop i t) a b h)
 
-  pub bytes_float_breaks : (wd : Width) → subtype_of (w % 8) ≡ known (float wd) → (w / 8 ≡ bytes_of wd → ⊥) → Passes t i (after_word id w (drop i t)) (Lands.Broken i)
-  bytes_float_breaks wd k h = by_subtype (known (float wd)) (Lands.Broken i) k (breaks t i _ inside (λ d. float_breaks d id (w / 8) (drop i t) wd h))
+  pub bytes_fail : (w ≡ 32 → ⊥) → (w ≡ 65 → ⊥) → (2 ≤ w % 8 → w % 8 < 4 → base.size < w / 8) → Passes t i (after_word id w (drop i t)) (Err (Broken i))
+  unfolding after_word
+  bytes_fail a b c = breaks t i _ inside (λ d. word_breaks d id (w / 8) (w % 8) (drop i t) (λ x y. a (omega arith)) (λ x y. b (omega arith)) c)
 
-  pub bytes_raw : (r : Land) → (w % 8 ≡ 0 → ⊥) → (w % 8 ≡ 1 → ⊥) → w % 8 < 4 → w / 8 ≤ base.size → r ≡ jumped t i (w / 8) →
-      Passes t i (after_word id w (drop i t)) r
-  bytes_raw r a b c h j =
-      let o = raw_of (w % 8) a b c in
-      by_subtype (known (raw o.0)) r o.1 (jumps t i (w / 8) r _ inside j (λ d. raw_fits d id (w / 8) (drop i t) o.0 h))
-
-  pub bytes_raw_breaks : (w % 8 ≡ 0 → ⊥) → (w % 8 ≡ 1 → ⊥) → w % 8 < 4 → base.size < w / 8 → Passes t i (after_word id w (drop i t)) (Lands.Broken i)
-  bytes_raw_breaks a b c h =
-      let o = raw_of (w % 8) a b c in
-      by_subtype (known (raw o.0)) (Lands.Broken i) o.1 (breaks t i _ inside (λ d. raw_breaks d id (w / 8) (drop i t) o.0 h))
-
-  pub bytes_unknown : 4 ≤ w % 8 → Passes t i (after_word id w (drop i t)) (Lands.Broken i)
-  unfolding fixlen deep
-  bytes_unknown h = by_subtype unknown (Lands.Broken i) (unknown_of (w % 8) h) (breaks t i _ inside (λ d. refl))
-
--- a word, and what follows it
-pub fixlen_then : {t : List ℕ} {at : ℕ} {f : Found} {w i : ℕ} → f ≡ Founds.Value w i → Reaches t at (varint base (drop at t)) f → (r : Land) (id : ℕ) →
+pub fixlen_then : {t : List ℕ} {at w i : ℕ} → Reaches t at (varint base (drop at t)) (Ok (w, i)) → (r : Result ℕ Stop) (id : ℕ) →
     Passes t i (after_word id w (drop i t)) r → Passes t at (after_body id t_fixlen (drop at t)) r
 unfolding after_body body after_word
-fixlen_then {t} {at} {f} {w} {i} e q r id p =
-    then t at (varint base (drop at t)) f w i (λ w rest. fixlen base id (w / 8) (subtype_of (w % 8)) rest) r e q p
+fixlen_then q r id p = then (λ w rest. fixlen base id (w / 8) (subtype_of (w % 8)) rest) r q p
 
--- the else of each
-pub fixlen_else : {t : List ℕ} {at : ℕ} (f : Found) → OneOf (1 ∷ 2 ∷ []) (tag_of found.the_type f) → Reaches t at (varint base (drop at t)) f → (id : ℕ) →
-    Passes t at (after_body id t_fixlen (drop at t)) (no_value f)
+pub fixlen_stops : {t : List ℕ} {at : ℕ} (e : Stop) → Reaches t at (varint base (drop at t)) (Err e) → (id : ℕ) → Passes t at (after_body id t_fixlen (drop at t)) (Err e)
 unfolding after_body body
-fixlen_else {t} {at} f h q id = else_given t at (varint base (drop at t)) f (λ w rest. fixlen base id (w / 8) (subtype_of (w % 8)) rest) h q
+fixlen_stops e q id = stops (λ w rest. fixlen base id (w / 8) (subtype_of (w % 8)) rest) e q
 
 -- ---- arrays
 
@@ -172,40 +146,32 @@ passed ok (whole b bs) a rest e = go (ok b) refl e
 passed ok short a rest e = absurd (let z : ◌≡◌ {A = ℕ} 0 1 = cc in omega arith)
 passed ok (broken bs) a rest e = absurd (let z : ◌≡◌ {A = ℕ} 0 1 = cc in omega arith)
 
-module _ {t : List ℕ} {at : ℕ} {f : Found} {n i : ℕ} (e : f ≡ Founds.Value n i) (q : Reaches t at (count_of base (drop at t)) f) where
-  counted : Reaches t at (count_of base (drop at t)) (Founds.Value n i)
-  counted = subst (Reaches t at (count_of base (drop at t))) e q
-
+module _ {t : List ℕ} {at n i : ℕ} (q : Reaches t at (count_of base (drop at t)) (Ok (n, i))) where
   pub count_small : n ≤ base.count
-  count_small = leb-true _ _ (passed (λ n. leb n base.count) (varint base (drop at t)) n (drop i t) counted.same)
+  count_small = leb-true _ _ (passed (λ n. leb n base.count) (varint base (drop at t)) n (drop i t) q.same)
 
-  pub array_then : (r : Land) → Passes t i (λ d. skips base d n (drop i t)) r → (id : ℕ) → Passes t at (after_body id t_unsigneds (drop at t)) r
+  pub array_then : (r : Result ℕ Stop) → Passes t i (λ d. skips base d n (drop i t)) r → (id : ℕ) → Passes t at (after_body id t_unsigneds (drop at t)) r
   unfolding after_body body depth_after
   array_then r p id =
-      then t at (count_of base (drop at t)) f n i _ r e q
-      record {
-        same =
-            λ d.
-            deep-becoming d (unsigned_array id) (λ x. refl) (elements (varint base) (Unsigned id) n (drop i t))
-            ∙ ends-elements d (varint base) (Unsigned id) n (drop i t) (λ bs. refl)
-            ∙ p.same d;
-        past = p.past;
-      }
+      then _ r q
+      (λ d.
+      before r (λ j h. h)
+      (deep-becoming d (unsigned_array id) (λ x. refl) (elements (varint base) (Unsigned id) n (drop i t))
+      ∙ ends-elements d (varint base) (Unsigned id) n (drop i t) (λ bs. refl))
+      (p d))
 
-  pub floats_then : (id : ℕ) (r : Land) → Passes t i (λ d. deep d (given (varint base (drop i t)) (λ w rest. float_array_of id n (w / 8) (subtype_of (w % 8)) rest)).outcome) r →
+  pub floats_then : (id : ℕ) (r : Result ℕ Stop) → Passes t i (λ d. deep d (given (varint base (drop i t)) (λ w rest. float_array_of id n (w / 8) (subtype_of (w % 8)) rest)).outcome) r →
       Passes t at (after_body id t_floats (drop at t)) r
   unfolding after_body body
-  floats_then id r p = then t at (count_of base (drop at t)) f n i _ r e q p
+  floats_then id r p = then _ r q p
 
-pub array_else : {t : List ℕ} {at : ℕ} (f : Found) → OneOf (1 ∷ 2 ∷ []) (tag_of found.the_type f) → Reaches t at (count_of base (drop at t)) f → (id : ℕ) →
-    Passes t at (after_body id t_unsigneds (drop at t)) (no_value f)
+pub array_stops : {t : List ℕ} {at : ℕ} (e : Stop) → Reaches t at (count_of base (drop at t)) (Err e) → (id : ℕ) → Passes t at (after_body id t_unsigneds (drop at t)) (Err e)
 unfolding after_body body
-array_else {t} {at} f h q id = else_given t at (count_of base (drop at t)) f _ h q
+array_stops e q id = stops _ e q
 
-pub floats_else : {t : List ℕ} {at : ℕ} (f : Found) → OneOf (1 ∷ 2 ∷ []) (tag_of found.the_type f) → Reaches t at (count_of base (drop at t)) f → (id : ℕ) →
-    Passes t at (after_body id t_floats (drop at t)) (no_value f)
+pub floats_stop : {t : List ℕ} {at : ℕ} (e : Stop) → Reaches t at (count_of base (drop at t)) (Err e) → (id : ℕ) → Passes t at (after_body id t_floats (drop at t)) (Err e)
 unfolding after_body body
-floats_else {t} {at} f h q id = else_given t at (count_of base (drop at t)) f _ h q
+floats_stop e q id = stops _ e q
 
 -- the word of a float array: 32 and 65 are the words of the two floats, and every other breaks
 floats_break : (d id c n s : ℕ) (bs : List ℕ) → (s ≡ 0 → n ≡ 4 → ⊥) → (s ≡ 1 → n ≡ 8 → ⊥) → deep d (float_array_of id c n (subtype_of s) bs).outcome ≡ broken bs
@@ -217,7 +183,7 @@ floats_break d id c n (suc (suc (suc zero))) bs a b = refl
 floats_break d id c n (suc (suc (suc (suc s)))) bs a b = refl
 
 module _ {t : List ℕ} {j : ℕ} (w : ℕ) (inside : j ≤ length t) (id c : ℕ) where
-  pub floats_jump : (wd : Width) (r : Land) → w % 8 ≡ subtype_number (float wd) → w / 8 ≡ bytes_of wd → r ≡ jumped t j (c * bytes_of wd) →
+  pub floats_jump : (wd : Width) (r : Result ℕ Stop) → w % 8 ≡ subtype_number (float wd) → w / 8 ≡ bytes_of wd → r ≡ jumped t j (c * bytes_of wd) →
       Passes t j (after_floats id c w (drop j t)) r
   unfolding after_floats
   floats_jump wd r s h k =
@@ -227,19 +193,18 @@ module _ {t : List ℕ} {j : ℕ} (w : ℕ) (inside : j ≤ length t) (id c : �
       ∙ floats_fit d id (w / 8) (drop j t) wd c h
       ∙ ap (λ (m : ℕ). hop d (c * m) (drop j t)) h)
 
-  pub floats_fail : (w ≡ 32 → ⊥) → (w ≡ 65 → ⊥) → Passes t j (after_floats id c w (drop j t)) (Lands.Broken j)
+  pub floats_fail : (w ≡ 32 → ⊥) → (w ≡ 65 → ⊥) → Passes t j (after_floats id c w (drop j t)) (Err (Broken j))
   unfolding after_floats
   floats_fail a b =
       breaks t j _ inside
       (λ d. floats_break d id c (w / 8) (w % 8) (drop j t) (λ x y. a (omega arith)) (λ x y. b (omega arith)))
 
-pub floats_word : {t : List ℕ} {i : ℕ} {f : Found} {w j : ℕ} → f ≡ Founds.Value w j → Reaches t i (varint base (drop i t)) f → (id c : ℕ) (r : Land) →
+pub floats_word : {t : List ℕ} {i w j : ℕ} → Reaches t i (varint base (drop i t)) (Ok (w, j)) → (id c : ℕ) (r : Result ℕ Stop) →
     Passes t j (after_floats id c w (drop j t)) r →
     Passes t i (λ d. deep d (given (varint base (drop i t)) (λ w rest. float_array_of id c (w / 8) (subtype_of (w % 8)) rest)).outcome) r
 unfolding after_floats
-floats_word {t} {i} {f} {w} {j} e q id c r p =
-    then t i (varint base (drop i t)) f w j (λ w rest. float_array_of id c (w / 8) (subtype_of (w % 8)) rest) r e q p
+floats_word q id c r p = then (λ w rest. float_array_of id c (w / 8) (subtype_of (w % 8)) rest) r q p
 
-pub floats_word_else : {t : List ℕ} {i : ℕ} (f : Found) → OneOf (1 ∷ 2 ∷ []) (tag_of found.the_type f) → Reaches t i (varint base (drop i t)) f → (id c : ℕ) →
-    Passes t i (λ d. deep d (given (varint base (drop i t)) (λ w rest. float_array_of id c (w / 8) (subtype_of (w % 8)) rest)).outcome) (no_value f)
-floats_word_else {t} {i} f h q id c = else_given t i (varint base (drop i t)) f _ h q
+pub floats_no_word : {t : List ℕ} {i : ℕ} (e : Stop) → Reaches t i (varint base (drop i t)) (Err e) → (id c : ℕ) →
+    Passes t i (λ d. deep d (given (varint base (drop i t)) (λ w rest. float_array_of id c (w / 8) (subtype_of (w % 8)) rest)).outcome) (Err e)
+floats_no_word e q id c = stops _ e q

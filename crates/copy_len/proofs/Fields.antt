@@ -2,12 +2,10 @@
 use Prim.Native.Nat.{ℕ, zero, suc, ◌+◌, ◌-◌, ◌*◌, ◌/◌, ◌%◌, ◌^◌, ◌≤◌, ◌<◌}
 use mathlib.Core.Path.{◌≡◌, refl, sym, ap, ◌∙◌, subst}
 use mathlib.Core.Bool.{true}
-use mathlib.Core.List.{List, [], ◌∷◌}
+use mathlib.Core.List.{List}
 use native.Mathlib.Nat.{mod-lt}
 use native.Mathlib.Numerals.{add-one}
 use native.Mathlib.Omega.{arith}
-use types.Run.{OneOf, miss}
-use denote.Enum.Declared.{tag_of}
 use lib.Dec.{leb, lit<}
 use lib.ListN.{length, drop}
 use borrow.Author.Tests.{lt-ltb, le-ltb, eq-eqb, ne_eqb}
@@ -23,24 +21,23 @@ use Rattle.laws.proofs.Parser.{Parses}
 use Rattle.laws.proofs.Parts.{checked_parses}
 use Rattle.laws.proofs.Varint.{varint_parses}
 use Rattle.laws.proofs.Field.{wire_number_lem}
-use Rattle.passing.specs.declared.Found.{Found}
-use Rattle.passing.specs.declared.Found.TheVariants as Founds
-use Rattle.passing.specs.Passing.{Reaches, no_value}
-use Rattle.passing.specs.contracts.Found as found
+use Rattle.std.specs.Prelude.{Result, Ok, Err}
+use Rattle.passing.specs.declared.Stop.{Stop}
+use Rattle.passing.specs.declared.Stop.TheVariants.{Broken}
+use Rattle.passing.specs.Passing.{Reaches}
+use Rattle.passing.proofs.Ends.{before, stopped}
 use Rattle.lengths.specs.declared.Extent.{Extent}
-use Rattle.lengths.specs.declared.Extent.TheVariants as Extents
-use Rattle.lengths.specs.Lengths.{Point, point_of, reached, varint_length, pointed, Finishes, BodySizes, no_place}
-use Rattle.copy_len.specs.declared.Next.{Next}
-use Rattle.copy_len.specs.declared.Next.TheVariants as Nexts
-use Rattle.copy_len.specs.CopyLen.{Goes, next_past, after_field, deepened}
+use Rattle.lengths.specs.Lengths.{Point, point_of, reached, varint_length, Finishes, BodySizes}
+use Rattle.lengths.proofs.Answers.{extent}
+use Rattle.copy_len.specs.CopyLen.{End, Goes, after_field}
 
 -- ---- what follows a header
 
-finished : {t : List ℕ} {at : ℕ} (d : ℕ) {o : Outcome Point} (s : Extent) (r : Next) → Finishes t at d o s → r ≡ deepened d s → Goes t at o r
-unfolding pointed
-finished {t} {at} d {o} (Extents.At i n) r f e = subst (Goes t at o) (sym e) (record { same = f.same; past = f.past })
-finished {t} {at} d {o} Extents.Short r f e = subst (Goes t at o) (sym e) (record { same = f.same; past = f.past })
-finished {t} {at} d {o} (Extents.Broken i) r f e = subst (Goes t at o) (sym e) (record { same = f.same; past = f.past })
+pub kept : {t : List ℕ} {at d : ℕ} {o : Outcome Point} {x : Extent} → Finishes t at d o (Ok x) → Goes t at o (Ok (x, d))
+kept f = record { same = f.same; past = f.past }
+
+pub stops : {t : List ℕ} {at d : ℕ} {o : Outcome Point} (e : Stop) → Finishes t at d o (Err e) → Goes t at o (Err e)
+stops e f = stopped e (λ o. o) refl (λ bs. refl) f
 
 -- a header's number is its id and its type
 header_of_lem : (h : ℕ) → length (header (h / 8) (wire_of (h % 8))) ≡ varint_length h
@@ -52,42 +49,41 @@ header_of_lem h =
 pub headed : {at most n : ℕ} (h len : ℕ) → (at ≤ most) × (len + varint_length h ≤ at) → n ≡ varint_length h → (at ≤ most) × (1 ≤ len + n) × (len + n ≤ at)
 headed h len p y = (p.0, omega (arith, length_some h), omega (arith, p.1))
 
--- the answer on what follows the header h, by its type
-abbrev pub After : List ℕ → ℕ → ℕ → ℕ → ℕ → Wire → Next → Type 0
-After t at h d len w r = Goes t at (reached d len (body base d (h / 8) w (drop at t)).outcome) r
+-- what follows the header h, by its type
+abbrev pub After : List ℕ → ℕ → ℕ → ℕ → ℕ → Wire → Outcome Point
+After t at h d len w = reached d len (body base d (h / 8) w (drop at t)).outcome
 
-module _ {t : List ℕ} {at n : ℕ} (h d len : ℕ) (y : n ≡ varint_length h) (s : Extent) (r : Next) (e : r ≡ deepened d s) where
-  pub one_type : (w : Wire) → wire_of (h % 8) ≡ w → BodySizes t at w (len + n) s → After t at h d len (wire_of (h % 8)) r
+module _ {t : List ℕ} {at n : ℕ} (h d len : ℕ) (y : n ≡ varint_length h) (s : Result Extent Stop) where
+  pub one_type : (w : Wire) → wire_of (h % 8) ≡ w → BodySizes t at w (len + n) s → Finishes t at d (After t at h d len (wire_of (h % 8))) s
   one_type w q b =
-      finished d s r
-      (subst (λ (w : Wire). BodySizes t at w (len + n) s) (sym q) b (h / 8) d len (ap (λ (n : ℕ). len + n) (y ∙ sym (header_of_lem h)))) e
+      subst (λ (w : Wire). BodySizes t at w (len + n) s) (sym q) b (h / 8) d len (ap (λ (n : ℕ). len + n) (y ∙ sym (header_of_lem h)))
 
-  pub scalar_type : h % 8 < 2 → BodySizes t at t_unsigned (len + n) s × BodySizes t at t_signed (len + n) s → After t at h d len (wire_of (h % 8)) r
+  pub scalar_type : h % 8 < 2 → BodySizes t at t_unsigned (len + n) s × BodySizes t at t_signed (len + n) s → Finishes t at d (After t at h d len (wire_of (h % 8))) s
   scalar_type l b = go (h % 8) refl l
     where
-      go : (n : ℕ) → h % 8 ≡ n → n < 2 → After t at h d len (wire_of (h % 8)) r
+      go : (n : ℕ) → h % 8 ≡ n → n < 2 → Finishes t at d (After t at h d len (wire_of (h % 8))) s
       go zero q l = one_type t_unsigned (ap wire_of q) b.0
       go (suc zero) q l = one_type t_signed (ap wire_of q) b.1
       go (suc (suc n)) q l = absurd (omega arith)
 
-  pub array_type : (h % 8 ≡ 2 → ⊥) → 2 ≤ h % 8 → h % 8 < 5 → BodySizes t at t_unsigneds (len + n) s × BodySizes t at t_signeds (len + n) s →
-      After t at h d len (wire_of (h % 8)) r
-  array_type a g l b = go (h % 8) refl g l
+  pub array_type : 3 ≤ h % 8 → h % 8 < 5 → BodySizes t at t_unsigneds (len + n) s × BodySizes t at t_signeds (len + n) s →
+      Finishes t at d (After t at h d len (wire_of (h % 8))) s
+  array_type g l b = go (h % 8) refl g l
     where
-      go : (n : ℕ) → h % 8 ≡ n → 2 ≤ n → n < 5 → After t at h d len (wire_of (h % 8)) r
+      go : (n : ℕ) → h % 8 ≡ n → 3 ≤ n → n < 5 → Finishes t at d (After t at h d len (wire_of (h % 8))) s
       go zero q g l = absurd (omega arith)
       go (suc zero) q g l = absurd (omega arith)
-      go (suc (suc zero)) q g l = absurd (a q)
+      go (suc (suc zero)) q g l = absurd (omega arith)
       go (suc (suc (suc zero))) q g l = one_type t_unsigneds (ap wire_of q) b.0
       go (suc (suc (suc (suc zero)))) q g l = one_type t_signeds (ap wire_of q) b.1
       go (suc (suc (suc (suc (suc n))))) q g l = absurd (omega arith)
 
 -- opens and closes
 module _ {t : List ℕ} {at : ℕ} (h d len : ℕ) (p : (at ≤ length t) × (len + varint_length h ≤ at)) where
-  by_type : (w : Wire) (r : Next) → wire_of (h % 8) ≡ w → After t at h d len w r → After t at h d len (wire_of (h % 8)) r
-  by_type w r q g = subst (λ (w : Wire). After t at h d len w r) (sym q) g
+  by_type : (w : Wire) (r : Result End Stop) → wire_of (h % 8) ≡ w → Goes t at (After t at h d len w) r → Goes t at (After t at h d len (wire_of (h % 8))) r
+  by_type w r q g = subst (λ (w : Wire). Goes t at (After t at h d len w) r) (sym q) g
 
-  pub opens : {n : ℕ} → n ≡ varint_length h → wire_of (h % 8) ≡ t_begin → d < base.depth → After t at h d len (wire_of (h % 8)) (Nexts.At at (d + 1) (len + n))
+  pub opens : {n : ℕ} → n ≡ varint_length h → wire_of (h % 8) ≡ t_begin → d < base.depth → Goes t at (After t at h d len (wire_of (h % 8))) (Ok (extent at (len + n), d + 1))
   unfolding body reached depth_after field_bytes
   opens {n} y q l =
       let k : length (header (h / 8) t_begin) ≡ n = ap (λ (w : Wire). length (header (h / 8) w)) (sym q) ∙ header_of_lem h ∙ sym y in
@@ -95,18 +91,18 @@ module _ {t : List ℕ} {at : ℕ} (h d len : ℕ) (p : (at ≤ length t) × (le
       by_type t_begin _ q
       (record { same = simp (lt-ltb d base.depth l) (λ i. whole (point_of (m i) (len + k i)) (drop at t)); past = (omega arith, p.0, omega (arith, p.1)) })
 
-  pub opens_not : wire_of (h % 8) ≡ t_begin → base.depth ≤ d → After t at h d len (wire_of (h % 8)) (Nexts.Broken at)
+  pub opens_not : wire_of (h % 8) ≡ t_begin → base.depth ≤ d → Goes t at (After t at h d len (wire_of (h % 8))) (Err (Broken at))
   unfolding body reached
   opens_not q l = by_type t_begin _ q (record { same = simp (le-ltb d base.depth l); past = p.0 })
 
-  pub closes : wire_of (h % 8) ≡ t_end → (d ≡ 0 → ⊥) → After t at h d len (wire_of (h % 8)) (Nexts.At at (d - 1) (len + 1))
+  pub closes : wire_of (h % 8) ≡ t_end → (d ≡ 0 → ⊥) → Goes t at (After t at h d len (wire_of (h % 8))) (Ok (extent at (len + 1), d - 1))
   unfolding body reached depth_after field_bytes
   closes q l =
       let n : length (header 0 t_end) ≡ 1 = length_one 7 (lit< tt) in
       by_type t_end _ q
       (record { same = simp (ne_eqb d 0 l) (ap (λ (m : ℕ). whole (point_of (d - 1) (len + m)) (drop at t)) n); past = (omega arith, p.0, omega (arith, p.1, length_some h)) })
 
-  pub closes_not : wire_of (h % 8) ≡ t_end → d ≡ 0 → After t at h d len (wire_of (h % 8)) (Nexts.Broken at)
+  pub closes_not : wire_of (h % 8) ≡ t_end → d ≡ 0 → Goes t at (After t at h d len (wire_of (h % 8))) (Err (Broken at))
   unfolding body reached
   closes_not q l = by_type t_end _ q (record { same = simp (eq-eqb d 0 l); past = p.0 })
 
@@ -115,29 +111,14 @@ module _ {t : List ℕ} {at : ℕ} (h d len : ℕ) (p : (at ≤ length t) × (le
 pub header_reads : Parses (header_of base) (λ h. (h < 2 ^ base.bits) × (leb (h / 8) base.id ≡ true)) shortest
 header_reads = checked_parses (varint_parses base) (λ h. leb (h / 8) base.id)
 
-gone_before : (t : List ℕ) (at i : ℕ) (n : Next) → at ≤ i → next_past t i n → next_past t at n
-gone_before t at i (Nexts.At j d m) h p = (omega (arith, p.0), p.1, p.2)
-gone_before t at i Nexts.Short h p = tt
-gone_before t at i (Nexts.Broken j) h p = p
-
 module _ {t : List ℕ} {at : ℕ} (d len : ℕ) where
-  pub field_then : (f : Found) (h i : ℕ) (r : Next) → f ≡ Founds.Value h i → Reaches t at (header_of base (drop at t)) f → After t i h d len (wire_of (h % 8)) r →
+  pub field_then : {h i : ℕ} (r : Result End Stop) → Reaches t at (header_of base (drop at t)) (Ok (h, i)) → Goes t i (After t i h d len (wire_of (h % 8))) r →
       Goes t (at + 1) (after_field d len (drop at t)) r
   unfolding after_field field given
-  field_then f h i r e q g =
-      let p : Reaches t at (header_of base (drop at t)) (Founds.Value h i) = subst (Reaches t at (header_of base (drop at t))) e q in
-      record {
-        same = ap (λ (o : Outcome ℕ). reached d len (given o (λ h rest. body base d (h / 8) (wire_of (h % 8)) rest)).outcome) p.same ∙ g.same;
-        past = gone_before t (at + 1) i r (omega (arith, p.past.0)) g.past;
-      }
+  field_then r q g =
+      before r (λ e p. (omega (arith, q.past.0, p.0), p.1, p.2))
+      (ap (λ (o : Outcome ℕ). reached d len (given o (λ h rest. body base d (h / 8) (wire_of (h % 8)) rest)).outcome) q.same) g
 
-  pub field_else : (f : Found) (r : Next) → OneOf (1 ∷ 2 ∷ []) (tag_of found.the_type f) → Reaches t at (header_of base (drop at t)) f → r ≡ deepened d (no_place (no_value f)) →
-      Goes t (at + 1) (after_field d len (drop at t)) r
+  pub field_stops : (e : Stop) → Reaches t at (header_of base (drop at t)) (Err e) → Goes t (at + 1) (after_field d len (drop at t)) (Err e)
   unfolding after_field field given reached
-  field_else (Founds.Value v i) r h q e = absurd (miss (1 ∷ 2 ∷ []) 0 tt h)
-  field_else Founds.Short r h q e =
-      subst (Goes t (at + 1) (after_field d len (drop at t))) (sym e)
-      record { same = ap (λ (o : Outcome ℕ). reached d len (given o (λ h rest. body base d (h / 8) (wire_of (h % 8)) rest)).outcome) q.same; past = tt }
-  field_else (Founds.Broken i) r h q e =
-      subst (Goes t (at + 1) (after_field d len (drop at t))) (sym e)
-      record { same = ap (λ (o : Outcome ℕ). reached d len (given o (λ h rest. body base d (h / 8) (wire_of (h % 8)) rest)).outcome) q.same; past = q.past }
+  field_stops e q = stopped e (λ (o : Outcome ℕ). reached d len (given o (λ h rest. body base d (h / 8) (wire_of (h % 8)) rest)).outcome) refl (λ bs. refl) q

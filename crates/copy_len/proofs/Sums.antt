@@ -1,7 +1,7 @@
 -- The fields of a message one after another: the length of its plain copy is what was counted up to a place, and that of the fields from there
 -- on. The verdict is found as in `whole`.
 use Prim.Native.Nat.{ℕ, zero, suc, ◌+◌, ◌-◌, ◌≤◌, ◌<◌}
-use mathlib.Core.Path.{◌≡◌, refl, ap, ◌∙◌, subst}
+use mathlib.Core.Path.{◌≡◌, refl, ap, ◌∙◌}
 use mathlib.Core.List.{List, []}
 use native.Mathlib.Omega.{arith}
 use lib.ListN.{length, drop, length-append, length-drop, drop_of_length-le}
@@ -17,9 +17,10 @@ use Rattle.bodies.specs.Bodies.{deep}
 use Rattle.whole.specs.Whole as verdicts
 use Rattle.whole.proofs.Fields.{Left, fueled, left_start, goes_on, ends_short, ends_broken, left_complete, left_open}
 use Rattle.lengths.specs.Lengths.{Point, point_of, reached, field_length}
-use Rattle.copy_len.specs.declared.Length.TheVariants as Answers
-use Rattle.copy_len.specs.declared.Next.{Next}
-use Rattle.copy_len.specs.declared.Next.TheVariants as Nexts
+use Rattle.std.specs.Prelude.{Ok, Err}
+use Rattle.passing.specs.declared.Stop.{Stop}
+use Rattle.passing.specs.declared.Stop.TheVariants.{Short, Broken}
+use Rattle.lengths.specs.declared.Extent.{Extent}
 use Rattle.copy_len.specs.CopyLen.{Goes, after_field, length_in, length_of}
 
 -- ---- an end without its length
@@ -80,10 +81,11 @@ counted d n e m short bs k = absurd (let z : ◌≡◌ {A = ℕ} 0 1 = cc in ome
 counted d n e m (broken r) bs k = absurd (let z : ◌≡◌ {A = ℕ} 0 1 = cc in omega arith)
 
 module _ {t : List ℕ} {at d n : ℕ} (s : Summed t at d n) (h : at < length t) where
-  pub summed_next : (r : Next) (i e m : ℕ) → r ≡ Nexts.At i e m → Goes t (at + 1) (after_field d n (drop at t)) r → Summed t i e m
+  pub summed_next : {x : Extent} {e : ℕ} → Goes t (at + 1) (after_field d n (drop at t)) (Ok (x, e)) → Summed t x.at e x.len
   unfolding after_field follow forget
-  summed_next r i e m k g =
-      let p : Goes t (at + 1) (after_field d n (drop at t)) (Nexts.At i e m) = subst (Goes t (at + 1) (after_field d n (drop at t))) k g in
+  summed_next {x} {e} p =
+      let i : ℕ = x.at in
+      let m : ℕ = x.len in
       let c = counted d n e m (field base d (drop at t)).outcome (drop i t) p.same in
       record {
         left = goes_on s.left h i e p.past.0 p.past.1 (plain d n (drop at t) _ p.same);
@@ -102,22 +104,10 @@ module _ {t : List ℕ} {at d n : ℕ} (s : Summed t at d n) (h : at < length t)
             omega (arith, s.total (prepend x fs) rest b, added x fs, c.3);
       }
 
-  pub summed_falls : (r : Next) (i e m : ℕ) → r ≡ Nexts.At i e m → Goes t (at + 1) (after_field d n (drop at t)) r → length t - i < length t - at
-  summed_falls r i e m k g =
-      let p : Goes t (at + 1) (after_field d n (drop at t)) (Nexts.At i e m) = subst (Goes t (at + 1) (after_field d n (drop at t))) k g in
-      omega (arith, p.past.0, p.past.1)
-
-  pub summed_short : (r : Next) → r ≡ Nexts.Short → Goes t (at + 1) (after_field d n (drop at t)) r → Answers.Incomplete ≡ length_of t
+  pub summed_stops : (e : Stop) → Goes t (at + 1) (after_field d n (drop at t)) (Err e) → Err e ≡ length_of t
   unfolding forget
-  summed_short r k g =
-      let p : Goes t (at + 1) (after_field d n (drop at t)) Nexts.Short = subst (Goes t (at + 1) (after_field d n (drop at t))) k g in
-      ap (λ (v : layout.Verdict). length_in v (length (plain_copy base t))) (ends_short s.left h (plain d n (drop at t) _ p.same))
-
-  pub summed_broken : (r : Next) (i : ℕ) → r ≡ Nexts.Broken i → Goes t (at + 1) (after_field d n (drop at t)) r → Answers.Broken i ≡ length_of t
-  unfolding forget
-  summed_broken r i k g =
-      let p : Goes t (at + 1) (after_field d n (drop at t)) (Nexts.Broken i) = subst (Goes t (at + 1) (after_field d n (drop at t))) k g in
-      ap (λ (v : layout.Verdict). length_in v (length (plain_copy base t))) (ends_broken s.left h i p.past (plain d n (drop at t) _ p.same))
+  summed_stops Short p = ap (λ (v : layout.Verdict). length_in v (length (plain_copy base t))) (ends_short s.left h (plain d n (drop at t) _ p.same))
+  summed_stops (Broken i) p = ap (λ (v : layout.Verdict). length_in v (length (plain_copy base t))) (ends_broken s.left h i p.past (plain d n (drop at t) _ p.same))
 
 -- the end
 none_left : (f d : ℕ) → (fields_from base f d []).outcome ≡ whole (record { list = []; depth = d }) []
@@ -134,9 +124,9 @@ module _ {t : List ℕ} {at d n : ℕ} (s : Summed t at d n) (h : length t ≤ a
       in
       omega arith
 
-  pub summed_complete : d ≡ 0 → Answers.Bytes n ≡ length_of t
+  pub summed_complete : d ≡ 0 → Ok n ≡ length_of t
   summed_complete e =
-      ap Answers.Bytes sum_is ∙ ap (λ (v : layout.Verdict). length_in v (length (plain_copy base t))) (left_complete s.left h e)
+      ap Ok sum_is ∙ ap (λ (v : layout.Verdict). length_in v (length (plain_copy base t))) (left_complete s.left h e)
 
-  pub summed_open : (d ≡ 0 → ⊥) → Answers.Incomplete ≡ length_of t
+  pub summed_open : (d ≡ 0 → ⊥) → Err Short ≡ length_of t
   summed_open e = ap (λ (v : layout.Verdict). length_in v (length (plain_copy base t))) (left_open s.left h e)

@@ -8,105 +8,66 @@ ghost use Rattle.layout.specs.Varint.{shortest};
 ghost use Rattle.layout.specs.Field.{wire_of};
 ghost use Rattle.layout.specs.Message.{body};
 ghost use Rattle.lengths.specs.Lengths.{reached};
-ghost use Rattle.copy_len.specs.CopyLen.{Goes, after_field, deepened, length_of};
+ghost use Rattle.copy_len.specs.CopyLen.{Goes, after_field, length_of};
 
-use lengths::{Extent, array_len, fixlen_len, float_array_len, no_place, scalar_len};
-use passing::{Found, header_at, no_value};
-use types::MAX_DEPTH;
+use lengths::{Extent, array_len, fixlen_len, float_array_len, scalar_len};
+use passing::{Stop, header_at};
+use types::{
+    MAX_DEPTH, T_FIXLEN, T_FIXLENARRAY, T_SEQUENCE_START, T_VARINT_SIGNED, T_VARINT_UNSIGNED,
+    T_VARINTARRAY_SIGNED, T_VARINTARRAY_UNSIGNED,
+};
 use varint::width;
 
-// The length of a message's plain copy; or the message is incomplete, or broken, with the number of bytes up to the offending one, which is
-// counted.
-#[derive(Clone, Copy)]
-pub enum Length {
-    Bytes(usize),
-    Incomplete,
-    Broken(usize),
-}
-
-// The place after a field, the depth there, and the length of the plain copy up to there; or the message ends within it; or the place after
-// the byte that breaks it.
-#[derive(Clone, Copy)]
-enum Next {
-    At(usize, u32, usize),
-    Short,
-    Broken(usize),
-}
-
-fn at_depth(extent: Extent, depth: u32) -> Next
-    ensures { result ≡ deepened depth extent }
+// What follows the header h: how far it goes, and the depth there. A close has one byte in the plain copy, whatever its id.
+fn body_at(t: &[u8], from: Extent, h: u64, depth: u32) -> Result<(Extent, u32), Stop>
+    requires { (from.at ≤ length t.now) × (from.len + length (shortest h) ≤ from.at) }
+    ensures { Goes t.now from.at (reached depth from.len (body base depth (h / 8) (wire_of (h % 8)) (drop from.at t.now)).outcome) result }
 {
-    match extent {
-        Extent::At(i, n) => Next::At(i, depth, n),
-        Extent::Short => Next::Short,
-        Extent::Broken(i) => Next::Broken(i),
-    }
-}
-
-// What follows the header h. A close has one byte in the plain copy, whatever its id.
-fn body_at(t: &[u8], at: usize, h: u64, depth: u32, len: usize) -> Next
-    requires { (at ≤ length t.now) × (len + length (shortest h) ≤ at) }
-    ensures { Goes t.now at (reached depth len (body base depth (h / 8) (wire_of (h % 8)) (drop at t.now)).outcome) result }
-{
-    let headed = len + width(h);
-    match h % 8 {
-        0 | 1 => at_depth(scalar_len(t, at, headed), depth),
-        2 => at_depth(fixlen_len(t, at, headed), depth),
-        3 | 4 => at_depth(array_len(t, at, headed), depth),
-        5 => at_depth(float_array_len(t, at, headed), depth),
-        6 => {
+    let Extent { at, len } = from;
+    let headed = Extent { at, len: len + width(h) };
+    match (h % 8) as u8 {
+        T_VARINT_UNSIGNED | T_VARINT_SIGNED => Ok((scalar_len(t, headed)?, depth)),
+        T_FIXLEN => Ok((fixlen_len(t, headed)?, depth)),
+        T_VARINTARRAY_UNSIGNED | T_VARINTARRAY_SIGNED => Ok((array_len(t, headed)?, depth)),
+        T_FIXLENARRAY => Ok((float_array_len(t, headed)?, depth)),
+        T_SEQUENCE_START => {
             if depth < MAX_DEPTH {
-                Next::At(at, depth + 1, headed)
+                Ok((headed, depth + 1))
             } else {
-                Next::Broken(at)
+                Err(Stop::Broken(at))
             }
         }
         _ => {
             if depth == 0 {
-                Next::Broken(at)
+                Err(Stop::Broken(at))
             } else {
-                Next::At(at, depth - 1, len + 1)
+                Ok((Extent { at, len: len + 1 }, depth - 1))
             }
         }
     }
 }
 
-fn field_at(t: &[u8], at: usize, depth: u32, len: usize) -> Next
-    requires { (at ≤ length t.now) × (len ≤ at) }
-    ensures { Goes t.now (at + 1) (after_field depth len (drop at t.now)) result }
+fn field_at(t: &[u8], from: Extent, depth: u32) -> Result<(Extent, u32), Stop>
+    requires { (from.at ≤ length t.now) × (from.len ≤ from.at) }
+    ensures { Goes t.now (from.at + 1) (after_field depth from.len (drop from.at t.now)) result }
 {
-    let found = header_at(t, at);
-    let Found::Value(h, i) = found else {
-        return at_depth(no_place(no_value(found)), depth);
-    };
-    body_at(t, i, h, depth, len)
+    let (h, at) = header_at(t, from.at)?;
+    body_at(t, Extent { at, len: from.len }, h, depth)
 }
 
-// The length of the plain copy of a message given whole.
-pub fn length_of(message: &[u8]) -> Length
+// The length of the plain copy of a message given whole; or the message is incomplete, or broken, with the number of bytes up to the
+// offending one, which is counted.
+pub fn length_of(message: &[u8]) -> Result<usize, Stop>
     ensures { result ≡ length_of message.now }
 {
-    let mut at = 0;
+    let mut reached = Extent { at: 0, len: 0 };
     let mut depth: u32 = 0;
-    let mut len: usize = 0;
-    while at < message.len() {
-        match field_at(message, at, depth, len) {
-            Next::At(i, d, n) => {
-                at = i;
-                depth = d;
-                len = n;
-            }
-            Next::Short => {
-                return Length::Incomplete;
-            }
-            Next::Broken(i) => {
-                return Length::Broken(i);
-            }
-        }
+    while reached.at < message.len() {
+        (reached, depth) = field_at(message, reached, depth)?;
     }
     if depth == 0 {
-        Length::Bytes(len)
+        Ok(reached.len)
     } else {
-        Length::Incomplete
+        Err(Stop::Short)
     }
 }

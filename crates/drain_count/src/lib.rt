@@ -3,31 +3,42 @@
 
 ghost use Rattle.std.specs.Prelude.{◌≡◌};
 ghost use Rattle.drain_count.specs.DrainCount.{drains_of};
+ghost use Rattle.drain_count.specs.declared.Uncounted.TheVariants.{Stopped};
 
-use copy_len::{Length, length_of};
+use copy_len::length_of;
 use drains::rounded_up;
+use passing::Stop;
 use types::Error;
 
-// How many drains, and the length of the copy; or the message is incomplete, or broken, with the number of bytes up to the offending one,
-// which is counted; or a buffer of no bytes is refused.
+// How many drains, and the length of the copy.
 #[derive(Clone, Copy)]
-pub enum Drains {
-    Count(usize, usize),
-    Incomplete,
-    Broken(usize),
+pub struct Drains {
+    pub count: usize,
+    pub len: usize,
+}
+
+// Why there is no number of drains: the message is incomplete, or broken; or a buffer of no bytes is refused.
+#[derive(Clone, Copy)]
+pub enum Uncounted {
+    Stopped(Stop),
     Refused(Error),
 }
 
+impl From<Stop> for Uncounted {
+    ghost from_gives = { λ s e. e ≡ Stopped s };
+
+    fn from(s: Stop) -> Uncounted {
+        Uncounted::Stopped(s)
+    }
+}
+
 // The copy is written from the buffer's first byte on, and drained when "full" is answered and once at the end where bytes are left.
-pub fn drains_of(message: &[u8], buffer: usize) -> Drains
+pub fn drains_of(message: &[u8], buffer: usize) -> Result<Drains, Uncounted>
     ensures { result ≡ drains_of message.now buffer }
 {
     if buffer == 0 {
-        return Drains::Refused(Error::NoBuffer);
+        return Err(Uncounted::Refused(Error::NoBuffer));
     }
-    match length_of(message) {
-        Length::Bytes(n) => Drains::Count(rounded_up(n, buffer), n),
-        Length::Incomplete => Drains::Incomplete,
-        Length::Broken(n) => Drains::Broken(n),
-    }
+    let len = length_of(message)?;
+    Ok(Drains { count: rounded_up(len, buffer), len })
 }

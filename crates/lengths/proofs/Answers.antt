@@ -1,11 +1,9 @@
 -- What an answer of passing or bodies says of the length: a value found, none found, a place found behind a word, and varints in a row.
-use Prim.Native.Nat.{ℕ, zero, suc, ◌+◌, ◌-◌, ◌*◌, ◌/◌, ◌%◌, ◌^◌, ◌≤◌, ◌<◌}
+use Prim.Native.Nat.{ℕ, suc, ◌+◌, ◌-◌, ◌*◌, ◌/◌, ◌%◌, ◌^◌, ◌≤◌, ◌<◌}
 use mathlib.Core.Path.{◌≡◌, refl, sym, ap, ◌∙◌, subst}
 use mathlib.Core.Bool.{true}
-use mathlib.Core.List.{List, [], ◌∷◌, ◌++◌}
+use mathlib.Core.List.{List, ◌++◌}
 use native.Mathlib.Omega.{arith}
-use types.Run.{OneOf, miss}
-use denote.Enum.Declared.{tag_of}
 use lib.Dec.{leb}
 use lib.ListN.{length, drop, get_or, length-append, length-drop}
 use Rattle.layout.specs.Limits.{base}
@@ -22,77 +20,57 @@ use Rattle.laws.proofs.Parts.{checked_parses}
 use Rattle.laws.proofs.Field.{subtype-number}
 use Rattle.laws.proofs.Varint.{varint_parses}
 use Rattle.shortest.proofs.Spans.{all_bytes, bytes_drop}
-use Rattle.passing.specs.declared.Found.{Found}
-use Rattle.passing.specs.declared.Found.TheVariants as Founds
-use Rattle.passing.specs.declared.Land.{Land}
-use Rattle.passing.specs.declared.Land.TheVariants as Lands
-use Rattle.passing.specs.Passing.{Reaches, Passes, no_value}
-use Rattle.passing.specs.contracts.Found as found
-use Rattle.passing.specs.contracts.Land as land
+use Rattle.std.specs.Prelude.{Result, Ok, Err}
+use Rattle.passing.specs.declared.Stop.{Stop}
+use Rattle.passing.specs.declared.Stop.TheVariants.{Short, Broken}
+use Rattle.passing.specs.Passing.{Reaches, Passes}
+use Rattle.passing.proofs.Ends.{before, stopped}
 use Rattle.bodies.specs.Bodies.{deep, after_word, after_floats}
 use Rattle.shortest.specs.Own.{Number, Ends}
 use Rattle.shortest.proofs.Varints.{one_ends, two_ends}
 use Rattle.varint.proofs.Shortest.{length_some}
 use Rattle.lengths.specs.declared.Extent.{Extent}
-use Rattle.lengths.specs.declared.Extent.TheVariants as Extents
-use Rattle.lengths.specs.Lengths.{sized, onward, varint_length, varints, field_length, Point, point_of, reached, pointed, extent_in, Sizes, extent_past, Finishes, BodySizes, no_place}
-use Rattle.lengths.specs.contracts.Extent as extent
+use Rattle.lengths.specs.Lengths.{sized, onward, varint_length, varints, field_length, Point, point_of, reached, pointed, Sizes, Finishes, BodySizes}
 use Rattle.lengths.proofs.Outcomes.{unsigned_reached, signed-reached, array_reached, unzigzagged-sized, Said, word-length, floats_length}
 
 -- ---- answers
 
+abbrev pub extent : ℕ → ℕ → Extent
+extent at len = record { at = at; len = len }
+
 -- at a depth that it keeps
-finishes : {t : List ℕ} {at d : ℕ} {o : Outcome ℕ} {p : Outcome Point} → p ≡ pointed d o → (r : Extent) → Sizes t at o r → Finishes t at d p r
-finishes {t} {at} {d} e r s = record { same = e ∙ ap (pointed d) s.same; past = s.past }
+finishes : {t : List ℕ} {at d : ℕ} {o : Outcome ℕ} {p : Outcome Point} → p ≡ pointed d o → (r : Result Extent Stop) → Sizes t at o r → Finishes t at d p r
+unfolding pointed
+finishes {d = d} e (Ok x) s = record { same = e ∙ ap (pointed d) s.same; past = s.past }
+finishes {d = d} e (Err Short) s = record { same = e ∙ ap (pointed d) s.same; past = tt }
+finishes {d = d} e (Err (Broken i)) s = record { same = e ∙ ap (pointed d) s.same; past = s.past }
 
--- the `else` of a place that breaks
-pub else_nowhere : (l : Land) → OneOf (0 ∷ 1 ∷ []) (tag_of land.the_type l) → Extents.Short ≡ no_place l
-else_nowhere (Lands.At i) h = refl
-else_nowhere Lands.Short h = refl
-else_nowhere (Lands.Broken i) h = absurd (miss (0 ∷ 1 ∷ []) 2 tt h)
-
--- what is past a place is past one before it
-extent_before : (t : List ℕ) (at i : ℕ) (r : Extent) → at ≤ i → extent_past t i r → extent_past t at r
-extent_before t at i (Extents.At j n) h p = (omega (arith, p.0), p.1, p.2)
-extent_before t at i Extents.Short h p = tt
-extent_before t at i (Extents.Broken j) h p = p
-
--- no value found: nothing is counted, and nothing follows
 module _ {t : List ℕ} {at : ℕ} {o : Outcome ℕ} where
-  pub else_sizes : (f : Found) (size : ℕ → ℕ) (n : ℕ) → OneOf (1 ∷ 2 ∷ []) (tag_of found.the_type f) → Reaches t at o f → Sizes t at (sized size n o) (no_place (no_value f))
+  -- no value found: nothing is counted, and nothing follows
+  pub stops_sizes : (e : Stop) (size : ℕ → ℕ) (n : ℕ) → Reaches t at o (Err e) → Sizes t at (sized size n o) (Err e)
   unfolding sized
-  else_sizes (Founds.Value v i) size n h r = absurd (miss (1 ∷ 2 ∷ []) 0 tt h)
-  else_sizes Founds.Short size n h r = record { same = ap (sized size n) r.same; past = tt }
-  else_sizes (Founds.Broken i) size n h r = record { same = ap (sized size n) r.same; past = r.past }
+  stops_sizes e size n r = stopped e (sized size n) refl (λ bs. refl) r
 
-  else_given : (f : Found) (k : ℕ → List ℕ → Reading Field) (d n : ℕ) → OneOf (1 ∷ 2 ∷ []) (tag_of found.the_type f) → Reaches t at o f →
-      Finishes t at d (reached d n (given o k).outcome) (no_place (no_value f))
-  unfolding reached given pointed
-  else_given (Founds.Value v i) k d n h r = absurd (miss (1 ∷ 2 ∷ []) 0 tt h)
-  else_given Founds.Short k d n h r = record { same = ap (λ (o : Outcome ℕ). reached d n (given o k).outcome) r.same; past = tt }
-  else_given (Founds.Broken i) k d n h r = record { same = ap (λ (o : Outcome ℕ). reached d n (given o k).outcome) r.same; past = r.past }
+  stops_given : (e : Stop) (k : ℕ → List ℕ → Reading Field) (d n : ℕ) → Reaches t at o (Err e) → Finishes t at d (reached d n (given o k).outcome) (Err e)
+  unfolding reached given
+  stops_given e k d n r = stopped e (λ (o : Outcome ℕ). reached d n (given o k).outcome) refl (λ bs. refl) r
 
   -- a value, and what follows it
-  then_given : (f : Found) (v i : ℕ) (k : ℕ → List ℕ → Reading Field) (d n : ℕ) (r : Extent) → f ≡ Founds.Value v i → Reaches t at o f →
+  then_given : {v i : ℕ} (k : ℕ → List ℕ → Reading Field) (d n : ℕ) (r : Result Extent Stop) → Reaches t at o (Ok (v, i)) →
       Finishes t i d (reached d n (k v (drop i t)).outcome) r → Finishes t at d (reached d n (given o k).outcome) r
   unfolding given
-  then_given f v i k d n r e q s =
-      let g : Reaches t at o (Founds.Value v i) = subst (Reaches t at o) e q in
-      record {
-        same = ap (λ (o : Outcome ℕ). reached d n (given o k).outcome) g.same ∙ s.same;
-        past = extent_before t at i r (omega (arith, g.past.0)) s.past;
-      }
+  then_given k d n r q s =
+      before r (λ e h. (omega (arith, q.past.0, h.0), h.1, h.2)) (ap (λ (o : Outcome ℕ). reached d n (given o k).outcome) q.same) s
 
 -- no place found: likewise
-else_place : {t : List ℕ} {at : ℕ} (o : Outcome Field) (l : Land) (d n : ℕ) → OneOf (1 ∷ 2 ∷ []) (tag_of land.the_type l) → Passes t at (λ d. deep d o) l → Finishes t at d (reached d n o) (no_place l)
-unfolding reached deep pointed
-else_place o (Lands.At i) d n h p = absurd (miss (1 ∷ 2 ∷ []) 0 tt h)
-else_place (whole x rest) Lands.Short d n h p = absurd (let e = p.same d in let z : ◌≡◌ {A = ℕ} 0 1 = cc in omega arith)
-else_place short Lands.Short d n h p = record { same = refl; past = tt }
-else_place (broken rest) Lands.Short d n h p = absurd (let e = p.same d in let z : ◌≡◌ {A = ℕ} 0 1 = cc in omega arith)
-else_place (whole x rest) (Lands.Broken i) d n h p = absurd (let e = p.same d in let z : ◌≡◌ {A = ℕ} 0 1 = cc in omega arith)
-else_place short (Lands.Broken i) d n h p = absurd (let e = p.same d in let z : ◌≡◌ {A = ℕ} 0 1 = cc in omega arith)
-else_place {t} (broken rest) (Lands.Broken i) d n h p = let e = p.same d in let r : rest ≡ drop i t = cc in record { same = ap broken r; past = p.past }
+stops_place : {t : List ℕ} {at : ℕ} (o : Outcome Field) (e : Stop) (d n : ℕ) → Passes t at (λ d. deep d o) (Err e) → Finishes t at d (reached d n o) (Err e)
+unfolding reached deep
+stops_place (whole x rest) Short d n p = absurd (let e = (p d).same in let z : ◌≡◌ {A = ℕ} 0 1 = cc in omega arith)
+stops_place short Short d n p = record { same = refl; past = tt }
+stops_place (broken rest) Short d n p = absurd (let e = (p d).same in let z : ◌≡◌ {A = ℕ} 0 1 = cc in omega arith)
+stops_place (whole x rest) (Broken i) d n p = absurd (let e = (p d).same in let z : ◌≡◌ {A = ℕ} 0 1 = cc in omega arith)
+stops_place short (Broken i) d n p = absurd (let e = (p d).same in let z : ◌≡◌ {A = ℕ} 0 1 = cc in omega arith)
+stops_place {t} (broken rest) (Broken i) d n p = let e = (p d).same in let r : rest ≡ drop i t = cc in record { same = ap broken r; past = (p d).past }
 
 -- a place found: a field, which keeps the depth
 there : (d : ℕ) (o : Outcome Field) (rest : List ℕ) → deep d o ≡ whole d rest → (x : Field) × (o ≡ whole x rest) × (depth_after d x ≡ d)
@@ -113,12 +91,11 @@ abbrev Fits : List ℕ → Type 0
 Fits t = (i : ℕ) → get_or t i 0 < 256
 
 -- where a varint's value is read, that has at least as many bytes as it needs
-pub behind : {t : List ℕ} {at len n : ℕ} {p : List ℕ → Outcome ℕ} {ok : ℕ → Type 0} {f : Found} {v i : ℕ} → Fits t → Parses p ok shortest → len ≤ at →
-    f ≡ Founds.Value v i → Reaches t at (p (drop at t)) f → n ≡ varint_length v → (len + n ≤ i) × (i ≤ length t)
-behind {t} {at} {len} {n} {p} {ok} {f} {v} {i} a reads h e q y =
-    let g : Reaches t at (p (drop at t)) (Founds.Value v i) = subst (Reaches t at (p (drop at t))) e q in
-    let s = (reads.back (drop at t) v (drop i t) (bytes_drop at t (all_bytes t a)) g.same).shorter in
-    (omega (arith, length-drop at t, length-drop i t, g.past.0, g.past.1), g.past.1)
+pub behind : {t : List ℕ} {at len n : ℕ} {p : List ℕ → Outcome ℕ} {ok : ℕ → Type 0} {v i : ℕ} → Fits t → Parses p ok shortest → len ≤ at →
+    Reaches t at (p (drop at t)) (Ok (v, i)) → n ≡ varint_length v → (len + n ≤ i) × (i ≤ length t)
+behind {t} {at} {len} {n} {p} {ok} {v} {i} a reads h q y =
+    let s = (reads.back (drop at t) v (drop i t) (bytes_drop at t (all_bytes t a)) q.same).shorter in
+    (omega (arith, length-drop at t, length-drop i t, q.past.0, q.past.1), q.past.1)
 
 -- values and counts
 pub value_reads : Parses (varint base) (λ n. n < 2 ^ base.bits) shortest
@@ -143,18 +120,17 @@ own_past h e g = (omega (arith, (own_value h e g).2), e.inside)
 
 module _ {t : List ℕ} {at len : ℕ} where
   -- by its value
-  pub value_sizes : {f : Found} {v i n : ℕ} → Fits t → len ≤ at → f ≡ Founds.Value v i → Reaches t at (varint base (drop at t)) f → n ≡ varint_length v →
-      Sizes t at (sized varint_length len (varint base (drop at t))) (Extents.At i (len + n))
+  pub value_sizes : {v i n : ℕ} → Fits t → len ≤ at → Reaches t at (varint base (drop at t)) (Ok (v, i)) → n ≡ varint_length v →
+      Sizes t at (sized varint_length len (varint base (drop at t))) (Ok (extent i (len + n)))
   unfolding sized
-  value_sizes {f} {v} {i} {n} a h e q y =
-      let g : Reaches t at (varint base (drop at t)) (Founds.Value v i) = subst (Reaches t at (varint base (drop at t))) e q in
+  value_sizes {v} {i} {n} a h q y =
       record {
-        same = ap (sized varint_length len) g.same ∙ ap (λ (n : ℕ). whole (len + n) (drop i t)) (sym y);
-        past = (omega (arith, g.past.0), g.past.1, (behind a value_reads h e q y).0);
+        same = ap (sized varint_length len) q.same ∙ ap (λ (n : ℕ). whole (len + n) (drop i t)) (sym y);
+        past = (omega (arith, q.past.0), q.past.1, (behind a value_reads h q y).0);
       }
 
   pub own_sizes : {end n : ℕ} → (at ≤ length t) × (len ≤ at) → Ends t at Number end → 0 < end → n ≡ end - at →
-      Sizes t at (sized varint_length len (varint base (drop at t))) (Extents.At end (len + n))
+      Sizes t at (sized varint_length len (varint base (drop at t))) (Ok (extent end (len + n)))
   unfolding sized
   own_sizes {end} {n} p e g y =
       let o = own_value p.0 e g in
@@ -165,15 +141,15 @@ module _ {t : List ℕ} {at len : ℕ} where
       }
 
   -- of one byte, and of two
-  pub one_sizes : (at ≤ length t) × (len ≤ at) → at < length t → get_or t at 0 < 128 → Sizes t at (sized varint_length len (varint base (drop at t))) (Extents.At (at + 1) (len + 1))
+  pub one_sizes : (at ≤ length t) × (len ≤ at) → at < length t → get_or t at 0 < 128 → Sizes t at (sized varint_length len (varint base (drop at t))) (Ok (extent (at + 1) (len + 1)))
   one_sizes p h l = own_sizes p (one_ends t at at refl h l) (omega arith) (omega arith)
 
   pub two_sizes : (at ≤ length t) × (len ≤ at) → Fits t → 128 ≤ get_or t at 0 → at + 1 < length t → 0 < get_or t (at + 1) 0 → get_or t (at + 1) 0 < 128 →
-      Sizes t at (sized varint_length len (varint base (drop at t))) (Extents.At (at + 2) (len + 2))
+      Sizes t at (sized varint_length len (varint base (drop at t))) (Ok (extent (at + 2) (len + 2)))
   two_sizes p a l h g k = own_sizes p (two_ends t at l (a at) h g k) (omega arith) (omega arith)
 
   -- types 0 and 1
-  pub as_scalars : (r : Extent) → Sizes t at (sized varint_length len (varint base (drop at t))) r → BodySizes t at t_unsigned len r × BodySizes t at t_signed len r
+  pub as_scalars : (r : Result Extent Stop) → Sizes t at (sized varint_length len (varint base (drop at t))) r → BodySizes t at t_unsigned len r × BodySizes t at t_signed len r
   as_scalars r s =
       (λ id d k e. finishes (unsigned_reached d id k len (drop at t) e) r s, λ id d k e. finishes (signed-reached d id k len (drop at t) e) r s)
 
@@ -188,41 +164,39 @@ said-word id w x bs rest a (known s) e q =
     subst (λ (v : ℕ). Said (length (header id t_fixlen) + varint_length v) (w / 8) bs rest x) v (word-length id x bs rest a (w / 8) s q)
 said-word id w x bs rest a unknown e q = absurd (let z : ◌≡◌ {A = ℕ} 0 1 = cc in omega arith)
 
-module _ {t : List ℕ} {at len n : ℕ} {f : Found} {w i : ℕ} (a : Fits t) (h : len ≤ at) (e : f ≡ Founds.Value w i) (q : Reaches t at (varint base (drop at t)) f) (y : n ≡ varint_length w)
-    {l : Land} {j : ℕ} (g : l ≡ Lands.At j) (p : (id : ℕ) → Passes t i (after_word id w (drop i t)) l) where
-  passes : (id : ℕ) → Passes t i (λ d. deep d (fixlen base id (w / 8) (subtype_of (w % 8)) (drop i t)).outcome) (Lands.At j)
+module _ {t : List ℕ} {at len n : ℕ} {w i : ℕ} (a : Fits t) (h : len ≤ at) (q : Reaches t at (varint base (drop at t)) (Ok (w, i))) (y : n ≡ varint_length w)
+    {j : ℕ} (p : (id : ℕ) → Passes t i (after_word id w (drop i t)) (Ok j)) where
+  passes : (id : ℕ) → Passes t i (λ d. deep d (fixlen base id (w / 8) (subtype_of (w % 8)) (drop i t)).outcome) (Ok j)
   unfolding after_word
-  passes id = subst (Passes t i (after_word id w (drop i t))) g (p id)
+  passes id = p id
 
   said : (id d : ℕ) → (x : Field) × ((fixlen base id (w / 8) (subtype_of (w % 8)) (drop i t)).outcome ≡ whole x (drop j t)) × (depth_after d x ≡ d)
       × Said (length (header id t_fixlen) + varint_length w) (w / 8) (drop i t) (drop j t) x
   said id d =
-      let o = there d (fixlen base id (w / 8) (subtype_of (w % 8)) (drop i t)).outcome (drop j t) ((passes id).same d) in
+      let o = there d (fixlen base id (w / 8) (subtype_of (w % 8)) (drop i t)).outcome (drop j t) (passes id d).same in
       (o.0, o.1, o.2, said-word id w o.0 (drop i t) (drop j t) (bytes_drop i t (all_bytes t a)) (subtype_of (w % 8)) refl o.1)
 
   pub fixlen_behind : (len + n + w / 8 ≤ j) × (j ≤ length t)
-  fixlen_behind = (omega (arith, (behind a value_reads h e q y).0, (said 0 0).3.1, (passes 0).past.0, (passes 0).past.1, length-drop i t, length-drop j t), (passes 0).past.1)
+  fixlen_behind = (omega (arith, (behind a value_reads h q y).0, (said 0 0).3.1, (passes 0 0).past.0, (passes 0 0).past.1, length-drop i t, length-drop j t), (passes 0 0).past.1)
 
-  pub fixlen_sizes : BodySizes t at t_fixlen len (Extents.At j (len + n + w / 8))
-  unfolding body pointed
+  pub fixlen_sizes : BodySizes t at t_fixlen len (Ok (extent j (len + n + w / 8)))
+  unfolding body
   fixlen_sizes id d k x =
       let s = said id d in
-      then_given f w i (λ w rest. fixlen base id (w / 8) (subtype_of (w % 8)) rest) d k _ e q
+      then_given (λ w rest. fixlen base id (w / 8) (subtype_of (w % 8)) rest) d k _ q
       (record {
         same = comes d k (len + n + w / 8) _ s.0 (drop j t) s.1 s.2 (omega (arith, s.3.0));
-        past = ((passes id).past.0, (passes id).past.1, fixlen_behind.0);
+        past = ((passes id d).past.0, (passes id d).past.1, fixlen_behind.0);
       })
 
 module _ {t : List ℕ} {at len : ℕ} where
-  pub fixlen_else : (f : Found) → OneOf (1 ∷ 2 ∷ []) (tag_of found.the_type f) → Reaches t at (varint base (drop at t)) f → BodySizes t at t_fixlen len (no_place (no_value f))
+  pub fixlen_stops : (e : Stop) → Reaches t at (varint base (drop at t)) (Err e) → BodySizes t at t_fixlen len (Err e)
   unfolding body
-  fixlen_else f h q id d k n = else_given f (λ w rest. fixlen base id (w / 8) (subtype_of (w % 8)) rest) d k h q
+  fixlen_stops e q id d k n = stops_given e (λ w rest. fixlen base id (w / 8) (subtype_of (w % 8)) rest) d k q
 
-  pub fixlen_nowhere : {f : Found} {w i : ℕ} → f ≡ Founds.Value w i → Reaches t at (varint base (drop at t)) f → (l : Land) → OneOf (1 ∷ 2 ∷ []) (tag_of land.the_type l) →
-      ((id : ℕ) → Passes t i (after_word id w (drop i t)) l) → BodySizes t at t_fixlen len (no_place l)
+  pub fixlen_nowhere : {w i : ℕ} → Reaches t at (varint base (drop at t)) (Ok (w, i)) → (e : Stop) → ((id : ℕ) → Passes t i (after_word id w (drop i t)) (Err e)) → BodySizes t at t_fixlen len (Err e)
   unfolding body after_word
-  fixlen_nowhere {f} {w} {i} e q l h p id d k n =
-      then_given f w i (λ w rest. fixlen base id (w / 8) (subtype_of (w % 8)) rest) d k _ e q (else_place _ l d k h (p id))
+  fixlen_nowhere q e p id d k n = then_given (λ w rest. fixlen base id (w / 8) (subtype_of (w % 8)) rest) d k _ q (stops_place _ e d k (p id))
 
 -- ---- types 3 and 4
 
@@ -230,79 +204,72 @@ three : (xs ys zs : List ℕ) → length (xs ++ (ys ++ zs)) ≡ length xs + (len
 three xs ys zs = length-append xs (ys ++ zs) ∙ ap (λ (n : ℕ). length xs + n) (length-append ys zs)
 
 module _ {t : List ℕ} {at len : ℕ} where
-  pub array_sizes : {f : Found} {c i m : ℕ} → f ≡ Founds.Value c i → Reaches t at (count_of base (drop at t)) f → m ≡ varint_length c → (r : Extent) → Sizes t i (varints base (len + m) c (drop i t)) r →
+  pub array_sizes : {c i m : ℕ} → Reaches t at (count_of base (drop at t)) (Ok (c, i)) → m ≡ varint_length c → (r : Result Extent Stop) → Sizes t i (varints base (len + m) c (drop i t)) r →
       BodySizes t at t_unsigneds len r × BodySizes t at t_signeds len r
   unfolding body field_bytes depth_after
-  array_sizes {f} {c} {i} {m} e q y r s' =
+  array_sizes {c} {i} {m} q y r s' =
       let s : Sizes t i (varints base (len + varint_length c) c (drop i t)) r = subst (λ (n : ℕ). Sizes t i (varints base (len + n) c (drop i t)) r) y s' in (
         λ id d k n.
-            then_given f c i _ d k r e q
+            then_given _ d k r q
             (finishes
             (array_reached shortest (varint base) (Unsigned id) (λ n bs. refl) d (unsigned_array id) (λ xs. refl) k len (length (header id t_unsigneds))
             (λ xs. three (header id t_unsigneds) (shortest (length xs)) (each shortest xs)) n c (drop i t))
             r s),
         λ id d k n.
-            then_given f c i _ d k r e q
+            then_given _ d k r q
             (finishes
             (array_reached (λ z. shortest (zigzag z)) (signed_varint base) (Signed id) (λ n bs. unzigzagged-sized n (varint base bs)) d (signed_array id) (λ zs. refl) k len (length (header id t_signeds))
             (λ zs. three (header id t_signeds) (shortest (length zs)) (each (λ z. shortest (zigzag z)) zs)) n c (drop i t))
             r s),
       )
 
-  pub array_else : (f : Found) (r : Extent) → OneOf (1 ∷ 2 ∷ []) (tag_of found.the_type f) → Reaches t at (count_of base (drop at t)) f → r ≡ no_place (no_value f) →
-      BodySizes t at t_unsigneds len r × BodySizes t at t_signeds len r
+  pub array_stops : (e : Stop) → Reaches t at (count_of base (drop at t)) (Err e) → BodySizes t at t_unsigneds len (Err e) × BodySizes t at t_signeds len (Err e)
   unfolding body
-  array_else f r h q e =
-      subst (λ (r : Extent). BodySizes t at t_unsigneds len r × BodySizes t at t_signeds len r) (sym e)
-      (λ id d k n. else_given f _ d k h q, λ id d k n. else_given f _ d k h q)
+  array_stops e q = (λ id d k n. stops_given e _ d k q, λ id d k n. stops_given e _ d k q)
 
--- of n elements from `at` on, `left` stand from i on, and the plain copy has `sum` bytes up to there
-pub record Counted (t : List ℕ) (at len n i sum left : ℕ) : Type 0 where
-  pub from : at ≤ i
-  pub to : i ≤ length t
-  pub small : sum ≤ i
-  pub same : varints base len n (drop at t) ≡ varints base sum left (drop i t)
+-- of n elements from a place on, `left` stand from the one that was reached on
+pub record Counted (t : List ℕ) (from : Extent) (n : ℕ) (to : Extent) (left : ℕ) : Type 0 where
+  pub after : from.at ≤ to.at
+  pub inside : to.at ≤ length t
+  pub small : to.len ≤ to.at
+  pub same : varints base from.len n (drop from.at t) ≡ varints base to.len left (drop to.at t)
 
-pub counted_start : (t : List ℕ) (at len n : ℕ) → at ≤ length t → len ≤ at → Counted t at len n at len n
-counted_start t at len n h l = record { from = omega arith; to = h; small = l; same = refl }
+pub counted_start : (t : List ℕ) (from : Extent) (n : ℕ) → (from.at ≤ length t) × (from.len ≤ from.at) → Counted t from n from (n - 0)
+counted_start t from n h =
+    let e : n ≡ n - 0 = omega arith in
+    record { after = omega arith; inside = h.0; small = h.1; same = ap (λ (m : ℕ). varints base from.len m (drop from.at t)) e }
 
-stopped : (t : List ℕ) (r : Extent) (k : ℕ → List ℕ → Outcome ℕ) → OneOf (1 ∷ 2 ∷ []) (tag_of extent.the_type r) → onward (extent_in t r) k ≡ extent_in t r
-unfolding onward
-stopped t (Extents.At i n) k h = absurd (miss (1 ∷ 2 ∷ []) 0 tt h)
-stopped t Extents.Short k h = refl
-stopped t (Extents.Broken i) k h = refl
-
-one_more : (sum left : ℕ) (bs : List ℕ) → 0 < left → varints base sum left bs ≡ onward (sized varint_length sum (varint base bs)) (λ m rest. varints base m (left - 1) rest)
+-- after k of them
+one_more : (sum n k : ℕ) (bs : List ℕ) → k < n → varints base sum (n - k) bs ≡ onward (sized varint_length sum (varint base bs)) (λ m rest. varints base m (n - (k + 1)) rest)
 unfolding varints
-one_more sum zero bs h = absurd (omega arith)
-one_more sum (suc m) bs h =
-    let e : m ≡ suc m - 1 = omega arith in
-    ap (λ (k : ℕ). onward (sized varint_length sum (varint base bs)) (λ m rest. varints base m k rest)) e
+one_more sum n k bs h =
+    let e : n - k ≡ suc (n - (k + 1)) = omega arith in
+    ap (λ (m : ℕ). varints base sum m bs) e
 
-module _ {t : List ℕ} {at len n i sum left : ℕ} (s : Counted t at len n i sum left) (h : 0 < left) (r : Extent) (q : Sizes t i (sized varint_length sum (varint base (drop i t))) r) where
-  turned : varints base len n (drop at t) ≡ onward (extent_in t r) (λ m rest. varints base m (left - 1) rest)
-  turned = s.same ∙ one_more sum left (drop i t) h ∙ ap (λ (o : Outcome ℕ). onward o (λ m rest. varints base m (left - 1) rest)) q.same
+module _ {t : List ℕ} {from to : Extent} {n k : ℕ} (s : Counted t from n to (n - k)) (h : k < n) where
+  turned : varints base from.len n (drop from.at t) ≡ onward (sized varint_length to.len (varint base (drop to.at t))) (λ m rest. varints base m (n - (k + 1)) rest)
+  turned = s.same ∙ one_more to.len n k (drop to.at t) h
 
-  pub counted_next : {j m : ℕ} → r ≡ Extents.At j m → Counted t at len n j m (left - 1)
+  pub counted_next : {next : Extent} → Sizes t to.at (sized varint_length to.len (varint base (drop to.at t))) (Ok next) → Counted t from n next (n - (k + 1))
   unfolding onward
-  counted_next {j} {m} e =
-      let p : extent_past t i (Extents.At j m) = subst (extent_past t i) e q.past in
+  counted_next q =
       record {
-        from = omega (arith, s.from, p.0);
-        to = p.1;
-        small = p.2;
-        same = turned ∙ ap (λ (r : Extent). onward (extent_in t r) (λ m rest. varints base m (left - 1) rest)) e;
+        after = omega (arith, s.after, q.past.0);
+        inside = q.past.1;
+        small = q.past.2;
+        same = turned ∙ ap (λ (o : Outcome ℕ). onward o (λ m rest. varints base m (n - (k + 1)) rest)) q.same;
       }
 
   -- no element found: nothing follows
-  pub counted_else : OneOf (1 ∷ 2 ∷ []) (tag_of extent.the_type r) → Sizes t at (varints base len n (drop at t)) r
-  counted_else g = record { same = turned ∙ stopped t r (λ m rest. varints base m (left - 1) rest) g; past = extent_before t at i r s.from q.past }
+  pub counted_stops : (e : Stop) → Sizes t to.at (sized varint_length to.len (varint base (drop to.at t))) (Err e) → Sizes t from.at (varints base from.len n (drop from.at t)) (Err e)
+  unfolding onward
+  counted_stops e q = before (Err e) (λ x h. h) turned (stopped e (λ (o : Outcome ℕ). onward o (λ m rest. varints base m (n - (k + 1)) rest)) refl (λ bs. refl) q)
 
-pub counted_end : {t : List ℕ} {at len n i sum left : ℕ} → Counted t at len n i sum left → left ≤ 0 → Sizes t at (varints base len n (drop at t)) (Extents.At i sum)
+pub counted_end : {t : List ℕ} {from to : Extent} {n k : ℕ} → Counted t from n to (n - k) → n ≤ k → Sizes t from.at (varints base from.len n (drop from.at t)) (Ok to)
 unfolding varints
-counted_end {t} {at} {len} {n} {i} {sum} {left} s h =
-    let e : left ≡ 0 = omega arith in
-    record { same = s.same ∙ ap (λ (k : ℕ). varints base sum k (drop i t)) e; past = (s.from, s.to, s.small) }
+counted_end {t} {from} {to} {n} {k} s h =
+    let e : n - k ≡ 0 = omega arith in
+    record { same = s.same ∙ ap (λ (m : ℕ). varints base to.len m (drop to.at t)) e; past = (s.after, s.inside, s.small) }
 
 -- ---- type 5
 
@@ -314,47 +281,47 @@ said_floats id c w x bs rest a (known s) e q =
     subst (λ (v : ℕ). Said (length (header id t_floats) + (varint_length c + varint_length v)) (c * (w / 8)) bs rest x) v (floats_length id x bs rest a c (w / 8) s q)
 said_floats id c w x bs rest a unknown e q = absurd (let z : ◌≡◌ {A = ℕ} 0 1 = cc in omega arith)
 
-module _ {t : List ℕ} {at len : ℕ} {f : Found} {c i : ℕ} (e : f ≡ Founds.Value c i) (q : Reaches t at (count_of base (drop at t)) f) where
-  pub floats_no_word : (g : Found) → OneOf (1 ∷ 2 ∷ []) (tag_of found.the_type g) → Reaches t i (varint base (drop i t)) g → BodySizes t at t_floats len (no_place (no_value g))
+module _ {t : List ℕ} {at len : ℕ} {c i : ℕ} (q : Reaches t at (count_of base (drop at t)) (Ok (c, i))) where
+  pub floats_no_word : (e : Stop) → Reaches t i (varint base (drop i t)) (Err e) → BodySizes t at t_floats len (Err e)
   unfolding body
-  floats_no_word g h u id d k n = then_given f c i _ d k _ e q (else_given g _ d k h u)
+  floats_no_word e u id d k n = then_given _ d k _ q (stops_given e _ d k u)
 
-  module _ {g : Found} {w j : ℕ} (b : g ≡ Founds.Value w j) (u : Reaches t i (varint base (drop i t)) g) where
-    pub floats_nowhere : (l : Land) → OneOf (1 ∷ 2 ∷ []) (tag_of land.the_type l) → ((id : ℕ) → Passes t j (after_floats id c w (drop j t)) l) → BodySizes t at t_floats len (no_place l)
+  module _ {w j : ℕ} (u : Reaches t i (varint base (drop i t)) (Ok (w, j))) where
+    pub floats_nowhere : (e : Stop) → ((id : ℕ) → Passes t j (after_floats id c w (drop j t)) (Err e)) → BodySizes t at t_floats len (Err e)
     unfolding body after_floats
-    floats_nowhere l h p id d k n = then_given f c i _ d k _ e q (then_given g w j _ d k _ b u (else_place _ l d k h (p id)))
+    floats_nowhere e p id d k n = then_given _ d k _ q (then_given _ d k _ u (stops_place _ e d k (p id)))
 
-    module _ {n₁ n₂ : ℕ} (a : Fits t) (h : len ≤ at) (y₁ : n₁ ≡ varint_length c) (y₂ : n₂ ≡ varint_length w) {l : Land} {m : ℕ} (y : l ≡ Lands.At m) (p : (id : ℕ) → Passes t j (after_floats id c w (drop j t)) l) where
-      floats_pass : (id : ℕ) → Passes t j (λ d. deep d (float_array_of id c (w / 8) (subtype_of (w % 8)) (drop j t)).outcome) (Lands.At m)
+    module _ {n₁ n₂ : ℕ} (a : Fits t) (h : len ≤ at) (y₁ : n₁ ≡ varint_length c) (y₂ : n₂ ≡ varint_length w) {m : ℕ} (p : (id : ℕ) → Passes t j (after_floats id c w (drop j t)) (Ok m)) where
+      floats_pass : (id : ℕ) → Passes t j (λ d. deep d (float_array_of id c (w / 8) (subtype_of (w % 8)) (drop j t)).outcome) (Ok m)
       unfolding after_floats
-      floats_pass id = subst (Passes t j (after_floats id c w (drop j t))) y (p id)
+      floats_pass id = p id
 
       floats_said : (id d : ℕ) → (x : Field) × ((float_array_of id c (w / 8) (subtype_of (w % 8)) (drop j t)).outcome ≡ whole x (drop m t)) × (depth_after d x ≡ d)
           × Said (length (header id t_floats) + (varint_length c + varint_length w)) (c * (w / 8)) (drop j t) (drop m t) x
       floats_said id d =
-          let o = there d (float_array_of id c (w / 8) (subtype_of (w % 8)) (drop j t)).outcome (drop m t) ((floats_pass id).same d) in
+          let o = there d (float_array_of id c (w / 8) (subtype_of (w % 8)) (drop j t)).outcome (drop m t) (floats_pass id d).same in
           (o.0, o.1, o.2, said_floats id c w o.0 (drop j t) (drop m t) (bytes_drop j t (all_bytes t a)) (subtype_of (w % 8)) refl o.1)
 
       -- the count and the word, and then the floats
       pub floats_behind : (len + n₁ + n₂ ≤ j) × (c * (w / 8) ≤ m - j) × (j ≤ m) × (m ≤ length t)
       floats_behind = (
-        (behind a value_reads (behind a count_reads h e q y₁).0 b u y₂).0,
-        omega (arith, (floats_said 0 0).3.1, (floats_pass 0).past.0, (floats_pass 0).past.1, length-drop j t, length-drop m t),
-        (floats_pass 0).past.0,
-        (floats_pass 0).past.1,
+        (behind a value_reads (behind a count_reads h q y₁).0 u y₂).0,
+        omega (arith, (floats_said 0 0).3.1, (floats_pass 0 0).past.0, (floats_pass 0 0).past.1, length-drop j t, length-drop m t),
+        (floats_pass 0 0).past.0,
+        (floats_pass 0 0).past.1,
       )
 
-      pub floats_sizes : BodySizes t at t_floats len (Extents.At m (len + n₁ + n₂ + c * (w / 8)))
-      unfolding body pointed
+      pub floats_sizes : BodySizes t at t_floats len (Ok (extent m (len + n₁ + n₂ + c * (w / 8))))
+      unfolding body
       floats_sizes id d k x =
           let s = floats_said id d in
-          then_given f c i _ d k _ e q
-          (then_given g w j (λ w rest. float_array_of id c (w / 8) (subtype_of (w % 8)) rest) d k _ b u
+          then_given _ d k _ q
+          (then_given (λ w rest. float_array_of id c (w / 8) (subtype_of (w % 8)) rest) d k _ u
           (record {
             same = comes d k (len + n₁ + n₂ + c * (w / 8)) _ s.0 (drop m t) s.1 s.2 (omega (arith, s.3.0));
             past = (floats_behind.2, floats_behind.3, omega (arith, floats_behind));
           }))
 
-pub floats_else : {t : List ℕ} {at len : ℕ} (f : Found) → OneOf (1 ∷ 2 ∷ []) (tag_of found.the_type f) → Reaches t at (count_of base (drop at t)) f → BodySizes t at t_floats len (no_place (no_value f))
+pub floats_stop : {t : List ℕ} {at len : ℕ} (e : Stop) → Reaches t at (count_of base (drop at t)) (Err e) → BodySizes t at t_floats len (Err e)
 unfolding body
-floats_else f h q id d k n = else_given f _ d k h q
+floats_stop e q id d k n = stops_given e _ d k q

@@ -1,15 +1,14 @@
 -- What a part of a message comes to where only the length of the plain copy is asked for: its end, and how many bytes the plain copy has
 -- up to there. And which outcome of that kind an answer stands for: it names places of the message t where the outcome has the bytes left.
-use Rattle.std.specs.Prelude.{ℕ, zero, suc, ◌+◌, ◌≤◌, ◌≡◌, List, length, drop}
+use Rattle.std.specs.Prelude.{ℕ, zero, suc, ◌+◌, ◌≤◌, ◌≡◌, List, length, drop, Result}
 use Rattle.layout.specs.Limits.{Limits, base}
 use Rattle.layout.specs.Varint.{Outcome, whole, short, broken, varint, shortest}
 use Rattle.layout.specs.Field.{Field, Wire, header}
 use Rattle.layout.specs.Message.{body, depth_after}
 use Rattle.layout.specs.Copy.{field_bytes}
-use Rattle.passing.specs.declared.Land.{Land}
-use Rattle.passing.specs.declared.Land.TheVariants as Lands
+use Rattle.passing.specs.declared.Stop.{Stop}
+use Rattle.passing.specs.Passing.{Comes}
 use Rattle.lengths.specs.declared.Extent.{Extent}
-use Rattle.lengths.specs.declared.Extent.TheVariants as Extents
 
 -- ---- outcomes
 
@@ -59,35 +58,20 @@ pointed d (broken rest) = broken rest
 
 -- ---- answers
 
-abbrev pub extent_in : List ℕ → Extent → Outcome ℕ
-extent_in t (Extents.At i len) = whole len (drop i t)
-extent_in t Extents.Short = short
-extent_in t (Extents.Broken i) = broken (drop i t)
-
--- The places that an answer names lie within t, and that after something not before it. The plain copy is no longer than what it is of.
-abbrev pub extent_past : List ℕ → ℕ → Extent → Type 0
-extent_past t at (Extents.At i len) = (at ≤ i) × (i ≤ length t) × (len ≤ i)
-extent_past t at Extents.Short = Unit {0}
-extent_past t at (Extents.Broken i) = i ≤ length t
+-- The place that an answer names is not before `at`. The plain copy is no longer than what it is of.
+abbrev pub fits : List ℕ → ℕ → Extent → Type 0
+fits t at e = (at ≤ e.at) × (e.at ≤ length t) × (e.len ≤ e.at)
 
 -- what stands at a place comes to this answer
-pub record Sizes (t : List ℕ) (at : ℕ) (o : Outcome ℕ) (r : Extent) : Type 0 where
-  pub same : o ≡ extent_in t r
-  pub past : extent_past t at r
+abbrev pub Sizes : List ℕ → ℕ → Outcome ℕ → Result Extent Stop → Type 0
+Sizes t at o r = Comes (λ (e : Extent). e.len) (λ (e : Extent). e.at) (fits t at) t o r
 
 -- the rest of a field comes to this answer, and the depth d is the same after it
-pub record Finishes (t : List ℕ) (at d : ℕ) (o : Outcome Point) (r : Extent) : Type 0 where
-  pub same : o ≡ pointed d (extent_in t r)
-  pub past : extent_past t at r
+abbrev pub Finishes : List ℕ → ℕ → ℕ → Outcome Point → Result Extent Stop → Type 0
+Finishes t at d o r = Comes (λ (e : Extent). point_of d e.len) (λ (e : Extent). e.at) (fits t at) t o r
 
 -- What follows a header of a type that keeps the depth, whatever its id and the depth, where the plain copy has len bytes up to there, the
 -- header's among them.
-abbrev pub BodySizes : List ℕ → ℕ → Wire → ℕ → Extent → Type 0
+abbrev pub BodySizes : List ℕ → ℕ → Wire → ℕ → Result Extent Stop → Type 0
 BodySizes t at w len r =
     (id d before : ℕ) → len ≡ before + length (header id w) → Finishes t at d (reached d before (body base d id w (drop at t)).outcome) r
-
--- where there is no place to go on from
-abbrev pub no_place : Land → Extent
-no_place (Lands.At i) = Extents.Short
-no_place Lands.Short = Extents.Short
-no_place (Lands.Broken i) = Extents.Broken i

@@ -6,8 +6,9 @@ use native.Mathlib.Nat.{mod-eq_of_lt}
 use native.Mathlib.Numerals.{add-one}
 use native.Mathlib.Omega.{arith}
 use lib.Dec.{lit<}
-use lib.ListN.{length, drop, get_or, drop_of_length-le}
-use lib.Seq.{drop-cons}
+use lib.ListN.{length, take, drop, get_or, drop_of_length-le, length-drop}
+use lib.Seq.{drop-cons, drop-drop, take_all}
+use Rattle.std.specs.Prelude.{Ok, Err}
 use Rattle.layout.specs.Limits.{base, last_byte}
 use Rattle.layout.specs.Varint.{Outcome, whole, short, broken, Push, more, value, overrun, push, digit, varint_from, varint}
 use Rattle.varint.specs.declared.Acc.{Acc}
@@ -15,8 +16,7 @@ use Rattle.varint.specs.declared.Push.TheVariants.{More, Value, Overlong}
 use Rattle.varint.specs.Varint.{Sound, start, unanswer, pushed}
 use Rattle.varint.proofs.Laws.{sound-start, sound_more, layout_step}
 use Rattle.varint.proofs.Step as steps
-use Rattle.passing.specs.declared.Found.TheVariants as Founds
-use Rattle.passing.specs.declared.Land.TheVariants as Lands
+use Rattle.passing.specs.declared.Stop.TheVariants.{Short, Broken}
 use Rattle.passing.specs.Passing.{Reaches, Passes, ends}
 
 -- what a byte's answer leaves
@@ -73,99 +73,116 @@ two t i g h l =
     ∙ done t (i + 1) 1 (0 + digit 0 b) h (b % 128 + c * 128) (steps.ends base 1 (0 + digit 0 b) c (lit< tt) l ∙ ap value e)
     ∙ ap (λ (k : ℕ). whole (b % 128 + c * 128) (drop k t)) j
 
--- ---- a varint under way: the bytes from `at` to i came to a state, and the rest is read from i on
+-- ---- a varint under way: k of the bytes from a place on came to a state, and the rest is read from there on
 
-pub record Under (t : List ℕ) (at i : ℕ) (a : Acc) : Type 0 where
-  pub from : at ≤ i
-  pub to : i ≤ length t
+pub record Under (bs : List ℕ) (k : ℕ) (a : Acc) : Type 0 where
   pub sound : Sound base a
-  pub same : varint base (drop at t) ≡ varint_from base a.taken a.value (drop i t)
+  pub same : varint base bs ≡ varint_from base a.taken a.value (drop k bs)
 
-pub under_start : (t : List ℕ) (at : ℕ) (a : Acc) → at ≤ length t → a ≡ start → Under t at at a
-under_start t at a h e = subst (Under t at at) (sym e) (record { from = omega arith; to = h; sound = sound-start base; same = refl })
+pub under_start : (bs : List ℕ) (a : Acc) → a ≡ start → Under bs 0 a
+under_start bs a e = subst (Under bs 0) (sym e) (record { sound = sound-start base; same = refl })
 
-module _ {t : List ℕ} {at i : ℕ} {a : Acc} (u : Under t at i a) where
-  pub under_more : (n : Acc) → i < length t → pushed base a (get_or t i 0) ≡ More n → Under t at (i + 1) n
-  under_more n h e =
-      record {
-        from = omega (arith, u.from);
-        to = omega arith;
-        sound = sound_more base a (get_or t i 0) n u.sound e;
-        same = u.same ∙ on t i a.taken a.value h n.taken n.value (layout_step base a (get_or t i 0) u.sound ∙ ap unanswer e);
-      }
+-- the bytes from a place on, as the code has them
+abbrev pub rest_of : List ℕ → ℕ → List ℕ
+rest_of t at = take (length t - at) (drop at t)
 
-  pub under_value : (v : ℕ) → i < length t → pushed base a (get_or t i 0) ≡ Value v → Reaches t at (varint base (drop at t)) (Founds.Value v (i + 1))
+rest_is_drop : (t : List ℕ) (at : ℕ) → rest_of t at ≡ drop at t
+rest_is_drop t at = take_all (length t - at) (drop at t) (omega (arith, length-drop at t))
+
+length_rest : (t : List ℕ) (at : ℕ) → length (rest_of t at) ≡ length t - at
+length_rest t at = ap length (rest_is_drop t at) ∙ length-drop at t
+
+-- the place after k + 1 of them
+after_byte : (t : List ℕ) (at k : ℕ) → drop (k + 1) (rest_of t at) ≡ drop (at + k + 1) t
+after_byte t at k =
+    let e : at + (k + 1) ≡ at + k + 1 = omega arith in
+    ap (drop (k + 1)) (rest_is_drop t at) ∙ drop-drop (k + 1) at t ∙ ap (λ (i : ℕ). drop i t) e
+
+from_rest : (t : List ℕ) (at : ℕ) → varint base (drop at t) ≡ varint base (rest_of t at)
+from_rest t at = ap (varint base) (sym (rest_is_drop t at))
+
+pub under_more : {bs : List ℕ} {k : ℕ} {a : Acc} → Under bs k a → (n : Acc) → k < length bs → pushed base a (get_or bs k 0) ≡ More n → Under bs (k + 1) n
+under_more {bs} {k} {a} u n h e =
+    record {
+      sound = sound_more base a (get_or bs k 0) n u.sound e;
+      same = u.same ∙ on bs k a.taken a.value h n.taken n.value (layout_step base a (get_or bs k 0) u.sound ∙ ap unanswer e);
+    }
+
+module _ {t : List ℕ} {at k : ℕ} {a : Acc} (u : Under (rest_of t at) k a) where
+  pub under_value : (v : ℕ) → k < length (rest_of t at) → pushed base a (get_or (rest_of t at) k 0) ≡ Value v → Reaches t at (varint base (drop at t)) (Ok (v, at + k + 1))
   under_value v h e =
       record {
-        same = u.same ∙ done t i a.taken a.value h v (layout_step base a (get_or t i 0) u.sound ∙ ap unanswer e);
-        past = (omega (arith, u.from), omega arith);
+        same = from_rest t at ∙ u.same ∙ done (rest_of t at) k a.taken a.value h v (layout_step base a (get_or (rest_of t at) k 0) u.sound ∙ ap unanswer e) ∙ ap (whole v) (after_byte t at k);
+        past = (omega arith, omega (arith, length_rest t at));
       }
 
-  pub under_over : i < length t → pushed base a (get_or t i 0) ≡ Overlong → Reaches t at (varint base (drop at t)) (Founds.Broken (i + 1))
+  pub under_over : k < length (rest_of t at) → pushed base a (get_or (rest_of t at) k 0) ≡ Overlong → Reaches t at (varint base (drop at t)) (Err (Broken (at + k + 1)))
   under_over h e =
-      record { same = u.same ∙ over t i a.taken a.value h (layout_step base a (get_or t i 0) u.sound ∙ ap unanswer e); past = omega arith }
-
-  pub under_end : length t ≤ i → Reaches t at (varint base (drop at t)) Founds.Short
-  under_end h = record { same = u.same ∙ out t i a.taken a.value h; past = tt }
-
--- within a varint whose value is not asked for: the number of its bytes is i - at
-pub record Skipping (t : List ℕ) (at i : ℕ) : Type 0 where
-  pub from : at ≤ i
-  pub to : i ≤ length t
-  pub few : i - at ≤ last_byte base
-  pub value : ℕ
-  pub same : varint base (drop at t) ≡ varint_from base (i - at) value (drop i t)
-
-pub skipping_start : (t : List ℕ) (at : ℕ) → at ≤ length t → Skipping t at at
-skipping_start t at h =
-    let z : at - at ≡ 0 = omega arith in
-    record { from = omega arith; to = h; few = omega arith; value = 0; same = ap (λ (k : ℕ). varint_from base k 0 (drop at t)) (sym z) }
-
-module _ {t : List ℕ} {at i : ℕ} (s : Skipping t at i) (h : i < length t) where
-  -- this byte goes on
-  pub skipping_more : i - at < last_byte base → 128 ≤ get_or t i 0 → Skipping t at (i + 1)
-  skipping_more l g =
-      let b = get_or t i 0 in
-      let k : i - at + 1 ≡ i + 1 - at = omega (arith, s.from) in
       record {
-        from = omega (arith, s.from);
-        to = omega arith;
-        few = omega (arith, s.from);
-        value = s.value + digit (i - at) b;
-        same =
-            s.same ∙ on t i (i - at) s.value h (i - at + 1) (s.value + digit (i - at) b) (steps.goes_on base (i - at) s.value b l g)
-            ∙ ap (λ (j : ℕ). varint_from base j (s.value + digit (i - at) b) (drop (i + 1) t)) k;
+        same = from_rest t at ∙ u.same ∙ over (rest_of t at) k a.taken a.value h (layout_step base a (get_or (rest_of t at) k 0) u.sound ∙ ap unanswer e) ∙ ap broken (after_byte t at k);
+        past = omega (arith, length_rest t at);
       }
 
-  ending : (n : ℕ) → push base (i - at) s.value (get_or t i 0) ≡ value n → Passes t at (λ d. ends d (varint base (drop at t))) (Lands.At (i + 1))
+  pub under_end : length (rest_of t at) ≤ k → Reaches t at (varint base (drop at t)) (Err Short)
+  under_end h = record { same = from_rest t at ∙ u.same ∙ out (rest_of t at) k a.taken a.value h; past = tt }
+
+-- within a varint whose value is not asked for, after k bytes
+pub record Skipping (bs : List ℕ) (k : ℕ) : Type 0 where
+  pub few : k ≤ last_byte base
+  pub value : ℕ
+  pub same : varint base bs ≡ varint_from base k value (drop k bs)
+
+pub skipping_start : (bs : List ℕ) → Skipping bs 0
+skipping_start bs = record { few = omega arith; value = 0; same = refl }
+
+-- this byte goes on
+pub skipping_more : {bs : List ℕ} {k : ℕ} → Skipping bs k → k < length bs → k < last_byte base → 128 ≤ get_or bs k 0 → Skipping bs (k + 1)
+skipping_more {bs} {k} s h l g =
+    let b = get_or bs k 0 in
+    record {
+      few = omega arith;
+      value = s.value + digit k b;
+      same = s.same ∙ on bs k k s.value h (k + 1) (s.value + digit k b) (steps.goes_on base k s.value b l g);
+    }
+
+-- this byte ends it
+module _ {t : List ℕ} {at k : ℕ} (s : Skipping (rest_of t at) k) (h : k < length (rest_of t at)) where
+  ending : (n : ℕ) → push base k s.value (get_or (rest_of t at) k 0) ≡ value n → Passes t at (λ d. ends d (varint base (drop at t))) (Ok (at + k + 1))
   unfolding ends
-  ending n e = record { same = λ d. ap (ends d) (s.same ∙ done t i (i - at) s.value h n e); past = (omega (arith, s.from), omega arith) }
+  ending n e d =
+      record {
+        same = ap (ends d) (from_rest t at ∙ s.same ∙ done (rest_of t at) k k s.value h n e) ∙ ap (whole d) (after_byte t at k);
+        past = (omega arith, omega (arith, length_rest t at));
+      }
 
-  pub skipping_ends : i - at < last_byte base → get_or t i 0 < 128 → Passes t at (λ d. ends d (varint base (drop at t))) (Lands.At (i + 1))
-  skipping_ends l g = ending _ (steps.ends base (i - at) s.value (get_or t i 0) l g)
+  pub skipping_ends : k < last_byte base → get_or (rest_of t at) k 0 < 128 → Passes t at (λ d. ends d (varint base (drop at t))) (Ok (at + k + 1))
+  skipping_ends l g = ending _ (steps.ends base k s.value (get_or (rest_of t at) k 0) l g)
 
-  pub skipping_last : last_byte base ≤ i - at → get_or t i 0 ≤ 1 → Passes t at (λ d. ends d (varint base (drop at t))) (Lands.At (i + 1))
-  skipping_last l g = ending _ (steps.ends_last base (i - at) s.value (get_or t i 0) l (omega arith))
+  pub skipping_last : last_byte base ≤ k → get_or (rest_of t at) k 0 ≤ 1 → Passes t at (λ d. ends d (varint base (drop at t))) (Ok (at + k + 1))
+  skipping_last l g = ending _ (steps.ends_last base k s.value (get_or (rest_of t at) k 0) l (omega arith))
 
-  pub skipping_over : last_byte base ≤ i - at → 1 < get_or t i 0 → Passes t at (λ d. ends d (varint base (drop at t))) (Lands.Broken (i + 1))
+  pub skipping_over : last_byte base ≤ k → 1 < get_or (rest_of t at) k 0 → Passes t at (λ d. ends d (varint base (drop at t))) (Err (Broken (at + k + 1)))
   unfolding ends
-  skipping_over l g = record { same = λ d. ap (ends d) (s.same ∙ over t i (i - at) s.value h (steps.overruns base (i - at) s.value (get_or t i 0) l g)); past = omega arith }
+  skipping_over l g d =
+      record {
+        same = ap (ends d) (from_rest t at ∙ s.same ∙ over (rest_of t at) k k s.value h (steps.overruns base k s.value (get_or (rest_of t at) k 0) l g)) ∙ ap broken (after_byte t at k);
+        past = omega (arith, length_rest t at);
+      }
 
-pub skipping_end : {t : List ℕ} {at i : ℕ} → Skipping t at i → length t ≤ i → Passes t at (λ d. ends d (varint base (drop at t))) Lands.Short
+pub skipping_end : {t : List ℕ} {at k : ℕ} → Skipping (rest_of t at) k → length (rest_of t at) ≤ k → Passes t at (λ d. ends d (varint base (drop at t))) (Err Short)
 unfolding ends
-skipping_end {t} {at} {i} s h = record { same = λ d. ap (ends d) (s.same ∙ out t i (i - at) s.value h); past = tt }
+skipping_end {t} {at} {k} s h d = record { same = ap (ends d) (from_rest t at ∙ s.same ∙ out (rest_of t at) k k s.value h); past = tt }
 
--- a varint of one byte, and a header
-pub one_reaches : (t : List ℕ) (at : ℕ) → at < length t → get_or t at 0 < 128 → Reaches t at (varint base (drop at t)) (Founds.Value (get_or t at 0) (at + 1))
+-- a varint of one byte
+pub one_reaches : (t : List ℕ) (at : ℕ) → at < length t → get_or t at 0 < 128 → Reaches t at (varint base (drop at t)) (Ok (get_or t at 0, at + 1))
 one_reaches t at h l = record { same = one t at h l; past = (omega arith, omega arith) }
 
--- an element of one byte, and of two
-pub one_passes : (t : List ℕ) (at : ℕ) → at < length t → get_or t at 0 < 128 → Passes t at (λ d. ends d (varint base (drop at t))) (Lands.At (at + 1))
-one_passes t at h l = skipping_ends (skipping_start t at (omega arith)) h (omega arith) l
+-- its end, and that of two bytes
+pub one_passes : (t : List ℕ) (at : ℕ) → at < length t → get_or t at 0 < 128 → Passes t at (λ d. ends d (varint base (drop at t))) (Ok (at + 1))
+unfolding ends
+one_passes t at h l d = record { same = ap (ends d) (one t at h l); past = (omega arith, omega arith) }
 
 pub two_passes : (t : List ℕ) (at : ℕ) → 128 ≤ get_or t at 0 → at + 1 < length t → get_or t (at + 1) 0 < 128 →
-    Passes t at (λ d. ends d (varint base (drop at t))) (Lands.At (at + 2))
-two_passes t at g h l =
-    let e : at + 1 + 1 ≡ at + 2 = omega arith in
-    subst (λ (i : ℕ). Passes t at (λ d. ends d (varint base (drop at t))) (Lands.At i)) e
-    (skipping_ends (skipping_more (skipping_start t at (omega arith)) (omega arith) (omega arith) g) h (omega arith) l)
+    Passes t at (λ d. ends d (varint base (drop at t))) (Ok (at + 2))
+unfolding ends
+two_passes t at g h l d = record { same = ap (ends d) (two t at g h l); past = (omega arith, omega arith) }

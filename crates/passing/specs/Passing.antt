@@ -1,12 +1,10 @@
 -- Which outcome of the layout's reader an answer stands for: it names places of the message t where the outcome has the bytes left.
 -- And what a varint, or several, come to where only their end is asked for.
-use Rattle.std.specs.Prelude.{ℕ, zero, suc, ◌+◌, ◌-◌, ◌≤◌, ◌<◌, ◌≡◌, List, length, drop, leb}
+use Rattle.std.specs.Prelude.{ℕ, zero, suc, ◌+◌, ◌-◌, ◌≤◌, ◌<◌, ◌≡◌, List, length, drop, leb, Result, Ok, Err}
 use Rattle.layout.specs.Limits.{Limits, pick}
 use Rattle.layout.specs.Varint.{Outcome, whole, short, broken, varint}
-use Rattle.passing.specs.declared.Found.{Found}
-use Rattle.passing.specs.declared.Found.TheVariants as Founds
-use Rattle.passing.specs.declared.Land.{Land}
-use Rattle.passing.specs.declared.Land.TheVariants as Lands
+use Rattle.passing.specs.declared.Stop.{Stop}
+use Rattle.passing.specs.declared.Stop.TheVariants.{Short, Broken}
 
 -- ---- outcomes
 
@@ -27,45 +25,35 @@ unfoldable pub skips : Limits → ℕ → ℕ → List ℕ → Outcome ℕ
 skips L d zero bs = whole d bs
 skips L d (suc n) bs = followed (ends d (varint L bs)) (λ rest. skips L d n rest)
 
--- ---- answers
+-- ---- answers of any kind: `what` is the value that an answer stands for, `place` the place that it names, and `fits` what holds of it
 
-abbrev pub found_in : List ℕ → Found → Outcome ℕ
-found_in t (Founds.Value v i) = whole v (drop i t)
-found_in t Founds.Short = short
-found_in t (Founds.Broken i) = broken (drop i t)
+abbrev pub outcome_in : {A B : Type 0} → (A → B) → (A → ℕ) → List ℕ → Result A Stop → Outcome B
+outcome_in what place t (Ok a) = whole (what a) (drop (place a) t)
+outcome_in what place t (Err Short) = short
+outcome_in what place t (Err (Broken i)) = broken (drop i t)
 
-abbrev pub land_in : List ℕ → ℕ → Land → Outcome ℕ
-land_in t d (Lands.At i) = whole d (drop i t)
-land_in t d Lands.Short = short
-land_in t d (Lands.Broken i) = broken (drop i t)
+-- The places that an answer names lie within t.
+abbrev pub within : {A : Type 0} → (A → Type 0) → List ℕ → Result A Stop → Type 0
+within fits t (Ok a) = fits a
+within fits t (Err Short) = Unit {0}
+within fits t (Err (Broken i)) = i ≤ length t
 
--- The places that an answer names lie within t, and that after something not before it.
-abbrev pub found_past : List ℕ → ℕ → Found → Type 0
-found_past t at (Founds.Value v i) = (at < i) × (i ≤ length t)
-found_past t at Founds.Short = Unit {0}
-found_past t at (Founds.Broken i) = i ≤ length t
+-- what stands at a place comes to this answer
+pub record Comes {A B : Type 0} (what : A → B) (place : A → ℕ) (fits : A → Type 0) (t : List ℕ) (o : Outcome B) (r : Result A Stop) : Type 0 where
+  pub same : o ≡ outcome_in what place t r
+  pub past : within fits t r
 
-abbrev pub land_past : List ℕ → ℕ → Land → Type 0
-land_past t at (Lands.At i) = (at ≤ i) × (i ≤ length t)
-land_past t at Lands.Short = Unit {0}
-land_past t at (Lands.Broken i) = i ≤ length t
+-- ---- a varint, with the place after it; and the end of something, whatever the depth
 
--- what stands at a place comes to this answer: a varint, and something of which only the end is asked, whatever the depth
-pub record Reaches (t : List ℕ) (at : ℕ) (o : Outcome ℕ) (r : Found) : Type 0 where
-  pub same : o ≡ found_in t r
-  pub past : found_past t at r
+abbrev pub Found : Type 0
+Found = ℕ × ℕ
 
-pub record Passes (t : List ℕ) (at : ℕ) (o : ℕ → Outcome ℕ) (r : Land) : Type 0 where
-  pub same : (d : ℕ) → o d ≡ land_in t d r
-  pub past : land_past t at r
+abbrev pub Reaches : List ℕ → ℕ → Outcome ℕ → Result Found Stop → Type 0
+Reaches t at o r = Comes (λ (f : Found). f.0) (λ (f : Found). f.1) (λ (f : Found). (at < f.1) × (f.1 ≤ length t)) t o r
 
--- ---- answers made of others
+abbrev pub Passes : List ℕ → ℕ → (ℕ → Outcome ℕ) → Result ℕ Stop → Type 0
+Passes t at o r = (d : ℕ) → Comes (λ i. d) (λ i. i) (λ i. (at ≤ i) × (i ≤ length t)) t (o d) r
 
 -- n bytes further, where there are so many
-abbrev pub jumped : List ℕ → ℕ → ℕ → Land
-jumped t at n = pick (leb n (length t - at)) (Lands.At (at + n)) Lands.Short
-
-abbrev pub no_value : Found → Land
-no_value (Founds.Value v i) = Lands.Short
-no_value Founds.Short = Lands.Short
-no_value (Founds.Broken i) = Lands.Broken i
+abbrev pub jumped : List ℕ → ℕ → ℕ → Result ℕ Stop
+jumped t at n = pick (leb n (length t - at)) (Ok (at + n)) (Err Short)

@@ -55,6 +55,11 @@ pub const T_SEQUENCE_START: u8 = 6;
 
 pub const T_SEQUENCE_END: u8 = 7;
 
+// The words of the two floats: length × 8 + subtype.
+pub const FP32_WORD: u64 = 32;
+
+pub const FP64_WORD: u64 = 65;
+
 // Subtype of a fixed-length field, in its word's low three bits.
 #[derive(Clone, Copy)]
 pub enum FixlenType {

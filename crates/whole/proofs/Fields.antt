@@ -6,8 +6,6 @@ use mathlib.Core.Bool.{Bool}
 use mathlib.Core.List.{List, [], ◌∷◌}
 use native.Mathlib.Numerals.{add-one}
 use native.Mathlib.Omega.{arith}
-use types.Run.{OneOf, miss}
-use denote.Enum.Declared.{tag_of}
 use lib.Dec.{eqb}
 use lib.ListN.{length, drop, length-drop, drop_of_length-le}
 use borrow.Author.Tests.{lt-ltb, le-ltb, eq-eqb, ne_eqb}
@@ -19,43 +17,42 @@ use Rattle.layout.specs.Field.{Field, Wire, wire_of, unsigneds, signeds, unsigne
 use Rattle.layout.specs.Field.{t_unsigneds, t_begin, t_end}
 use Rattle.layout.specs.Message.{header_of, count_of, unzigzagged, signed_varint, elements, body, field, depth_after}
 use Rattle.layout.specs.Message.{Fields, prepend, fields_from, message, complete, incomplete, broken_at, verdict_by, verdict_of}
-use Rattle.passing.specs.declared.Found.{Found}
-use Rattle.passing.specs.declared.Found.TheVariants as Founds
-use Rattle.passing.specs.declared.Land.{Land}
-use Rattle.passing.specs.declared.Land.TheVariants as Lands
-use Rattle.whole.specs.declared.Next.{Next}
-use Rattle.whole.specs.declared.Next.TheVariants as Nexts
-use Rattle.passing.specs.Passing.{Reaches, Passes, ends, no_value}
+use Rattle.std.specs.Prelude.{Result, Ok, Err}
+use Rattle.passing.specs.declared.Stop.{Stop}
+use Rattle.passing.specs.declared.Stop.TheVariants.{Short, Broken}
+use Rattle.passing.specs.Passing.{Reaches, Passes, ends}
+use Rattle.passing.proofs.Ends.{before, stopped}
 use Rattle.bodies.specs.Bodies.{deep, after_body}
-use Rattle.whole.specs.Whole.{Goes, next_past, after_field, deepened}
-use Rattle.passing.specs.contracts.Found as found
+use Rattle.whole.specs.Whole.{End, Goes, after_field}
 use Rattle.bodies.proofs.Bodies.{deep-scalar, deep-becoming, ends-elements}
 
 -- ---- what follows a header
 
 module _ {t : List ℕ} {at : ℕ} (d : ℕ) where
-  pub deepens : (o : ℕ → Outcome ℕ) (l : Land) (r : Next) → Passes t at o l → r ≡ deepened d l → Goes t at (o d) r
-  deepens o (Lands.At i) r p e = subst (Goes t at (o d)) (sym e) (record { same = p.same d; past = p.past })
-  deepens o Lands.Short r p e = subst (Goes t at (o d)) (sym e) (record { same = p.same d; past = tt })
-  deepens o (Lands.Broken i) r p e = subst (Goes t at (o d)) (sym e) (record { same = p.same d; past = p.past })
+  -- what keeps the depth
+  pub kept : {o : ℕ → Outcome ℕ} {i : ℕ} → Passes t at o (Ok i) → Goes t at (o d) (Ok (i, d))
+  kept p = record { same = (p d).same; past = (p d).past }
+
+  pub stops : {o : ℕ → Outcome ℕ} (e : Stop) → Passes t at o (Err e) → Goes t at (o d) (Err e)
+  stops e p = stopped e (λ o. o) refl (λ bs. refl) (p d)
 
   -- a type by its number
-  pub at_wire_lem : (id : ℕ) (w v : Wire) (r : Next) → v ≡ w → Goes t at (after_body id w (drop at t) d) r → Goes t at (after_body id v (drop at t) d) r
+  pub at_wire_lem : (id : ℕ) (w v : Wire) (r : Result End Stop) → v ≡ w → Goes t at (after_body id w (drop at t) d) r → Goes t at (after_body id v (drop at t) d) r
   at_wire_lem id w v r e g = subst (λ (w : Wire). Goes t at (after_body id w (drop at t) d) r) (sym e) g
 
-  pub opens : (id : ℕ) → at ≤ length t → d < base.depth → Goes t at (after_body id t_begin (drop at t) d) (Nexts.At at (d + 1))
+  pub opens : (id : ℕ) → at ≤ length t → d < base.depth → Goes t at (after_body id t_begin (drop at t) d) (Ok (at, d + 1))
   unfolding after_body body deep depth_after
   opens id h l = record { same = simp (lt-ltb _ _ l) (ap (λ (n : ℕ). whole n (drop at t)) (sym (add-one d))); past = (omega arith, h) }
 
-  pub opens_not : (id : ℕ) → at ≤ length t → base.depth ≤ d → Goes t at (after_body id t_begin (drop at t) d) (Nexts.Broken at)
+  pub opens_not : (id : ℕ) → at ≤ length t → base.depth ≤ d → Goes t at (after_body id t_begin (drop at t) d) (Err (Broken at))
   unfolding after_body body deep
   opens_not id h l = record { same = simp (le-ltb _ _ l); past = h }
 
-  pub closes : (id : ℕ) → at ≤ length t → (d ≡ 0 → ⊥) → Goes t at (after_body id t_end (drop at t) d) (Nexts.At at (d - 1))
+  pub closes : (id : ℕ) → at ≤ length t → (d ≡ 0 → ⊥) → Goes t at (after_body id t_end (drop at t) d) (Ok (at, d - 1))
   unfolding after_body body deep depth_after
   closes id h l = record { same = simp (ne_eqb _ _ l); past = (omega arith, h) }
 
-  pub closes_not : (id : ℕ) → at ≤ length t → d ≡ 0 → Goes t at (after_body id t_end (drop at t) d) (Nexts.Broken at)
+  pub closes_not : (id : ℕ) → at ≤ length t → d ≡ 0 → Goes t at (after_body id t_end (drop at t) d) (Err (Broken at))
   unfolding after_body body deep
   closes_not id h l = record { same = simp (eq-eqb _ _ l); past = h }
 
@@ -66,7 +63,7 @@ unzigzagged-ends d (whole a rest) = refl
 unzigzagged-ends d short = refl
 unzigzagged-ends d (broken rest) = refl
 
-pub scalar_wire : (n id : ℕ) (bs : List ℕ) (d : ℕ) → n < 2 → after_body id (wire_of n) bs d ≡ ends d (varint base bs)
+scalar_wire : (n id : ℕ) (bs : List ℕ) (d : ℕ) → n < 2 → after_body id (wire_of n) bs d ≡ ends d (varint base bs)
 unfolding after_body body depth_after
 scalar_wire zero id bs d h = deep-scalar d (unsigned id) (λ x. refl) (varint base bs) (Unsigned id)
 scalar_wire (suc zero) id bs d h = deep-scalar d (signed id) (λ x. refl) (signed_varint base bs) (Signed id) ∙ unzigzagged-ends d (varint base bs)
@@ -84,61 +81,46 @@ signeds_then d id (whole n rest) =
 signeds_then d id short = refl
 signeds_then d id (broken rest) = refl
 
-pub array_wire : (n id : ℕ) (bs : List ℕ) (d : ℕ) → (n ≡ 2 → ⊥) → 2 ≤ n → n < 5 → after_body id (wire_of n) bs d ≡ after_body id t_unsigneds bs d
+array_wire : (n id : ℕ) (bs : List ℕ) (d : ℕ) → 3 ≤ n → n < 5 → after_body id (wire_of n) bs d ≡ after_body id t_unsigneds bs d
 unfolding after_body body
-array_wire zero id bs d a h l = absurd (omega arith)
-array_wire (suc zero) id bs d a h l = absurd (omega arith)
-array_wire (suc (suc zero)) id bs d a h l = absurd (a refl)
-array_wire (suc (suc (suc zero))) id bs d a h l = refl
-array_wire (suc (suc (suc (suc zero)))) id bs d a h l = signeds_then d id (count_of base bs)
-array_wire (suc (suc (suc (suc (suc n))))) id bs d a h l = absurd (omega arith)
+array_wire zero id bs d h l = absurd (omega arith)
+array_wire (suc zero) id bs d h l = absurd (omega arith)
+array_wire (suc (suc zero)) id bs d h l = absurd (omega arith)
+array_wire (suc (suc (suc zero))) id bs d h l = refl
+array_wire (suc (suc (suc (suc zero)))) id bs d h l = signeds_then d id (count_of base bs)
+array_wire (suc (suc (suc (suc (suc n))))) id bs d h l = absurd (omega arith)
 
-pub end_wire : (n : ℕ) → (n ≡ 5 → ⊥) → (n ≡ 6 → ⊥) → 5 ≤ n → wire_of n ≡ t_end
-end_wire zero a b h = absurd (omega arith)
-end_wire (suc zero) a b h = absurd (omega arith)
-end_wire (suc (suc zero)) a b h = absurd (omega arith)
-end_wire (suc (suc (suc zero))) a b h = absurd (omega arith)
-end_wire (suc (suc (suc (suc zero)))) a b h = absurd (omega arith)
-end_wire (suc (suc (suc (suc (suc zero))))) a b h = absurd (a refl)
-end_wire (suc (suc (suc (suc (suc (suc zero)))))) a b h = absurd (b refl)
-end_wire (suc (suc (suc (suc (suc (suc (suc n))))))) a b h = refl
+pub end_wire : (n : ℕ) → 7 ≤ n → wire_of n ≡ t_end
+end_wire zero h = absurd (omega arith)
+end_wire (suc zero) h = absurd (omega arith)
+end_wire (suc (suc zero)) h = absurd (omega arith)
+end_wire (suc (suc (suc zero))) h = absurd (omega arith)
+end_wire (suc (suc (suc (suc zero)))) h = absurd (omega arith)
+end_wire (suc (suc (suc (suc (suc zero))))) h = absurd (omega arith)
+end_wire (suc (suc (suc (suc (suc (suc zero)))))) h = absurd (omega arith)
+end_wire (suc (suc (suc (suc (suc (suc (suc n))))))) h = refl
 
--- what passes, as one type and another
-pub passes_as : {t : List ℕ} {at : ℕ} {o o' : ℕ → Outcome ℕ} {l : Land} → ((d : ℕ) → o' d ≡ o d) → Passes t at o l → Passes t at o' l
-passes_as e p = record { same = λ d. e d ∙ p.same d; past = p.past }
+-- what passes, by its type
+module _ {t : List ℕ} {at : ℕ} (wire : ℕ) {r : Result ℕ Stop} where
+  pub scalar_passes : wire < 2 → Passes t at (λ d. ends d (varint base (drop at t))) r → (id : ℕ) → Passes t at (after_body id (wire_of wire) (drop at t)) r
+  scalar_passes h p id d = before r (λ i h. h) (scalar_wire wire id (drop at t) d h) (p d)
+
+  pub array_passes : 3 ≤ wire → wire < 5 → ((id : ℕ) → Passes t at (after_body id t_unsigneds (drop at t)) r) → (id : ℕ) → Passes t at (after_body id (wire_of wire) (drop at t)) r
+  array_passes h l p id d = before r (λ i h. h) (array_wire wire id (drop at t) d h l) (p id d)
 
 -- ---- a field
 
-gone_before : (t : List ℕ) (at i : ℕ) (n : Next) → at ≤ i → next_past t i n → next_past t at n
-gone_before t at i (Nexts.At j d) h p = (omega (arith, p.0), p.1)
-gone_before t at i Nexts.Short h p = tt
-gone_before t at i (Nexts.Broken j) h p = p
-
 module _ {t : List ℕ} {at : ℕ} (d : ℕ) where
-  pub field_then : (f : Found) (h i : ℕ) (r : Next) → f ≡ Founds.Value h i → Reaches t at (header_of base (drop at t)) f →
+  pub field_then : {h i : ℕ} (r : Result End Stop) → Reaches t at (header_of base (drop at t)) (Ok (h, i)) →
       ((id : ℕ) → Goes t i (after_body id (wire_of (h % 8)) (drop i t) d) r) → Goes t (at + 1) (after_field d (drop at t)) r
   unfolding after_field after_body field given
-  field_then f h i r e q g =
-      let p : Reaches t at (header_of base (drop at t)) (Founds.Value h i) = subst (Reaches t at (header_of base (drop at t))) e q in
-      record {
-        same = ap (λ (o : Outcome ℕ). deep d (given o (λ h rest. body base d (h / 8) (wire_of (h % 8)) rest)).outcome) p.same ∙ (g (h / 8)).same;
-        past = gone_before t (at + 1) i r (omega (arith, p.past.0)) (g (h / 8)).past;
-      }
+  field_then {h} {i} r q g =
+      before r (λ e p. (omega (arith, q.past.0, p.0), p.1))
+      (ap (λ (o : Outcome ℕ). deep d (given o (λ h rest. body base d (h / 8) (wire_of (h % 8)) rest)).outcome) q.same) (g (h / 8))
 
-  pub field_else : (f : Found) (r : Next) → OneOf (1 ∷ 2 ∷ []) (tag_of found.the_type f) → Reaches t at (header_of base (drop at t)) f → r ≡ deepened d (no_value f) →
-      Goes t (at + 1) (after_field d (drop at t)) r
+  pub field_stops : (e : Stop) → Reaches t at (header_of base (drop at t)) (Err e) → Goes t (at + 1) (after_field d (drop at t)) (Err e)
   unfolding after_field field given deep
-  field_else (Founds.Value v i) r h q e = absurd (miss (1 ∷ 2 ∷ []) 0 tt h)
-  field_else Founds.Short r h q e =
-      subst (Goes t (at + 1) (after_field d (drop at t))) (sym e)
-      record { same = ap (λ (o : Outcome ℕ). deep d (given o (λ h rest. body base d (h / 8) (wire_of (h % 8)) rest)).outcome) q.same; past = tt }
-  field_else (Founds.Broken i) r h q e =
-      subst (Goes t (at + 1) (after_field d (drop at t))) (sym e)
-      record { same = ap (λ (o : Outcome ℕ). deep d (given o (λ h rest. body base d (h / 8) (wire_of (h % 8)) rest)).outcome) q.same; past = q.past }
-
--- a field has bytes
-pub falls : {t : List ℕ} {o : Outcome ℕ} (at : ℕ) (n : Next) (i e : ℕ) → n ≡ Nexts.At i e → Goes t (at + 1) o n → length t - i < length t - at
-falls {t} {o} at n i e k g = let p : Goes t (at + 1) o (Nexts.At i e) = subst (Goes t (at + 1) o) k g in omega (arith, p.past.0, p.past.1)
+  field_stops e q = stopped e (λ (o : Outcome ℕ). deep d (given o (λ h rest. body base d (h / 8) (wire_of (h % 8)) rest)).outcome) refl (λ bs. refl) q
 
 -- ---- the fields from a place on
 
@@ -225,17 +207,15 @@ module _ {t : List ℕ} {at d : ℕ} (s : Left t at d) (h : at < length t) where
       sym (turned ∙ next_broken (length t) d (s.fuel - 1) (field base d (drop at t)).events (field base d (drop at t)).outcome (drop i t) k ∙ ap broken_at c)
 
   -- and by the answer on it
-  pub left_next : (n : Next) (i e : ℕ) → n ≡ Nexts.At i e → Goes t (at + 1) (after_field d (drop at t)) n → Left t i e
-  left_next n i e k g =
-      let p : Goes t (at + 1) (after_field d (drop at t)) (Nexts.At i e) = subst (Goes t (at + 1) (after_field d (drop at t))) k g in
-      goes_on i e p.past.0 p.past.1 p.same
+  pub left_next : {i e : ℕ} → Goes t (at + 1) (after_field d (drop at t)) (Ok (i, e)) → Left t i e
+  left_next g = goes_on _ _ g.past.0 g.past.1 g.same
 
-  pub left_short : (n : Next) → n ≡ Nexts.Short → Goes t (at + 1) (after_field d (drop at t)) n → incomplete ≡ verdict_of base t
-  left_short n k g = ends_short (subst (Goes t (at + 1) (after_field d (drop at t))) k g).same
+  pub left_short : {e : Stop} → e ≡ Short → Goes t (at + 1) (after_field d (drop at t)) (Err e) → incomplete ≡ verdict_of base t
+  left_short k g = ends_short (subst (λ (e : Stop). Goes t (at + 1) (after_field d (drop at t)) (Err e)) k g).same
 
-  pub left_broken : (n : Next) (i : ℕ) → n ≡ Nexts.Broken i → Goes t (at + 1) (after_field d (drop at t)) n → broken_at i ≡ verdict_of base t
-  left_broken n i k g =
-      let p : Goes t (at + 1) (after_field d (drop at t)) (Nexts.Broken i) = subst (Goes t (at + 1) (after_field d (drop at t))) k g in
+  pub left_broken : {i : ℕ} {e : Stop} → e ≡ Broken i → Goes t (at + 1) (after_field d (drop at t)) (Err e) → broken_at i ≡ verdict_of base t
+  left_broken {i} k g =
+      let p : Goes t (at + 1) (after_field d (drop at t)) (Err (Broken i)) = subst (λ (e : Stop). Goes t (at + 1) (after_field d (drop at t)) (Err e)) k g in
       ends_broken i p.past p.same
 
 -- the end

@@ -8,11 +8,14 @@ ghost use Rattle.layout.specs.Limits.{base};
 ghost use Rattle.layout.specs.Field.{wire_of};
 ghost use Rattle.layout.specs.Message.{verdict_of};
 ghost use Rattle.bodies.specs.Bodies.{after_body};
-ghost use Rattle.whole.specs.Whole.{Goes, after_field, deepened, verdict_in};
+ghost use Rattle.whole.specs.Whole.{Goes, after_field, verdict_in};
 
 use bodies::{array_at, fixlen_at, float_array_at};
-use passing::{Found, Land, header_at, no_value, scalar_at};
-use types::MAX_DEPTH;
+use passing::{Stop, header_at, scalar_at};
+use types::{
+    MAX_DEPTH, T_FIXLEN, T_FIXLENARRAY, T_SEQUENCE_START, T_VARINT_SIGNED, T_VARINT_UNSIGNED,
+    T_VARINTARRAY_SIGNED, T_VARINTARRAY_UNSIGNED,
+};
 
 // What a message comes to; a broken one with the number of bytes up to the offending one, which is counted.
 #[derive(Clone, Copy)]
@@ -22,63 +25,42 @@ pub enum Verdict {
     Broken(usize),
 }
 
-// The place after a field and the depth there; or the message ends within it; or the place after the byte that breaks it.
-#[derive(Clone, Copy)]
-enum Next {
-    At(usize, u32),
-    Short,
-    Broken(usize),
-}
-
-fn at_depth(land: Land, depth: u32) -> Next
-    ensures { result ≡ deepened depth land }
-{
-    match land {
-        Land::At(i) => Next::At(i, depth),
-        Land::Short => Next::Short,
-        Land::Broken(i) => Next::Broken(i),
-    }
-}
-
-// What follows a header of this type. An id is of no account here.
-fn body_at(t: &[u8], at: usize, wire: u64, depth: u32) -> Next
+// What follows a header of this type: the place after it and the depth there. An id is of no account here.
+fn body_at(t: &[u8], at: usize, wire: u8, depth: u32) -> Result<(usize, u32), Stop>
     requires { at ≤ length t.now }
     ensures { (id : ℕ) → Goes t.now at (after_body id (wire_of wire) (drop at t.now) depth) result }
 {
     match wire {
-        0 | 1 => at_depth(scalar_at(t, at), depth),
-        2 => at_depth(fixlen_at(t, at), depth),
-        3 | 4 => at_depth(array_at(t, at), depth),
-        5 => at_depth(float_array_at(t, at), depth),
-        6 => {
+        T_VARINT_UNSIGNED | T_VARINT_SIGNED => Ok((scalar_at(t, at)?, depth)),
+        T_FIXLEN => Ok((fixlen_at(t, at)?, depth)),
+        T_VARINTARRAY_UNSIGNED | T_VARINTARRAY_SIGNED => Ok((array_at(t, at)?, depth)),
+        T_FIXLENARRAY => Ok((float_array_at(t, at)?, depth)),
+        T_SEQUENCE_START => {
             if depth < MAX_DEPTH {
-                Next::At(at, depth + 1)
+                Ok((at, depth + 1))
             } else {
-                Next::Broken(at)
+                Err(Stop::Broken(at))
             }
         }
         _ => {
             if depth == 0 {
-                Next::Broken(at)
+                Err(Stop::Broken(at))
             } else {
-                Next::At(at, depth - 1)
+                Ok((at, depth - 1))
             }
         }
     }
 }
 
-fn field_at(t: &[u8], at: usize, depth: u32) -> Next
+fn field_at(t: &[u8], at: usize, depth: u32) -> Result<(usize, u32), Stop>
     requires { at ≤ length t.now }
     ensures { Goes t.now (at + 1) (after_field depth (drop at t.now)) result }
 {
-    let found = header_at(t, at);
-    let Found::Value(h, i) = found else {
-        return at_depth(no_value(found), depth);
-    };
-    body_at(t, i, h % 8, depth)
+    let (h, i) = header_at(t, at)?;
+    body_at(t, i, (h % 8) as u8, depth)
 }
 
-// The verdict on a message given whole.
+// The verdict on a message given whole. Its fields are of unequal lengths, so the place goes on by no fixed step.
 pub fn verdict_of(message: &[u8]) -> Verdict
     ensures { result ≡ verdict_in (verdict_of base message.now) }
 {
@@ -86,16 +68,12 @@ pub fn verdict_of(message: &[u8]) -> Verdict
     let mut depth: u32 = 0;
     while at < message.len() {
         match field_at(message, at, depth) {
-            Next::At(i, d) => {
+            Ok((i, d)) => {
                 at = i;
                 depth = d;
             }
-            Next::Short => {
-                return Verdict::Incomplete;
-            }
-            Next::Broken(i) => {
-                return Verdict::Broken(i);
-            }
+            Err(Stop::Short) => return Verdict::Incomplete,
+            Err(Stop::Broken(i)) => return Verdict::Broken(i),
         }
     }
     if depth == 0 {

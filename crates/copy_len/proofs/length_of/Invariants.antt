@@ -4,8 +4,8 @@ use lib.ListN.{length}
 use Rattle.copy_len.proofs.Sums.{Summed}
 use Rattle.copy_len.proofs.length_of.Given as goal
 
-abbrev pub invariant-loop-at : goal.invariant-loop-at
-invariant-loop-at l = Summed l.message l.at l.depth l.len
+abbrev pub invariant-loop-reached : goal.invariant-loop-reached
+invariant-loop-reached l = Summed l.message l.reached.at l.depth l.reached.len
 
-abbrev pub decreases-loop-at : goal.decreases-loop-at
-decreases-loop-at l = length l.message - l.at
+abbrev pub decreases-loop-reached : goal.decreases-loop-reached
+decreases-loop-reached l = length l.message - l.reached.at

@@ -1,21 +1,21 @@
--- `lengths::elements_len` meets its contract: of the elements `left` are still to come, from the place reached on.
-use Rattle.lengths.proofs.Answers.{counted_start, counted_next, counted_else, counted_end}
-use borrow.Enum.Refused.{opened}
+-- `lengths::elements_len` meets its contract: the elements that are still to come stand from the place reached on.
+use Rattle.passing.proofs.Ends.{passed_on}
+use Rattle.lengths.specs.Lengths.{Sizes}
+use Rattle.lengths.proofs.Answers.{counted_start, counted_next, counted_stops, counted_end}
 use Rattle.lengths.proofs.elements_len.Goals as goal
 
-pub loop-left-init : goal.loop-left-init
-loop-left-init c = counted_start _ _ _ _ c.requires.0 c.requires.1
+pub loop-init : goal.loop-init
+loop-init c = counted_start _ _ _ c.requires
 
-pub element_len-extent-requires : goal.element_len-extent-requires
-element_len-extent-requires c = (c.loop-left.invariant.to, c.loop-left.invariant.small)
+pub element_len-requires : goal.element_len-requires
+element_len-requires c = (c.loop.invariant.inside, c.loop.invariant.small)
 
-pub returns-in_default : goal.returns-in_default
-returns-in_default c =
-    counted_else c.loop-left.invariant c.loop-left-test.true _ c.element_len-extent.ensures (opened c.in_default.in_default-own.keys2)
+pub returns-in_err-reached : goal.returns-in_err-reached
+returns-in_err-reached c =
+    passed_on (Sizes _ _ _) _ _ c.from_residual.ensures (counted_stops c.loop.invariant c.loop-test.true _ c.in_err-reached.ensures)
 
-pub loop-left-preserved : goal.loop-left-preserved
-loop-left-preserved c =
-    counted_next c.loop-left.invariant c.loop-left-test.true _ c.element_len-extent.ensures c.in-At.is
+pub loop-preserved : goal.loop-preserved
+loop-preserved c = counted_next c.loop.invariant c.loop-test.true c.in_ok-reached.ensures
 
 pub returns : goal.returns
-returns c = counted_end c.loop-left.invariant c.loop-left-test.false
+returns c = counted_end c.loop.invariant c.loop-test.false

@@ -1,11 +1,6 @@
--- `passing::skip_at` meets its contract: what is left of the varint is read from the place reached, after i - at bytes.
-use Prim.Native.Nat.{◌-◌}
-use lib.ListN.{length}
-use Rattle.passing.proofs.Varints.{Skipping}
+-- `passing::skip_at` meets its contract: what is left of the varint is read from the place reached, after k bytes.
+use Rattle.passing.proofs.Varints.{Skipping, rest_of}
 use Rattle.passing.proofs.skip_at.Given as goal
 
-abbrev pub invariant-loop-i : goal.invariant-loop-i
-invariant-loop-i l = Skipping l.t l.at l.i
-
-abbrev pub decreases-loop-i : goal.decreases-loop-i
-decreases-loop-i l = length l.t - l.i
+abbrev pub invariant-loop-k : goal.invariant-loop-k
+invariant-loop-k l = Skipping (rest_of l.t l.at) l.k

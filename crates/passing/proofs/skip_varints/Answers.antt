@@ -1,21 +1,19 @@
--- `passing::skip_varints` meets its contract: of the varints `left` are still to come, from the place reached on.
-use Rattle.passing.proofs.Ends.{skipped_start, skipped_next, skipped_else, skipped_end}
-use borrow.Enum.Refused.{opened}
+-- `passing::skip_varints` meets its contract: the varints that are still to come stand from the place reached on.
+use Rattle.passing.specs.Passing.{Passes}
+use Rattle.passing.proofs.Ends.{passed_on, skipped_start, skipped_next, skipped_stops, skipped_end}
 use Rattle.passing.proofs.skip_varints.Goals as goal
 
-pub loop-left-init : goal.loop-left-init
-loop-left-init c = skipped_start _ _ _ c.requires
+pub loop-init : goal.loop-init
+loop-init c = skipped_start _ _ _ c.requires
 
-pub element_at-land-requires : goal.element_at-land-requires
-element_at-land-requires c = c.loop-left.invariant.to
+pub element_at-requires : goal.element_at-requires
+element_at-requires c = c.loop.invariant.to
 
-pub returns-in_default : goal.returns-in_default
-returns-in_default c =
-    skipped_else c.loop-left.invariant c.loop-left-test.true _ c.element_at-land.ensures (opened c.in_default.in_default-own.keys2)
+pub returns-in_err-i : goal.returns-in_err-i
+returns-in_err-i c = passed_on (Passes _ _ _) _ _ c.from_residual.ensures (skipped_stops c.loop.invariant c.loop-test.true _ c.in_err-i.ensures)
 
-pub loop-left-preserved : goal.loop-left-preserved
-loop-left-preserved c =
-    skipped_next c.loop-left.invariant c.loop-left-test.true _ c.element_at-land.ensures _ c.in-At.is
+pub loop-preserved : goal.loop-preserved
+loop-preserved c = skipped_next c.loop.invariant c.loop-test.true _ c.in_ok-i.ensures
 
 pub returns : goal.returns
-returns c = skipped_end c.loop-left.invariant c.loop-left-test.false
+returns c = skipped_end c.loop.invariant c.loop-test.false

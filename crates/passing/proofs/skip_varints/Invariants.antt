@@ -1,9 +1,7 @@
--- `passing::skip_varints` meets its contract: of the varints `left` are still to come, from the place reached on.
+-- `passing::skip_varints` meets its contract: the varints that are still to come stand from the place reached on.
+use Prim.Native.Nat.{◌-◌}
 use Rattle.passing.proofs.Ends.{Skipped}
 use Rattle.passing.proofs.skip_varints.Given as goal
 
-abbrev pub invariant-loop-left : goal.invariant-loop-left
-invariant-loop-left l = Skipped l.t l.at l.n l.i l.left
-
-abbrev pub decreases-loop-left : goal.decreases-loop-left
-decreases-loop-left l = l.left
+abbrev pub invariant-loop : goal.invariant-loop
+invariant-loop l = Skipped l.t l.at l.n l.i (l.n - l.counter)

@@ -35,6 +35,7 @@ use Rattle.phase.specs.declared.Stepped.TheVariants.{On, Raised}
 use Rattle.phase.specs.Steps.{stepped, step_on, covered}
 use Rattle.phase.specs.contracts.Stepped.{the_type}
 use Rattle.call_end.specs.declared.Status.TheVariants.{Incomplete}
+use Rattle.std.specs.Prelude.{Ok}
 use Rattle.call_end.specs.declared.Answer.TheVariants.{Event as Happened, Status}
 use Rattle.call_end.specs.CallEnd.{status_in, end_in, end_at, stopped}
 
@@ -95,7 +96,7 @@ goes_on L n broke b bs q k₁ a h e = absurd a
 -- the chunk's end
 spent_at : (L : Limits) (n d : ℕ) (p : Phase) (st : State) → state_at d p ≡ st → phase_of st ≡ p → depth_of st ≡ d → AtBytes L st → stopped n (On p (carried_at d)) ≡ end_in (scan_on L n st [])
 unfolding verdict_so scan end_in
-spent_at L n d p (reading d' q) e f g a = λ i. end_at n (Status (status_in (verdict_so (e i)))) (sym f i) (carried_at (sym g i))
+spent_at L n d p (reading d' q) e f g a = λ i. end_at n (Ok (Status (status_in (verdict_so (e i))))) (sym f i) (carried_at (sym g i))
 spent_at L n d p (owing d' id r) e f g a = absurd a
 spent_at L n d p broke e f g a = absurd a
 
@@ -128,7 +129,7 @@ module _ (L : Limits) (chunk : List ℕ) (st : State) (p : Phase) (d n : ℕ) (a
 -- ---- payloads
 
 -- In a payload, an empty chunk gives the verdict incomplete and no empty piece.
-pub no_bytes : (L : Limits) (d id : ℕ) (r : RawType) (total o : ℕ) (c : List ℕ) → length c ≡ 0 → end_at 0 (Status Incomplete) (Payload id r total o) (carried_at d) ≡ end_in (call L (reading d (in_payload id (raw_sort r) total o)) c)
+pub no_bytes : (L : Limits) (d id : ℕ) (r : RawType) (total o : ℕ) (c : List ℕ) → length c ≡ 0 → end_at 0 (Ok (Status Incomplete)) (Payload id r total o) (carried_at d) ≡ end_in (call L (reading d (in_payload id (raw_sort r) total o)) c)
 unfolding call scan end_in machine.ending machine.verdict_after
 no_bytes L d id Raws.Str total o [] h = refl
 no_bytes L d id Raws.Blob total o [] h = refl
@@ -136,7 +137,7 @@ no_bytes L d id r total o (b ∷ bs) h = absurd (omega arith)
 
 -- k bytes of the chunk in one piece
 pub some_bytes : (L : Limits) (d id : ℕ) (r : RawType) (total o k : ℕ) (c : List ℕ) → (length c ≡ 0 → ⊥) → min (total - o) (length c) ≡ k
-    → end_at k (Happened (piece_in id r total o k)) (phase_in (pick (ltb (o + k) total) (in_payload id (raw_sort r) total (o + k)) idle)) (carried_at d)
+    → end_at k (Ok (Happened (piece_in id r total o k))) (phase_in (pick (ltb (o + k) total) (in_payload id (raw_sort r) total (o + k)) idle)) (carried_at d)
     ≡ end_in (call L (reading d (in_payload id (raw_sort r) total o)) c)
 unfolding call scan end_in
 some_bytes L d id r total o k [] h e = absurd (h refl)
@@ -145,24 +146,24 @@ some_bytes L d id Raws.Str total o k (b ∷ bs) h e =
     let i : k ≡ 0 + k = omega arith in
     let f : 0 ≡ 0 + k - length (take k (b ∷ bs)) = omega arith in
     let t : k ≡ 0 + k - length (take k (b ∷ bs)) + length (take k (b ∷ bs)) = omega arith in
-    (λ j. end_at (i j) (Happened (Str id (record { total = total; offset = o; from = f j; to = t j }))) (phase_in (pick (ltb (o + k) total) (in_payload id string total (o + k)) idle)) (carried_at d))
+    (λ j. end_at (i j) (Ok (Happened (Str id (record { total = total; offset = o; from = f j; to = t j })))) (phase_in (pick (ltb (o + k) total) (in_payload id string total (o + k)) idle)) (carried_at d))
     ∙ ap (λ (m : ℕ). end_in (pieces.piece 0 d id string total o m (b ∷ bs))) (sym e)
 some_bytes L d id Raws.Blob total o k (b ∷ bs) h e =
     let l : length (take k (b ∷ bs)) ≡ k = length-take-le k (b ∷ bs) (omega arith) in
     let i : k ≡ 0 + k = omega arith in
     let f : 0 ≡ 0 + k - length (take k (b ∷ bs)) = omega arith in
     let t : k ≡ 0 + k - length (take k (b ∷ bs)) + length (take k (b ∷ bs)) = omega arith in
-    (λ j. end_at (i j) (Happened (Blob id (record { total = total; offset = o; from = f j; to = t j }))) (phase_in (pick (ltb (o + k) total) (in_payload id blob total (o + k)) idle)) (carried_at d))
+    (λ j. end_at (i j) (Ok (Happened (Blob id (record { total = total; offset = o; from = f j; to = t j })))) (phase_in (pick (ltb (o + k) total) (in_payload id blob total (o + k)) idle)) (carried_at d))
     ∙ ap (λ (m : ℕ). end_in (pieces.piece 0 d id blob total o m (b ∷ bs))) (sym e)
 
 pub part_read : (L : Limits) (d id : ℕ) (r : RawType) (total o : ℕ) (c : List ℕ) (v : Event) → (length c ≡ 0 → ⊥) → length c < total - o → v ≡ piece_in id r total o (length c)
-    → end_at (length c) (Happened v) (Payload id r total (o + length c)) (carried_at d) ≡ end_in (call L (reading d (in_payload id (raw_sort r) total o)) c)
+    → end_at (length c) (Ok (Happened v)) (Payload id r total (o + length c)) (carried_at d) ≡ end_in (call L (reading d (in_payload id (raw_sort r) total o)) c)
 part_read L d id r total o c v h l e =
-    ap (λ (x : Event). end_at (length c) (Happened x) (Payload id r total (o + length c)) (carried_at d)) e
+    ap (λ (x : Event). end_at (length c) (Ok (Happened x)) (Payload id r total (o + length c)) (carried_at d)) e
     ∙ simp (lt-ltb (o + length c) total (omega arith), raw_back r) at (some_bytes L d id r total o (length c) c h (min-eq_right (omega arith)))
 
 pub rest_read : (L : Limits) (d id : ℕ) (r : RawType) (total o : ℕ) (c : List ℕ) (v : Event) (p : Phase) → o < total → (length c ≡ 0 → ⊥) → total - o ≤ length c → v ≡ piece_in id r total o (total - o) → p ≡ phase_in idle
-    → end_at (total - o) (Happened v) p (carried_at d) ≡ end_in (call L (reading d (in_payload id (raw_sort r) total o)) c)
+    → end_at (total - o) (Ok (Happened v)) p (carried_at d) ≡ end_in (call L (reading d (in_payload id (raw_sort r) total o)) c)
 rest_read L d id r total o c v p g h l e f =
-    (λ i. end_at (total - o) (Happened (e i)) (f i) (carried_at d))
+    (λ i. end_at (total - o) (Ok (Happened (e i))) (f i) (carried_at d))
     ∙ simp (le-ltb (o + (total - o)) total (omega arith)) at (some_bytes L d id r total o (total - o) c h (min-eq_left l))

@@ -55,14 +55,14 @@ pub fn payload(
     let owed = (total - offset) as usize;
     if len == 0 {
         let here = Phase::Payload(id, r, total, offset);
-        return ended(0, Answer::Status(Status::Incomplete), here, carried);
+        return ended(0, Ok(Answer::Status(Status::Incomplete)), here, carried);
     }
     if len < owed {
-        let part = Answer::Event(piece(id, r, total, offset, len));
+        let part = Ok(Answer::Event(piece(id, r, total, offset, len)));
         let rest = Phase::Payload(id, r, total, offset + (len as u32));
         return ended(len, part, rest, carried);
     }
-    let last = Answer::Event(piece(id, r, total, offset, owed));
+    let last = Ok(Answer::Event(piece(id, r, total, offset, owed)));
     ended(owed, last, idle(), carried)
 }
 
@@ -75,8 +75,8 @@ pub fn slowly(phase: Phase, carried: Carried, chunk: &[u8]) -> CallEnd
     }
     match phase {
         Phase::Payload(id, r, total, offset) => payload(carried, id, r, total, offset, chunk),
-        Phase::Empty(id, r) => ended(0, Answer::Event(piece(id, r, 0, 0, 0)), idle(), carried),
-        Phase::Broken => ended(0, Answer::Refused(Error::InvalidMsg), phase, carried),
+        Phase::Empty(id, r) => ended(0, Ok(Answer::Event(piece(id, r, 0, 0, 0))), idle(), carried),
+        Phase::Broken => ended(0, Err(Error::InvalidMsg), phase, carried),
         _ => scan(phase, carried, chunk),
     }
 }

@@ -1,5 +1,4 @@
 -- `read_slowly::scan` meets its contract: each turn, the call is what reading on from the state reached comes to.
-use Prim.Native.Nat.{◌-◌}
 use mathlib.Core.Path.{◌∙◌}
 use native.Mathlib.Omega.{arith}
 use lib.ListN.{get_or}

@@ -1,6 +1,6 @@
 -- What a call comes to: its answer from the machine's, and where a byte leaves it. Of these only `status_in` and `answer_in` stand behind
 -- `feed`, which has its equation in istream's `Stream`.
-use Rattle.std.specs.Prelude.{ℕ, ◌-◌, Result, Ok, Err}
+use Rattle.std.specs.Prelude.{ℕ, ◌-◌, Option, Some, None, Result, Ok, Err}
 use Rattle.layout.specs.Message.{Verdict, complete, incomplete, broken_at}
 use Rattle.machine.specs.Calls.{broke, Called, verdict_so}
 use Rattle.machine.specs.Calls as calls
@@ -12,7 +12,7 @@ use Rattle.phase.specs.declared.Phase.{Phase}
 use Rattle.phase.specs.Phases.{state_at, phase_of, carried_of}
 use Rattle.phase.specs.Steps.{covered}
 use Rattle.phase.specs.declared.Stepped.{Stepped}
-use Rattle.phase.specs.declared.Stepped.TheVariants.{On, Raised, Bad}
+use Rattle.phase.specs.declared.Stepped.TheVariants.{On, Raised}
 use Rattle.call_end.specs.declared.Status as Statuses
 use Rattle.call_end.specs.declared.Status.TheVariants.{Complete, Incomplete}
 use Rattle.call_end.specs.declared.Answer.{Answer}
@@ -38,10 +38,10 @@ abbrev pub end_at : ℕ → Result Answer Error → Phase → Carried → CallEn
 end_at n a p k = record { read = n; answer = a; phase = p; carried = k }
 
 -- where a byte leaves a call that has read n: at the chunk's end, at an event, or broken
-abbrev pub stopped : ℕ → Stepped → CallEnd
-stopped n (On p k) = end_at n (Ok (Status (status_in (verdict_so (state_at k.depth p))))) p k
-stopped n (Raised e p k) = end_at n (Ok (Event e)) p k
-stopped n Bad = end_at n (Err (refusal 2)) (phase_of broke) (carried_of broke)
+abbrev pub stopped : ℕ → Option Stepped → CallEnd
+stopped n (Some (On p k)) = end_at n (Ok (Status (status_in (verdict_so (state_at k.depth p))))) p k
+stopped n (Some (Raised e p k)) = end_at n (Ok (Event e)) p k
+stopped n None = end_at n (Err (refusal 2)) (phase_of broke) (carried_of broke)
 
 -- refused: nothing is read and the state stays as it is
 abbrev pub refused : ℕ → Phase → Carried → CallEnd

@@ -63,21 +63,21 @@ pub fn verdict(phase: Phase, carried: Carried) -> Status
 }
 
 // Where a byte leaves a call that has read n.
-pub fn stop(n: usize, s: Stepped) -> CallEnd
+pub fn stop(n: usize, s: Option<Stepped>) -> CallEnd
     ensures { result ≡ stopped n s }
 {
     match s {
-        Stepped::On(phase, carried) => {
+        Some(Stepped::On(phase, carried)) => {
             let status = verdict(phase, carried);
             ended(n, Ok(Answer::Status(status)), phase, carried)
         }
-        Stepped::Raised(event, phase, carried) => ended(
+        Some(Stepped::Raised(event, phase, carried)) => ended(
             n,
             Ok(Answer::Event(event)),
             phase,
             carried,
         ),
-        Stepped::Bad => ended(
+        None => ended(
             n,
             Err(Error::InvalidMsg),
             Phase::Broken,

@@ -7,7 +7,7 @@ use native.Mathlib.Omega.{arith}
 use lib.ListN.{length, get_or}
 use lib.Dec.{ltb}
 use borrow.Author.Tests.{le-leb, lt-ltb, leb-true, ltb-true}
-use Rattle.std.specs.Prelude.{Ok}
+use Rattle.std.specs.Prelude.{Ok, Some}
 use Rattle.layout.specs.Limits.{Limits, pick}
 use Rattle.layout.specs.Field.{Raw, bytes_of}
 use Rattle.machine.specs.Machine as machine
@@ -114,7 +114,7 @@ broken_live L (owing d id r) c x = tt
 broken_live L broke c x = let f = x.answered in let z : ◌≡◌ {A = ℕ} 0 1 = cc in absurd (omega arith)
 
 -- what is read at once
-pub from_once : (L : Limits) (s : IStream) (c : List ℕ) (p : Phase) (k : Carried) (e : Given.Event) (n : ℕ) → s.carried.depth ≤ L.depth → RightFrom L s.carried.depth s.phase (Done p k e n) c
+pub from_once : (L : Limits) (s : IStream) (c : List ℕ) (p : Phase) (k : Carried) (e : Given.Event) (n : ℕ) → s.carried.depth ≤ L.depth → RightFrom L s.carried.depth s.phase (Some (Done p k e n)) c
     → fed_at n (Ok (Answers.Event e)) p k ≡ fed_of L s c
 unfolding fed_in
 from_once L s c p k e n b (t, x) =
@@ -132,7 +132,7 @@ spent_live L (owing d id r) c x = tt
 spent_live L broke c x = let f = ap (λ (y : Called). y.answer) x in let z : ◌≡◌ {A = ℕ} 0 1 = cc in absurd (omega arith)
 
 -- a chunk that is spent
-pub from_spent : (L : Limits) (s : IStream) (c : List ℕ) (v : Status) (p : Phase) → s.carried.depth ≤ L.depth → v ≡ status_in (verdict_so (state_of s)) → p ≡ s.phase → RightFrom L s.carried.depth s.phase Spent c
+pub from_spent : (L : Limits) (s : IStream) (c : List ℕ) (v : Status) (p : Phase) → s.carried.depth ≤ L.depth → v ≡ status_in (verdict_so (state_of s)) → p ≡ s.phase → RightFrom L s.carried.depth s.phase (Some Spent) c
     → fed_at 0 (Ok (Answers.Status v)) p s.carried ≡ fed_of L s c
 unfolding fed_in
 from_spent L s c v p b e f (t, x) =

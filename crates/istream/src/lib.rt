@@ -160,12 +160,12 @@ impl IStream {
         let other = self.phase;
         let q = at_once(carried, other, chunk);
         match q {
-            Once::Done(p, k, e, n) => answered(n, Ok(Answer::Event(e)), p, k),
-            Once::Spent => {
+            Some(Once::Done(p, k, e, n)) => answered(n, Ok(Answer::Event(e)), p, k),
+            Some(Once::Spent) => {
                 let status = verdict(other, carried);
                 answered(0, Ok(Answer::Status(status)), rebuilt(other), carried)
             }
-            Once::Other => feed_out_of_line(self, chunk),
+            None => feed_out_of_line(self, chunk),
         }
     }
 }

@@ -8,8 +8,6 @@ use lib.ListN.{length, get_or, take, drop}
 use lib.Seq.{drop-cons, drop-length, length-take-le}
 use lib.Dec.{ltb}
 use borrow.Author.Tests.{lt-ltb, le-ltb}
-use types.Run.{OneOf, miss}
-use denote.Enum.Declared.{tag_of}
 use Rattle.layout.specs.Limits.{Limits, pick}
 use Rattle.layout.specs.Field.{string, blob}
 use Rattle.machine.specs.Machine as machine
@@ -33,9 +31,8 @@ use Rattle.phase.proofs.Scans.{scan_byte}
 use Rattle.phase.specs.declared.Stepped.{Stepped}
 use Rattle.phase.specs.declared.Stepped.TheVariants.{On, Raised}
 use Rattle.phase.specs.Steps.{stepped, step_on, covered}
-use Rattle.phase.specs.contracts.Stepped.{the_type}
 use Rattle.call_end.specs.declared.Status.TheVariants.{Incomplete}
-use Rattle.std.specs.Prelude.{Ok}
+use Rattle.std.specs.Prelude.{Ok, Option, Some, None}
 use Rattle.call_end.specs.declared.Answer.TheVariants.{Event as Happened, Status}
 use Rattle.call_end.specs.CallEnd.{status_in, end_in, end_at, stopped}
 
@@ -53,16 +50,21 @@ call-scan L (owing d id r) bs = refl
 call-scan L broke bs = refl
 
 -- a byte that ends the call
-leave : (L : Limits) (n : ℕ) (m : machine.Stepped) (f : ℕ → machine.Phase → Called) → Kept L m → OneOf (1 ∷ 2 ∷ []) (tag_of the_type (stepped m)) → stopped n (stepped m) ≡ end_in (scanned n m f)
+abbrev pub Leaves : Option Stepped → Type 0
+Leaves (Some (On p k)) = ⊥
+Leaves (Some (Raised e p k)) = Unit {0}
+Leaves None = Unit {0}
+
+leave : (L : Limits) (n : ℕ) (m : machine.Stepped) (f : ℕ → machine.Phase → Called) → Kept L m → Leaves (stepped m) → stopped n (stepped m) ≡ end_in (scanned n m f)
 unfolding scanned end_in
-leave L n (on [] d p) f k o = absurd (miss (1 ∷ 2 ∷ []) 0 tt o)
-leave L n (on (e ∷ es) d p) f k o = ap (λ (x : Event). stopped n (Raised x (phase_of (raised_state d p es)) (carried_of (raised_state d p es)))) (sym (k.0 (n - covered e)))
+leave L n (on [] d p) f k o = absurd o
+leave L n (on (e ∷ es) d p) f k o = ap (λ (x : Event). stopped n (Some (Raised x (phase_of (raised_state d p es)) (carried_of (raised_state d p es))))) (sym (k.0 (n - covered e)))
 leave L n bad f k o = refl
 
-pub ends-call : (L : Limits) (n : ℕ) (st : State) (b : ℕ) (bs : List ℕ) (s : Stepped) → AtBytes L st → b < 256 → s ≡ stepped (step_on L st b) → OneOf (1 ∷ 2 ∷ []) (tag_of the_type s) → stopped (suc n) s ≡ end_in (scan_on L n st (b ∷ bs))
+pub ends-call : (L : Limits) (n : ℕ) (st : State) (b : ℕ) (bs : List ℕ) (s : Option Stepped) → AtBytes L st → b < 256 → s ≡ stepped (step_on L st b) → Leaves s → stopped (suc n) s ≡ end_in (scan_on L n st (b ∷ bs))
 ends-call L n (reading d p) b bs s a h e o =
     ap (stopped (suc n)) e
-    ∙ leave L (suc n) (machine.step L d p b) (λ d' p'. scan L (suc n) d' p' bs) (step_keeps L d p b a h) (subst (λ (x : Stepped). OneOf (1 ∷ 2 ∷ []) (tag_of the_type x)) e o)
+    ∙ leave L (suc n) (machine.step L d p b) (λ d' p'. scan L (suc n) d' p' bs) (step_keeps L d p b a h) (subst Leaves e o)
     ∙ ap end_in (sym (scan_byte L n d p b bs a.1.1))
 ends-call L n (owing d id r) b bs s a h e o = absurd a
 ends-call L n broke b bs s a h e o = absurd a
@@ -72,11 +74,11 @@ pub record GoesOn (L : Limits) (n : ℕ) (st : State) (b : ℕ) (bs : List ℕ) 
   pub bytes : AtBytes L (state_at k.depth q)
   pub same : scan_on L n st (b ∷ bs) ≡ scan_on L (suc n) (state_at k.depth q) bs
 
-pub goes_on : (L : Limits) (n : ℕ) (st : State) (b : ℕ) (bs : List ℕ) (q : Phase) (k : Carried) → AtBytes L st → b < 256 → On q k ≡ stepped (step_on L st b) → GoesOn L n st b bs q k
+pub goes_on : (L : Limits) (n : ℕ) (st : State) (b : ℕ) (bs : List ℕ) (q : Phase) (k : Carried) → AtBytes L st → b < 256 → Some (On q k) ≡ stepped (step_on L st b) → GoesOn L n st b bs q k
 unfolding scanned
 goes_on L n (reading d p) b bs q k₁ a h e = go (machine.step L d p b) refl (step_keeps L d p b a h) e
   where
-    go : (m : machine.Stepped) → machine.step L d p b ≡ m → Kept L m → On q k₁ ≡ stepped m → GoesOn L n (reading d p) b bs q k₁
+    go : (m : machine.Stepped) → machine.step L d p b ≡ m → Kept L m → Some (On q k₁) ≡ stepped m → GoesOn L n (reading d p) b bs q k₁
     go (on [] d' p') r k f =
         let g : q ≡ phase_in p' = cc in
         let j : k₁ ≡ carried_at d' = cc in
@@ -94,13 +96,13 @@ goes_on L n (owing d id r) b bs q k₁ a h e = absurd a
 goes_on L n broke b bs q k₁ a h e = absurd a
 
 -- the chunk's end
-spent_at : (L : Limits) (n d : ℕ) (p : Phase) (st : State) → state_at d p ≡ st → phase_of st ≡ p → depth_of st ≡ d → AtBytes L st → stopped n (On p (carried_at d)) ≡ end_in (scan_on L n st [])
+spent_at : (L : Limits) (n d : ℕ) (p : Phase) (st : State) → state_at d p ≡ st → phase_of st ≡ p → depth_of st ≡ d → AtBytes L st → stopped n (Some (On p (carried_at d))) ≡ end_in (scan_on L n st [])
 unfolding verdict_so scan end_in
 spent_at L n d p (reading d' q) e f g a = λ i. end_at n (Ok (Status (status_in (verdict_so (e i))))) (sym f i) (carried_at (sym g i))
 spent_at L n d p (owing d' id r) e f g a = absurd a
 spent_at L n d p broke e f g a = absurd a
 
-at_end : (L : Limits) (n d : ℕ) (p : Phase) → AtBytes L (state_at d p) → stopped n (On p (carried_at d)) ≡ end_in (scan_on L n (state_at d p) [])
+at_end : (L : Limits) (n d : ℕ) (p : Phase) → AtBytes L (state_at d p) → stopped n (Some (On p (carried_at d))) ≡ end_in (scan_on L n (state_at d p) [])
 at_end L n d p a = let l = at_bytes_live L (state_at d p) a in spent_at L n d p (state_at d p) refl (phase_back d p l) (depth_back d p l) a
 
 -- ---- the turns of the loop, n bytes of the chunk being read
@@ -109,21 +111,20 @@ module _ (L : Limits) (chunk : List ℕ) (st : State) (p : Phase) (d n : ℕ) (a
   next_byte : n < length chunk → call L st chunk ≡ scan_on L n (state_at d p) (get_or chunk n 0 ∷ drop (suc n) chunk)
   next_byte h = e ∙ ap (scan_on L n (state_at d p)) (drop-cons chunk n 0 h)
 
-  pub turn-ends : (s : Stepped) → n < length chunk → get_or chunk n 0 < 256 → s ≡ stepped (step_on L (state_at d p) (get_or chunk n 0)) → OneOf (1 ∷ 2 ∷ []) (tag_of the_type s) → stopped (n + 1) s ≡ end_in (call L st chunk)
+  pub turn-ends : (s : Option Stepped) → n < length chunk → get_or chunk n 0 < 256 → s ≡ stepped (step_on L (state_at d p) (get_or chunk n 0)) → Leaves s → stopped (n + 1) s ≡ end_in (call L st chunk)
   turn-ends s h b f o =
       let i : n + 1 ≡ suc n = omega arith in
       ap (λ (m : ℕ). stopped m s) i ∙ ends-call L n (state_at d p) (get_or chunk n 0) (drop (suc n) chunk) s a b f o ∙ ap end_in (sym (next_byte h))
 
-  pub turn_goes : (s : Stepped) (q : Phase) (k : Carried) → n < length chunk → get_or chunk n 0 < 256 → s ≡ stepped (step_on L (state_at d p) (get_or chunk n 0)) → s ≡ On q k
-      → (n + 1 ≤ length chunk) × (AtBytes L (state_at k.depth q) × (call L st chunk ≡ scan_on L (n + 1) (state_at k.depth q) (drop (n + 1) chunk)))
+  pub turn_goes : (s : Option Stepped) (q : Phase) (k : Carried) → n < length chunk → get_or chunk n 0 < 256 → s ≡ stepped (step_on L (state_at d p) (get_or chunk n 0)) → s ≡ Some (On q k)
+      → AtBytes L (state_at k.depth q) × (call L st chunk ≡ scan_on L (n + 1) (state_at k.depth q) (drop (n + 1) chunk))
   turn_goes s q k h b f g =
       let i : suc n ≡ n + 1 = omega arith in
       let o = goes_on L n (state_at d p) (get_or chunk n 0) (drop (suc n) chunk) q k a b (sym g ∙ f) in
-      (omega arith, (o.bytes, next_byte h ∙ o.same ∙ ap (λ (m : ℕ). scan_on L m (state_at k.depth q) (drop m chunk)) i))
+      (o.bytes, next_byte h ∙ o.same ∙ ap (λ (m : ℕ). scan_on L m (state_at k.depth q) (drop m chunk)) i)
 
-  pub turn_last : n ≤ length chunk → length chunk ≤ n → stopped n (On p (carried_at d)) ≡ end_in (call L st chunk)
-  turn_last h l =
-      let i : n ≡ length chunk = omega arith in
+  pub turn_last : n ≡ length chunk → stopped n (Some (On p (carried_at d))) ≡ end_in (call L st chunk)
+  turn_last i =
       at_end L n d p a ∙ ap end_in (ap (scan_on L n (state_at d p)) (sym (ap (λ (m : ℕ). drop m chunk) i ∙ drop-length chunk)) ∙ sym e)
 
 -- ---- payloads

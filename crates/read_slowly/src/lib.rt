@@ -25,18 +25,15 @@ fn scan(from: Phase, with: Carried, chunk: &[u8]) -> CallEnd
 {
     let mut phase = from;
     let mut carried = with;
-    let mut n: usize = 0;
-    while n < chunk.len() {
-        let s = step(carried, phase, chunk[n]);
-        let read = n + 1;
-        let Stepped::On(p, k) = s else {
-            return stop(read, s);
+    for (n, b) in chunk.iter().enumerate() {
+        let s = step(carried, phase, *b);
+        let Some(Stepped::On(p, k)) = s else {
+            return stop(n + 1, s);
         };
         phase = p;
         carried = k;
-        n = read;
     }
-    stop(n, Stepped::On(phase, carried))
+    stop(chunk.len(), Some(Stepped::On(phase, carried)))
 }
 
 // A payload's bytes in one piece, as many as the chunk has.

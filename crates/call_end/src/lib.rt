@@ -17,24 +17,24 @@ pub enum Status {
     Incomplete,
 }
 
+// What a call that isn't refused answers.
 #[derive(Clone, Copy)]
 pub enum Answer {
     Event(Event),
     Status(Status),
-    Refused(Error),
 }
 
-// The bytes read of the chunk, the answer, and the state after the call.
+// The bytes read of the chunk, the answer or the refusal, and the state after the call.
 #[derive(Clone, Copy)]
 pub struct CallEnd {
     pub read: usize,
-    pub answer: Answer,
+    pub answer: Result<Answer, Error>,
     pub phase: Phase,
     pub carried: Carried,
 }
 
 // A call's end.
-pub fn ended(read: usize, answer: Answer, phase: Phase, carried: Carried) -> CallEnd
+pub fn ended(read: usize, answer: Result<Answer, Error>, phase: Phase, carried: Carried) -> CallEnd
     ensures { result ≡ end_at read answer phase carried }
 {
     CallEnd {
@@ -63,18 +63,23 @@ pub fn verdict(phase: Phase, carried: Carried) -> Status
 }
 
 // Where a byte leaves a call that has read n.
-pub fn stop(n: usize, s: Stepped) -> CallEnd
+pub fn stop(n: usize, s: Option<Stepped>) -> CallEnd
     ensures { result ≡ stopped n s }
 {
     match s {
-        Stepped::On(phase, carried) => {
+        Some(Stepped::On(phase, carried)) => {
             let status = verdict(phase, carried);
-            ended(n, Answer::Status(status), phase, carried)
+            ended(n, Ok(Answer::Status(status)), phase, carried)
         }
-        Stepped::Raised(event, phase, carried) => ended(n, Answer::Event(event), phase, carried),
-        Stepped::Bad => ended(
+        Some(Stepped::Raised(event, phase, carried)) => ended(
             n,
-            Answer::Refused(Error::InvalidMsg),
+            Ok(Answer::Event(event)),
+            phase,
+            carried,
+        ),
+        None => ended(
+            n,
+            Err(Error::InvalidMsg),
             Phase::Broken,
             Carried { depth: 0 },
         ),
@@ -85,5 +90,5 @@ pub fn stop(n: usize, s: Stepped) -> CallEnd
 pub fn unsound(phase: Phase, carried: Carried) -> CallEnd
     ensures { result ≡ refused 1 phase carried }
 {
-    ended(0, Answer::Refused(Error::UnsoundReader), phase, carried)
+    ended(0, Err(Error::UnsoundReader), phase, carried)
 }

@@ -9,46 +9,50 @@ ghost use Rattle.phase.specs.Steps.{stepped};
 
 use event::Event;
 use phase::{Carried, Phase, Stepped, idle};
-use types::MAX_DEPTH;
+use types::{
+    MAX_DEPTH, T_FIXLEN, T_FIXLENARRAY, T_SEQUENCE_START, T_VARINT_SIGNED, T_VARINT_UNSIGNED,
+    T_VARINTARRAY_SIGNED, T_VARINTARRAY_UNSIGNED,
+};
 use varint::Acc;
 
 // A sequence is opened.
-pub fn sequence_begin(carried: Carried, id: u32) -> Stepped
+pub fn sequence_begin(carried: Carried, id: u32) -> Option<Stepped>
     ensures { result ≡ stepped (at_wire base carried.depth id t_begin) }
 {
     let depth = carried.depth;
     if (depth as u32) < MAX_DEPTH {
-        Stepped::Raised(Event::Begin(id), idle(), Carried { depth: depth + 1 })
+        Some(Stepped::Raised(Event::Begin(id), idle(), Carried { depth: depth + 1 }))
     } else {
-        Stepped::Bad
+        None
     }
 }
 
 // A sequence is closed; the id that a close carries is ignored.
-pub fn sequence_end(carried: Carried) -> Stepped
+pub fn sequence_end(carried: Carried) -> Option<Stepped>
     ensures { result ≡ stepped (at_wire base carried.depth 0 t_end) }
 {
     let depth = carried.depth;
     if depth == 0 {
-        Stepped::Bad
+        None
     } else {
-        Stepped::Raised(Event::End, idle(), Carried { depth: depth - 1 })
+        Some(Stepped::Raised(Event::End, idle(), Carried { depth: depth - 1 }))
     }
 }
 
 // A header is whole.
-pub fn field(carried: Carried, id: u32, wire: u8) -> Stepped
+pub fn field(carried: Carried, id: u32, wire: u8) -> Option<Stepped>
     ensures { result ≡ stepped (at_wire base carried.depth id (wire_of wire)) }
 {
-    let a = Acc { value: 0, taken: 0 };
-    match wire {
-        0 => Stepped::On(Phase::Unsigned(id, 0, a), carried),
-        1 => Stepped::On(Phase::Signed(id, 0, a), carried),
-        2 => Stepped::On(Phase::Word(id, a), carried),
-        3 => Stepped::On(Phase::UnsignedCount(id, a), carried),
-        4 => Stepped::On(Phase::SignedCount(id, a), carried),
-        5 => Stepped::On(Phase::FloatCount(id, a), carried),
-        6 => sequence_begin(carried, id),
-        _ => sequence_end(carried),
-    }
+    let a = Acc::new();
+    let next = match wire {
+        T_VARINT_UNSIGNED => Phase::Unsigned(id, 0, a),
+        T_VARINT_SIGNED => Phase::Signed(id, 0, a),
+        T_FIXLEN => Phase::Word(id, a),
+        T_VARINTARRAY_UNSIGNED => Phase::UnsignedCount(id, a),
+        T_VARINTARRAY_SIGNED => Phase::SignedCount(id, a),
+        T_FIXLENARRAY => Phase::FloatCount(id, a),
+        T_SEQUENCE_START => return sequence_begin(carried, id),
+        _ => return sequence_end(carried),
+    };
+    Some(Stepped::On(next, carried))
 }

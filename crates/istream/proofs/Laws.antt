@@ -7,13 +7,13 @@ use native.Mathlib.Omega.{arith}
 use lib.ListN.{length, get_or}
 use lib.Dec.{ltb}
 use borrow.Author.Tests.{le-leb, lt-ltb, leb-true, ltb-true}
+use Rattle.std.specs.Prelude.{Ok, Some}
 use Rattle.layout.specs.Limits.{Limits, pick}
 use Rattle.layout.specs.Field.{Raw, bytes_of}
 use Rattle.machine.specs.Machine as machine
 use Rattle.machine.specs.Machine.{in_header, in_unsigned, in_signed, in_word, in_unsigned_count, in_signed_count, in_float_count, in_array_word, in_float, in_payload, idle, on, bad}
 use Rattle.machine.specs.Calls.{State, reading, owing, broke, fresh, Called, call, scan, scanned, verdict_so}
 use Rattle.types.specs.declared.RawType.{RawType}
-use Rattle.types.specs.declared.RawType.TheVariants as Raws
 use Rattle.types.specs.Types.{raw_sort}
 use Rattle.varint.proofs.Laws as varint
 use Rattle.event.specs.declared.Event as Given
@@ -114,15 +114,15 @@ broken_live L (owing d id r) c x = tt
 broken_live L broke c x = let f = x.answered in let z : ◌≡◌ {A = ℕ} 0 1 = cc in absurd (omega arith)
 
 -- what is read at once
-pub from_once : (L : Limits) (s : IStream) (c : List ℕ) (p : Phase) (k : Carried) (e : Given.Event) (n : ℕ) → s.carried.depth ≤ L.depth → RightFrom L s.carried.depth s.phase (Done p k e n) c
-    → fed_at n (Answers.Event e) p k ≡ fed_of L s c
+pub from_once : (L : Limits) (s : IStream) (c : List ℕ) (p : Phase) (k : Carried) (e : Given.Event) (n : ℕ) → s.carried.depth ≤ L.depth → RightFrom L s.carried.depth s.phase (Some (Done p k e n)) c
+    → fed_at n (Ok (Answers.Event e)) p k ≡ fed_of L s c
 unfolding fed_in
 from_once L s c p k e n b (t, x) =
     (λ i. record { read = x.read i; answer = answers i; stream = record { phase = x.phase i; carried = x.carried i } })
     ∙ fed-sound L s (state_of s) c refl (broken_live L (state_of s) c x) (sym (sound_in L s s.phase b refl) ∙ t)
   where
-    answers : Answers.Event e ≡ answer_in (call L (state_of s) c).read (call L (state_of s) c).answer
-    answers = ap Answers.Event x.raised ∙ sym (ap (answer_in (call L (state_of s) c).read) x.answered)
+    answers : Ok (Answers.Event e) ≡ answer_in (call L (state_of s) c).read (call L (state_of s) c).answer
+    answers = ap (λ (y : Given.Event). Ok (Answers.Event y)) x.raised ∙ sym (ap (answer_in (call L (state_of s) c).read) x.answered)
 
 -- nor gives it a verdict
 spent_live : (L : Limits) (st : State) (c : List ℕ) → call L st c ≡ spent_at st → Live st
@@ -132,14 +132,14 @@ spent_live L (owing d id r) c x = tt
 spent_live L broke c x = let f = ap (λ (y : Called). y.answer) x in let z : ◌≡◌ {A = ℕ} 0 1 = cc in absurd (omega arith)
 
 -- a chunk that is spent
-pub from_spent : (L : Limits) (s : IStream) (c : List ℕ) (v : Status) (p : Phase) → s.carried.depth ≤ L.depth → v ≡ status_in (verdict_so (state_of s)) → p ≡ s.phase → RightFrom L s.carried.depth s.phase Spent c
-    → fed_at 0 (Answers.Status v) p s.carried ≡ fed_of L s c
+pub from_spent : (L : Limits) (s : IStream) (c : List ℕ) (v : Status) (p : Phase) → s.carried.depth ≤ L.depth → v ≡ status_in (verdict_so (state_of s)) → p ≡ s.phase → RightFrom L s.carried.depth s.phase (Some Spent) c
+    → fed_at 0 (Ok (Answers.Status v)) p s.carried ≡ fed_of L s c
 unfolding fed_in
 from_spent L s c v p b e f (t, x) =
     let l = spent_live L (state_of s) c x in
     let back = sym (stream_back s.carried.depth s.phase l) in
-    ap (λ (q : Phase). fed_at 0 (Answers.Status v) q s.carried) f
-    ∙ (λ i. record { read = 0; answer = Answers.Status (e i); stream = back i })
+    ap (λ (q : Phase). fed_at 0 (Ok (Answers.Status v)) q s.carried) f
+    ∙ (λ i. record { read = 0; answer = Ok (Answers.Status (e i)); stream = back i })
     ∙ ap fed_in (sym x)
     ∙ fed-sound L s (state_of s) c refl l (sym (sound_in L s s.phase b refl) ∙ t)
 

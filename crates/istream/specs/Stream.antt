@@ -1,11 +1,10 @@
 -- The reader's state as the machine's and back, which states are sound, and what a call answers: `fed_of`.
-use Rattle.std.specs.Prelude.{ℕ, Bool, ◌&&◌, List, leb}
+use Rattle.std.specs.Prelude.{ℕ, Bool, ◌&&◌, List, leb, Err}
 use Rattle.layout.specs.Limits.{Limits, pick}
 use Rattle.machine.specs.Calls.{State, reading, owing, broke, Called, call, standing}
 use Rattle.machine.specs.Calls as calls
 use Rattle.types.specs.Types.{refusal}
 use Rattle.phase.specs.Phases.{state_at, phase_of, carried_of, sound_phase}
-use Rattle.call_end.specs.declared.Answer.TheVariants as Answers
 use Rattle.istream.specs.declared.IStream.{IStream}
 use Rattle.istream.specs.declared.Standing.{Standing}
 use Rattle.istream.specs.declared.Standing.TheVariants as Standings
@@ -44,11 +43,11 @@ fed_in c = record { read = c.read; answer = answer_in c.read c.answer; stream = 
 -- "Number 1: the reader state isn't sound; nothing is read and the state returns unaltered."
 abbrev pub if_sound : Limits → IStream → List ℕ → Fed
 if_sound L s c =
-    pick (sound_stream L s) (fed_in (call L (state_of s) c)) (record { read = 0; answer = Answers.Refused (refusal 1); stream = s })
+    pick (sound_stream L s) (fed_in (call L (state_of s) c)) (record { read = 0; answer = Err (refusal 1); stream = s })
 
 -- "Each later call, an empty chunk too, gives 2 with nothing read."
 abbrev pub still : IStream → Fed
-still s = record { read = 0; answer = Answers.Refused (refusal 2); stream = s }
+still s = record { read = 0; answer = Err (refusal 2); stream = s }
 
 abbrev pub fed_from : Limits → State → IStream → List ℕ → Fed
 fed_from L (reading d p) s c = if_sound L s c

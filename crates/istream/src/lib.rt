@@ -15,6 +15,7 @@ use call_end::{CallEnd, verdict};
 use phase::{Carried, Phase, idle, rebuilt, sound, sound_payload};
 use read_at_once::{Once, at_once};
 use read_slowly::{payload, slowly};
+use types::Error;
 
 // What is under way, and what goes along with it.
 #[derive(Clone, Copy)]
@@ -35,7 +36,7 @@ pub enum Standing {
 #[derive(Clone, Copy)]
 pub struct Fed {
     pub read: usize,
-    pub answer: Answer,
+    pub answer: Result<Answer, Error>,
     pub stream: IStream,
 }
 
@@ -43,7 +44,7 @@ pub struct Fed {
 #[derive(Clone, Copy)]
 pub struct Heard {
     pub read: usize,
-    pub answer: Answer,
+    pub answer: Result<Answer, Error>,
 }
 
 #[derive(Clone, Copy)]
@@ -53,7 +54,7 @@ pub struct Taken {
 }
 
 // A call's end. Every call that alters the reader makes it here.
-fn answered(read: usize, answer: Answer, phase: Phase, carried: Carried) -> Fed
+fn answered(read: usize, answer: Result<Answer, Error>, phase: Phase, carried: Carried) -> Fed
     ensures { result ≡ fed_at read answer phase carried }
 {
     Fed {
@@ -159,12 +160,12 @@ impl IStream {
         let other = self.phase;
         let q = at_once(carried, other, chunk);
         match q {
-            Once::Done(p, k, e, n) => answered(n, Answer::Event(e), p, k),
-            Once::Spent => {
+            Some(Once::Done(p, k, e, n)) => answered(n, Ok(Answer::Event(e)), p, k),
+            Some(Once::Spent) => {
                 let status = verdict(other, carried);
-                answered(0, Answer::Status(status), rebuilt(other), carried)
+                answered(0, Ok(Answer::Status(status)), rebuilt(other), carried)
             }
-            Once::Other => feed_out_of_line(self, chunk),
+            None => feed_out_of_line(self, chunk),
         }
     }
 }

@@ -1,10 +1,11 @@
 -- The gatherer's state and answers as the code has them, in the words of `gathering`.
-use Rattle.std.specs.Prelude.{List, ℕ}
+use Rattle.std.specs.Prelude.{List, ℕ, Result, Ok, Err}
+use Rattle.types.specs.declared.Error.{Error}
 use Rattle.types.specs.Types.{number_of}
 use Rattle.gathering.specs.Gather.{Gatherer, Said, nothing, in_chunk, in_buffer, number, Gathered}
 use Rattle.payload.specs.declared.PayloadAcc.{PayloadAcc}
 use Rattle.payload.specs.declared.Answer.{Answer}
-use Rattle.payload.specs.declared.Answer.TheVariants.{Nothing, InChunk, InBuffer, Refused}
+use Rattle.payload.specs.declared.Answer.TheVariants.{Nothing, InChunk, InBuffer}
 use Rattle.payload.specs.declared.Fed.{Fed}
 
 -- The state, field by field.
@@ -12,11 +13,11 @@ abbrev pub state_of : PayloadAcc → Gatherer
 state_of a = record { len = a.len; complete = a.complete }
 
 -- 01's words and number of each answer.
-abbrev pub said_of : Answer → Said
-said_of Nothing = nothing
-said_of (InChunk n) = in_chunk n
-said_of (InBuffer n) = in_buffer n
-said_of (Refused e) = number (number_of e)
+abbrev pub said_of : Result Answer Error → Said
+said_of (Ok Nothing) = nothing
+said_of (Ok (InChunk n)) = in_chunk n
+said_of (Ok (InBuffer n)) = in_buffer n
+said_of (Err e) = number (number_of e)
 
 -- What a call of `feed` says and leaves: the code's result, and the buffer as the call leaves it.
 abbrev pub result_of : Fed → List ℕ → Gathered

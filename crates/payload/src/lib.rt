@@ -16,18 +16,17 @@ pub struct PayloadAcc {
     pub complete: bool,
 }
 
-// What `feed` says: nothing yet; whole, as the first so many bytes of the chunk or of the buffer; or refused.
+// What `feed` says of a piece that it doesn't refuse: nothing yet; or whole, as the first so many bytes of the chunk or of the buffer.
 #[derive(Clone, Copy)]
 pub enum Answer {
     Nothing,
     InChunk(usize),
     InBuffer(usize),
-    Refused(Error),
 }
 
 #[derive(Clone, Copy)]
 pub struct Fed {
-    pub answer: Answer,
+    pub answer: Result<Answer, Error>,
     pub acc: PayloadAcc,
 }
 
@@ -43,11 +42,7 @@ fn copy_in(buf: &mut [u8], pos: usize, src: &[u8], n: usize)
 fn owing(held: usize, total: usize, given: usize) -> usize
     ensures { result ≡ owed held total given }
 {
-    if total <= held {
-        return 0;
-    }
-    let want = total - held;
-    if given < want { given } else { want }
+    total.saturating_sub(held).min(given)
 }
 
 // Whether a chunk of so many bytes holds the whole payload.
@@ -92,13 +87,13 @@ impl PayloadAcc {
         self.len = len;
         if len < total {
             return Fed {
-                answer: Answer::Nothing,
+                answer: Ok(Answer::Nothing),
                 acc: self,
             };
         }
         self.complete = true;
         Fed {
-            answer: Answer::InBuffer(total),
+            answer: Ok(Answer::InBuffer(total)),
             acc: self,
         }
     }
@@ -110,13 +105,13 @@ impl PayloadAcc {
     {
         if self.complete {
             return Fed {
-                answer: Answer::Nothing,
+                answer: Ok(Answer::Nothing),
                 acc: self,
             };
         }
         if buf.len() < total {
             return Fed {
-                answer: Answer::Refused(Error::PayloadTooLong),
+                answer: Err(Error::PayloadTooLong),
                 acc: self,
             };
         }
@@ -124,13 +119,13 @@ impl PayloadAcc {
             self.len = 0;
             self.complete = true;
             return Fed {
-                answer: Answer::InChunk(total),
+                answer: Ok(Answer::InChunk(total)),
                 acc: self,
             };
         }
         if offset != self.len {
             return Fed {
-                answer: Answer::Nothing,
+                answer: Ok(Answer::Nothing),
                 acc: self,
             };
         }
@@ -141,18 +136,13 @@ impl PayloadAcc {
     pub fn feed(self, buf: &mut [u8], total: usize, offset: usize, chunk: &[u8]) -> Fed
         ensures { result_of result buf.new ≡ gathered (state_of self) buf.old total offset chunk.now }
     {
-        // Rebuilt from its fields (docs/PERFORMANCE.md).
-        let held = PayloadAcc {
-            len: self.len,
-            complete: self.complete,
-        };
-        if buf.len() < held.len {
+        if buf.len() < self.len {
             return Fed {
-                answer: Answer::Refused(Error::UnsoundGatherer),
-                acc: held,
+                answer: Err(Error::UnsoundGatherer),
+                acc: self,
             };
         }
-        let acc = held.begin(offset);
+        let acc = self.begin(offset);
         acc.accept(buf, total, offset, chunk)
     }
 
@@ -179,16 +169,15 @@ impl PayloadAcc {
 }
 
 // The payload that an answer of `feed` calls whole, given the state and the slices that this call left: a part of one of them.
-pub fn payload<'a>(answer: Answer, acc: PayloadAcc, buf: &'a [u8], chunk: &'a [u8]) -> &'a [u8]
+pub fn payload<'a>(answer: Result<Answer, Error>, acc: PayloadAcc, buf: &'a [u8], chunk: &'a [u8]) -> &'a [u8]
     ensures { result.now ≡ part_of (said_of answer) (state_of acc) buf.now chunk.now }
 {
     if buf.len() < acc.len {
         return &buf[..0];
     }
     match answer {
-        Answer::InChunk(n) => first(chunk, n),
-        Answer::InBuffer(n) => first(buf, n),
-        Answer::Nothing => &buf[..0],
-        Answer::Refused(e) => &buf[..0],
+        Ok(Answer::InChunk(n)) => first(chunk, n),
+        Ok(Answer::InBuffer(n)) => first(buf, n),
+        Ok(Answer::Nothing) | Err(_) => &buf[..0],
     }
 }

@@ -1,5 +1,5 @@
 -- What a byte comes to, as the machine has it and as this crate's type.
-use Rattle.std.specs.Prelude.{ℕ, [], ◌∷◌, length}
+use Rattle.std.specs.Prelude.{ℕ, [], ◌∷◌, length, Option, Some, None}
 use Rattle.layout.specs.Limits.{Limits}
 use Rattle.layout.specs.Event as layout
 use Rattle.machine.specs.Machine as machine
@@ -8,13 +8,13 @@ use Rattle.machine.specs.Calls.{State, reading, owing, broke, raised_state}
 use Rattle.event.specs.Event.{declared}
 use Rattle.phase.specs.Phases.{phase_in, phase_of, carried_at, carried_of}
 use Rattle.phase.specs.declared.Stepped.{Stepped}
-use Rattle.phase.specs.declared.Stepped.TheVariants.{On, Raised, Bad}
+use Rattle.phase.specs.declared.Stepped.TheVariants.{On, Raised}
 
--- what the machine makes of a byte, as this crate's: the first event, and the state with the second one still due
-abbrev pub stepped : machine.Stepped → Stepped
-stepped (on [] d p) = On (phase_in p) (carried_at d)
-stepped (on (e ∷ es) d p) = Raised (declared 0 e) (phase_of (raised_state d p es)) (carried_of (raised_state d p es))
-stepped bad = Bad
+-- what the machine makes of a byte, as this crate's: the first event, and the state with the second one still due; none of a broken message
+abbrev pub stepped : machine.Stepped → Option Stepped
+stepped (on [] d p) = Some (On (phase_in p) (carried_at d))
+stepped (on (e ∷ es) d p) = Some (Raised (declared 0 e) (phase_of (raised_state d p es)) (carried_of (raised_state d p es)))
+stepped bad = None
 
 -- a byte in a state that reads on
 abbrev pub step_on : Limits → State → ℕ → machine.Stepped

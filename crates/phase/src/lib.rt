@@ -38,19 +38,18 @@ pub struct Carried {
     pub depth: u8,
 }
 
-// What one byte comes to: the phase after it and what is carried along, an event before them, or a broken message.
+// What one byte comes to, where it doesn't break the message: the phase after it and what is carried along, or an event before them.
 #[derive(Clone, Copy)]
 pub enum Stepped {
     On(Phase, Carried),
     Raised(Event, Phase, Carried),
-    Bad,
 }
 
 // Between fields.
 pub fn idle() -> Phase
     ensures { result ≡ phase_in idle }
 {
-    Phase::Header(Acc { value: 0, taken: 0 })
+    Phase::Header(Acc::new())
 }
 
 // The elements left of an array come next; or, where none is left, the next field.
@@ -60,7 +59,7 @@ pub fn unsigneds(id: u32, left: u32) -> Phase
     if left == 0 {
         idle()
     } else {
-        Phase::Unsigned(id, left, Acc { value: 0, taken: 0 })
+        Phase::Unsigned(id, left, Acc::new())
     }
 }
 
@@ -70,7 +69,7 @@ pub fn signeds(id: u32, left: u32) -> Phase
     if left == 0 {
         idle()
     } else {
-        Phase::Signed(id, left, Acc { value: 0, taken: 0 })
+        Phase::Signed(id, left, Acc::new())
     }
 }
 
@@ -88,7 +87,7 @@ pub fn floats(id: u32, w: FloatType, left: u32) -> Phase
 pub fn less(left: u32) -> u32
     ensures { result ≡ left - 1 }
 {
-    if left == 0 { 0 } else { left - 1 }
+    left.saturating_sub(1)
 }
 
 // Whether a varint under way can be so: its id, the elements left and its bytes.

@@ -1,6 +1,6 @@
 -- What is read at once: where a varint stands whole in the chunk, and an answer that is the call's wherever there is one. Only the
 -- reader's own code cites these: `feed` has its equation in istream's `Stream`.
-use Rattle.std.specs.Prelude.{ℕ, ◌-◌, ◌≤◌, ◌≡◌, true, List, length, drop}
+use Rattle.std.specs.Prelude.{ℕ, ◌-◌, ◌≤◌, ◌≡◌, true, List, length, drop, Option, Some, None}
 use Rattle.layout.specs.Limits.{Limits}
 use Rattle.layout.specs.Varint.{push}
 use Rattle.layout.specs.Event as layout
@@ -13,10 +13,8 @@ use Rattle.phase.specs.declared.Carried.{Carried}
 use Rattle.phase.specs.declared.Phase as phases
 use Rattle.phase.specs.Phases.{state_at, phase_of, carried_of, sound_phase}
 use Rattle.phase.specs.declared.Stepped as given
-use Rattle.phase.specs.declared.Stepped.TheVariants.{On, Raised, Bad}
+use Rattle.phase.specs.declared.Stepped.TheVariants.{On, Raised}
 use Rattle.phase.specs.Steps.{covered}
-use Rattle.read_at_once.specs.declared.Found.{Found}
-use Rattle.read_at_once.specs.declared.Found.TheVariants as Founds
 use Rattle.read_at_once.specs.declared.Once.{Once}
 use Rattle.read_at_once.specs.declared.Once.TheVariants as Onces
 
@@ -34,10 +32,6 @@ pub record Reads (L : Limits) (c : List ℕ) (at v n : ℕ) : Type 0 where
   pub within-chunk : n ≤ length c
   pub reads : (d : ℕ) (P : ℕ → ℕ → Phase) (F : ℕ → Stepped) → Varying L d P F → scan L at d (P 0 0) (drop at c) ≡ read_on L c n (F v)
 
-abbrev pub FoundAt : Limits → List ℕ → ℕ → Found → Type 0
-FoundAt L c at (Founds.Whole v n) = Reads L c at v n
-FoundAt L c at Founds.Other = Unit
-
 -- a call stops at an event after n bytes, in this phase and with this carried along
 pub record StopsAt (p : phases.Phase) (k : Carried) (e : Given.Event) (n : ℕ) (c : Called) : Type 0 where
   pub event : layout.Event
@@ -48,23 +42,23 @@ pub record StopsAt (p : phases.Phase) (k : Carried) (e : Given.Event) (n : ℕ) 
   pub carried : k ≡ carried_of c.state
 
 -- an answer about some bytes is the call's
-abbrev pub Right : Once → Called → Type 0
-Right (Onces.Done p k e n) c = StopsAt p k e n c
-Right Onces.Spent c = ⊥
-Right Onces.Other c = Unit
+abbrev pub Right : Option Once → Called → Type 0
+Right (Some (Onces.Done p k e n)) c = StopsAt p k e n c
+Right (Some Onces.Spent) c = ⊥
+Right None c = Unit
 
 -- nothing is read, and the state stays
 abbrev pub spent_at : State → Called
 spent_at st = record { read = 0; answer = calls.verdict (verdict_so st); state = st }
 
 -- an answer is the call's, and the phase that it starts from, at depth d, is sound
-abbrev pub RightFrom : Limits → ℕ → phases.Phase → Once → List ℕ → Type 0
-RightFrom L d from (Onces.Done p k e n) c = (sound_phase L from ≡ true) × StopsAt p k e n (call L (state_at d from) c)
-RightFrom L d from Onces.Spent c = (sound_phase L from ≡ true) × (call L (state_at d from) c ≡ spent_at (state_at d from))
-RightFrom L d from Onces.Other c = Unit
+abbrev pub RightFrom : Limits → ℕ → phases.Phase → Option Once → List ℕ → Type 0
+RightFrom L d from (Some (Onces.Done p k e n)) c = (sound_phase L from ≡ true) × StopsAt p k e n (call L (state_at d from) c)
+RightFrom L d from (Some Onces.Spent) c = (sound_phase L from ≡ true) × (call L (state_at d from) c ≡ spent_at (state_at d from))
+RightFrom L d from None c = Unit
 
 -- the answer of a call that stops at an event
-abbrev pub raised_of : ℕ → given.Stepped → Once
-raised_of n (On p k) = Onces.Other
-raised_of n (Raised e p k) = Onces.Done p k e n
-raised_of n Bad = Onces.Other
+abbrev pub raised_of : ℕ → Option given.Stepped → Option Once
+raised_of n (Some (On p k)) = None
+raised_of n (Some (Raised e p k)) = Some (Onces.Done p k e n)
+raised_of n None = None

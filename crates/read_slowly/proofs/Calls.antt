@@ -8,8 +8,6 @@ use lib.ListN.{length, get_or, take, drop}
 use lib.Seq.{drop-cons, drop-length, length-take-le}
 use lib.Dec.{ltb}
 use borrow.Author.Tests.{lt-ltb, le-ltb}
-use types.Run.{OneOf, miss}
-use denote.Enum.Declared.{tag_of}
 use Rattle.layout.specs.Limits.{Limits, pick}
 use Rattle.layout.specs.Field.{string, blob}
 use Rattle.machine.specs.Machine as machine
@@ -33,8 +31,8 @@ use Rattle.phase.proofs.Scans.{scan_byte}
 use Rattle.phase.specs.declared.Stepped.{Stepped}
 use Rattle.phase.specs.declared.Stepped.TheVariants.{On, Raised}
 use Rattle.phase.specs.Steps.{stepped, step_on, covered}
-use Rattle.phase.specs.contracts.Stepped.{the_type}
 use Rattle.call_end.specs.declared.Status.TheVariants.{Incomplete}
+use Rattle.std.specs.Prelude.{Ok, Option, Some, None}
 use Rattle.call_end.specs.declared.Answer.TheVariants.{Event as Happened, Status}
 use Rattle.call_end.specs.CallEnd.{status_in, end_in, end_at, stopped}
 
@@ -52,16 +50,21 @@ call-scan L (owing d id r) bs = refl
 call-scan L broke bs = refl
 
 -- a byte that ends the call
-leave : (L : Limits) (n : ℕ) (m : machine.Stepped) (f : ℕ → machine.Phase → Called) → Kept L m → OneOf (1 ∷ 2 ∷ []) (tag_of the_type (stepped m)) → stopped n (stepped m) ≡ end_in (scanned n m f)
+abbrev pub Leaves : Option Stepped → Type 0
+Leaves (Some (On p k)) = ⊥
+Leaves (Some (Raised e p k)) = Unit {0}
+Leaves None = Unit {0}
+
+leave : (L : Limits) (n : ℕ) (m : machine.Stepped) (f : ℕ → machine.Phase → Called) → Kept L m → Leaves (stepped m) → stopped n (stepped m) ≡ end_in (scanned n m f)
 unfolding scanned end_in
-leave L n (on [] d p) f k o = absurd (miss (1 ∷ 2 ∷ []) 0 tt o)
-leave L n (on (e ∷ es) d p) f k o = ap (λ (x : Event). stopped n (Raised x (phase_of (raised_state d p es)) (carried_of (raised_state d p es)))) (sym (k.0 (n - covered e)))
+leave L n (on [] d p) f k o = absurd o
+leave L n (on (e ∷ es) d p) f k o = ap (λ (x : Event). stopped n (Some (Raised x (phase_of (raised_state d p es)) (carried_of (raised_state d p es))))) (sym (k.0 (n - covered e)))
 leave L n bad f k o = refl
 
-pub ends-call : (L : Limits) (n : ℕ) (st : State) (b : ℕ) (bs : List ℕ) (s : Stepped) → AtBytes L st → b < 256 → s ≡ stepped (step_on L st b) → OneOf (1 ∷ 2 ∷ []) (tag_of the_type s) → stopped (suc n) s ≡ end_in (scan_on L n st (b ∷ bs))
+pub ends-call : (L : Limits) (n : ℕ) (st : State) (b : ℕ) (bs : List ℕ) (s : Option Stepped) → AtBytes L st → b < 256 → s ≡ stepped (step_on L st b) → Leaves s → stopped (suc n) s ≡ end_in (scan_on L n st (b ∷ bs))
 ends-call L n (reading d p) b bs s a h e o =
     ap (stopped (suc n)) e
-    ∙ leave L (suc n) (machine.step L d p b) (λ d' p'. scan L (suc n) d' p' bs) (step_keeps L d p b a h) (subst (λ (x : Stepped). OneOf (1 ∷ 2 ∷ []) (tag_of the_type x)) e o)
+    ∙ leave L (suc n) (machine.step L d p b) (λ d' p'. scan L (suc n) d' p' bs) (step_keeps L d p b a h) (subst Leaves e o)
     ∙ ap end_in (sym (scan_byte L n d p b bs a.1.1))
 ends-call L n (owing d id r) b bs s a h e o = absurd a
 ends-call L n broke b bs s a h e o = absurd a
@@ -71,11 +74,11 @@ pub record GoesOn (L : Limits) (n : ℕ) (st : State) (b : ℕ) (bs : List ℕ) 
   pub bytes : AtBytes L (state_at k.depth q)
   pub same : scan_on L n st (b ∷ bs) ≡ scan_on L (suc n) (state_at k.depth q) bs
 
-pub goes_on : (L : Limits) (n : ℕ) (st : State) (b : ℕ) (bs : List ℕ) (q : Phase) (k : Carried) → AtBytes L st → b < 256 → On q k ≡ stepped (step_on L st b) → GoesOn L n st b bs q k
+pub goes_on : (L : Limits) (n : ℕ) (st : State) (b : ℕ) (bs : List ℕ) (q : Phase) (k : Carried) → AtBytes L st → b < 256 → Some (On q k) ≡ stepped (step_on L st b) → GoesOn L n st b bs q k
 unfolding scanned
 goes_on L n (reading d p) b bs q k₁ a h e = go (machine.step L d p b) refl (step_keeps L d p b a h) e
   where
-    go : (m : machine.Stepped) → machine.step L d p b ≡ m → Kept L m → On q k₁ ≡ stepped m → GoesOn L n (reading d p) b bs q k₁
+    go : (m : machine.Stepped) → machine.step L d p b ≡ m → Kept L m → Some (On q k₁) ≡ stepped m → GoesOn L n (reading d p) b bs q k₁
     go (on [] d' p') r k f =
         let g : q ≡ phase_in p' = cc in
         let j : k₁ ≡ carried_at d' = cc in
@@ -93,13 +96,13 @@ goes_on L n (owing d id r) b bs q k₁ a h e = absurd a
 goes_on L n broke b bs q k₁ a h e = absurd a
 
 -- the chunk's end
-spent_at : (L : Limits) (n d : ℕ) (p : Phase) (st : State) → state_at d p ≡ st → phase_of st ≡ p → depth_of st ≡ d → AtBytes L st → stopped n (On p (carried_at d)) ≡ end_in (scan_on L n st [])
+spent_at : (L : Limits) (n d : ℕ) (p : Phase) (st : State) → state_at d p ≡ st → phase_of st ≡ p → depth_of st ≡ d → AtBytes L st → stopped n (Some (On p (carried_at d))) ≡ end_in (scan_on L n st [])
 unfolding verdict_so scan end_in
-spent_at L n d p (reading d' q) e f g a = λ i. end_at n (Status (status_in (verdict_so (e i)))) (sym f i) (carried_at (sym g i))
+spent_at L n d p (reading d' q) e f g a = λ i. end_at n (Ok (Status (status_in (verdict_so (e i))))) (sym f i) (carried_at (sym g i))
 spent_at L n d p (owing d' id r) e f g a = absurd a
 spent_at L n d p broke e f g a = absurd a
 
-at_end : (L : Limits) (n d : ℕ) (p : Phase) → AtBytes L (state_at d p) → stopped n (On p (carried_at d)) ≡ end_in (scan_on L n (state_at d p) [])
+at_end : (L : Limits) (n d : ℕ) (p : Phase) → AtBytes L (state_at d p) → stopped n (Some (On p (carried_at d))) ≡ end_in (scan_on L n (state_at d p) [])
 at_end L n d p a = let l = at_bytes_live L (state_at d p) a in spent_at L n d p (state_at d p) refl (phase_back d p l) (depth_back d p l) a
 
 -- ---- the turns of the loop, n bytes of the chunk being read
@@ -108,27 +111,26 @@ module _ (L : Limits) (chunk : List ℕ) (st : State) (p : Phase) (d n : ℕ) (a
   next_byte : n < length chunk → call L st chunk ≡ scan_on L n (state_at d p) (get_or chunk n 0 ∷ drop (suc n) chunk)
   next_byte h = e ∙ ap (scan_on L n (state_at d p)) (drop-cons chunk n 0 h)
 
-  pub turn-ends : (s : Stepped) → n < length chunk → get_or chunk n 0 < 256 → s ≡ stepped (step_on L (state_at d p) (get_or chunk n 0)) → OneOf (1 ∷ 2 ∷ []) (tag_of the_type s) → stopped (n + 1) s ≡ end_in (call L st chunk)
+  pub turn-ends : (s : Option Stepped) → n < length chunk → get_or chunk n 0 < 256 → s ≡ stepped (step_on L (state_at d p) (get_or chunk n 0)) → Leaves s → stopped (n + 1) s ≡ end_in (call L st chunk)
   turn-ends s h b f o =
       let i : n + 1 ≡ suc n = omega arith in
       ap (λ (m : ℕ). stopped m s) i ∙ ends-call L n (state_at d p) (get_or chunk n 0) (drop (suc n) chunk) s a b f o ∙ ap end_in (sym (next_byte h))
 
-  pub turn_goes : (s : Stepped) (q : Phase) (k : Carried) → n < length chunk → get_or chunk n 0 < 256 → s ≡ stepped (step_on L (state_at d p) (get_or chunk n 0)) → s ≡ On q k
-      → (n + 1 ≤ length chunk) × (AtBytes L (state_at k.depth q) × (call L st chunk ≡ scan_on L (n + 1) (state_at k.depth q) (drop (n + 1) chunk)))
+  pub turn_goes : (s : Option Stepped) (q : Phase) (k : Carried) → n < length chunk → get_or chunk n 0 < 256 → s ≡ stepped (step_on L (state_at d p) (get_or chunk n 0)) → s ≡ Some (On q k)
+      → AtBytes L (state_at k.depth q) × (call L st chunk ≡ scan_on L (n + 1) (state_at k.depth q) (drop (n + 1) chunk))
   turn_goes s q k h b f g =
       let i : suc n ≡ n + 1 = omega arith in
       let o = goes_on L n (state_at d p) (get_or chunk n 0) (drop (suc n) chunk) q k a b (sym g ∙ f) in
-      (omega arith, (o.bytes, next_byte h ∙ o.same ∙ ap (λ (m : ℕ). scan_on L m (state_at k.depth q) (drop m chunk)) i))
+      (o.bytes, next_byte h ∙ o.same ∙ ap (λ (m : ℕ). scan_on L m (state_at k.depth q) (drop m chunk)) i)
 
-  pub turn_last : n ≤ length chunk → length chunk ≤ n → stopped n (On p (carried_at d)) ≡ end_in (call L st chunk)
-  turn_last h l =
-      let i : n ≡ length chunk = omega arith in
+  pub turn_last : n ≡ length chunk → stopped n (Some (On p (carried_at d))) ≡ end_in (call L st chunk)
+  turn_last i =
       at_end L n d p a ∙ ap end_in (ap (scan_on L n (state_at d p)) (sym (ap (λ (m : ℕ). drop m chunk) i ∙ drop-length chunk)) ∙ sym e)
 
 -- ---- payloads
 
 -- In a payload, an empty chunk gives the verdict incomplete and no empty piece.
-pub no_bytes : (L : Limits) (d id : ℕ) (r : RawType) (total o : ℕ) (c : List ℕ) → length c ≡ 0 → end_at 0 (Status Incomplete) (Payload id r total o) (carried_at d) ≡ end_in (call L (reading d (in_payload id (raw_sort r) total o)) c)
+pub no_bytes : (L : Limits) (d id : ℕ) (r : RawType) (total o : ℕ) (c : List ℕ) → length c ≡ 0 → end_at 0 (Ok (Status Incomplete)) (Payload id r total o) (carried_at d) ≡ end_in (call L (reading d (in_payload id (raw_sort r) total o)) c)
 unfolding call scan end_in machine.ending machine.verdict_after
 no_bytes L d id Raws.Str total o [] h = refl
 no_bytes L d id Raws.Blob total o [] h = refl
@@ -136,7 +138,7 @@ no_bytes L d id r total o (b ∷ bs) h = absurd (omega arith)
 
 -- k bytes of the chunk in one piece
 pub some_bytes : (L : Limits) (d id : ℕ) (r : RawType) (total o k : ℕ) (c : List ℕ) → (length c ≡ 0 → ⊥) → min (total - o) (length c) ≡ k
-    → end_at k (Happened (piece_in id r total o k)) (phase_in (pick (ltb (o + k) total) (in_payload id (raw_sort r) total (o + k)) idle)) (carried_at d)
+    → end_at k (Ok (Happened (piece_in id r total o k))) (phase_in (pick (ltb (o + k) total) (in_payload id (raw_sort r) total (o + k)) idle)) (carried_at d)
     ≡ end_in (call L (reading d (in_payload id (raw_sort r) total o)) c)
 unfolding call scan end_in
 some_bytes L d id r total o k [] h e = absurd (h refl)
@@ -145,24 +147,24 @@ some_bytes L d id Raws.Str total o k (b ∷ bs) h e =
     let i : k ≡ 0 + k = omega arith in
     let f : 0 ≡ 0 + k - length (take k (b ∷ bs)) = omega arith in
     let t : k ≡ 0 + k - length (take k (b ∷ bs)) + length (take k (b ∷ bs)) = omega arith in
-    (λ j. end_at (i j) (Happened (Str id (record { total = total; offset = o; from = f j; to = t j }))) (phase_in (pick (ltb (o + k) total) (in_payload id string total (o + k)) idle)) (carried_at d))
+    (λ j. end_at (i j) (Ok (Happened (Str id (record { total = total; offset = o; from = f j; to = t j })))) (phase_in (pick (ltb (o + k) total) (in_payload id string total (o + k)) idle)) (carried_at d))
     ∙ ap (λ (m : ℕ). end_in (pieces.piece 0 d id string total o m (b ∷ bs))) (sym e)
 some_bytes L d id Raws.Blob total o k (b ∷ bs) h e =
     let l : length (take k (b ∷ bs)) ≡ k = length-take-le k (b ∷ bs) (omega arith) in
     let i : k ≡ 0 + k = omega arith in
     let f : 0 ≡ 0 + k - length (take k (b ∷ bs)) = omega arith in
     let t : k ≡ 0 + k - length (take k (b ∷ bs)) + length (take k (b ∷ bs)) = omega arith in
-    (λ j. end_at (i j) (Happened (Blob id (record { total = total; offset = o; from = f j; to = t j }))) (phase_in (pick (ltb (o + k) total) (in_payload id blob total (o + k)) idle)) (carried_at d))
+    (λ j. end_at (i j) (Ok (Happened (Blob id (record { total = total; offset = o; from = f j; to = t j })))) (phase_in (pick (ltb (o + k) total) (in_payload id blob total (o + k)) idle)) (carried_at d))
     ∙ ap (λ (m : ℕ). end_in (pieces.piece 0 d id blob total o m (b ∷ bs))) (sym e)
 
 pub part_read : (L : Limits) (d id : ℕ) (r : RawType) (total o : ℕ) (c : List ℕ) (v : Event) → (length c ≡ 0 → ⊥) → length c < total - o → v ≡ piece_in id r total o (length c)
-    → end_at (length c) (Happened v) (Payload id r total (o + length c)) (carried_at d) ≡ end_in (call L (reading d (in_payload id (raw_sort r) total o)) c)
+    → end_at (length c) (Ok (Happened v)) (Payload id r total (o + length c)) (carried_at d) ≡ end_in (call L (reading d (in_payload id (raw_sort r) total o)) c)
 part_read L d id r total o c v h l e =
-    ap (λ (x : Event). end_at (length c) (Happened x) (Payload id r total (o + length c)) (carried_at d)) e
+    ap (λ (x : Event). end_at (length c) (Ok (Happened x)) (Payload id r total (o + length c)) (carried_at d)) e
     ∙ simp (lt-ltb (o + length c) total (omega arith), raw_back r) at (some_bytes L d id r total o (length c) c h (min-eq_right (omega arith)))
 
 pub rest_read : (L : Limits) (d id : ℕ) (r : RawType) (total o : ℕ) (c : List ℕ) (v : Event) (p : Phase) → o < total → (length c ≡ 0 → ⊥) → total - o ≤ length c → v ≡ piece_in id r total o (total - o) → p ≡ phase_in idle
-    → end_at (total - o) (Happened v) p (carried_at d) ≡ end_in (call L (reading d (in_payload id (raw_sort r) total o)) c)
+    → end_at (total - o) (Ok (Happened v)) p (carried_at d) ≡ end_in (call L (reading d (in_payload id (raw_sort r) total o)) c)
 rest_read L d id r total o c v p g h l e f =
-    (λ i. end_at (total - o) (Happened (e i)) (f i) (carried_at d))
+    (λ i. end_at (total - o) (Ok (Happened (e i))) (f i) (carried_at d))
     ∙ simp (le-ltb (o + (total - o)) total (omega arith)) at (some_bytes L d id r total o (total - o) c h (min-eq_left l))

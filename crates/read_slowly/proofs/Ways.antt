@@ -17,6 +17,7 @@ use Rattle.phase.specs.declared.Phase.{Phase}
 use Rattle.phase.specs.declared.Phase.TheVariants.{Broken}
 use Rattle.phase.specs.Phases.{state_at, sound_phase, phase_in, carried_at}
 use Rattle.phase.proofs.Phases.{Live, both, broken_sound}
+use Rattle.std.specs.Prelude.{Ok}
 use Rattle.call_end.specs.declared.Answer.TheVariants.{Event as Happened}
 use Rattle.call_end.specs.CallEnd.{end_in, end_at, refused}
 use Rattle.read_slowly.specs.Slowly.{end_from, end_of}
@@ -41,7 +42,7 @@ call_end_unsound L p k c h t = go (state_at k.depth p) refl
     go broke e = absurd (true≢false (sym (both (leb k.depth L.depth) (sound_phase L p) (broken_sound L k.depth p h e)).1 ∙ t))
 
 -- an empty payload's piece
-pub owed-piece : (L : Limits) (d id : ℕ) (r : RawType) (c : List ℕ) (v : Event) (p : Phase) → v ≡ piece_in id r 0 0 0 → p ≡ phase_in idle → end_at 0 (Happened v) p (carried_at d) ≡ end_in (call L (owing d id (raw_sort r)) c)
+pub owed-piece : (L : Limits) (d id : ℕ) (r : RawType) (c : List ℕ) (v : Event) (p : Phase) → v ≡ piece_in id r 0 0 0 → p ≡ phase_in idle → end_at 0 (Ok (Happened v)) p (carried_at d) ≡ end_in (call L (owing d id (raw_sort r)) c)
 unfolding call end_in
-owed-piece L d id Raws.Str c v p e f = λ i. end_at 0 (Happened (e i)) (f i) (carried_at d)
-owed-piece L d id Raws.Blob c v p e f = λ i. end_at 0 (Happened (e i)) (f i) (carried_at d)
+owed-piece L d id Raws.Str c v p e f = λ i. end_at 0 (Ok (Happened (e i))) (f i) (carried_at d)
+owed-piece L d id Raws.Blob c v p e f = λ i. end_at 0 (Ok (Happened (e i))) (f i) (carried_at d)

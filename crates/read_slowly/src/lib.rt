@@ -25,18 +25,15 @@ fn scan(from: Phase, with: Carried, chunk: &[u8]) -> CallEnd
 {
     let mut phase = from;
     let mut carried = with;
-    let mut n: usize = 0;
-    while n < chunk.len() {
-        let s = step(carried, phase, chunk[n]);
-        let read = n + 1;
-        let Stepped::On(p, k) = s else {
-            return stop(read, s);
+    for (n, b) in chunk.iter().enumerate() {
+        let s = step(carried, phase, *b);
+        let Some(Stepped::On(p, k)) = s else {
+            return stop(n + 1, s);
         };
         phase = p;
         carried = k;
-        n = read;
     }
-    stop(n, Stepped::On(phase, carried))
+    stop(chunk.len(), Some(Stepped::On(phase, carried)))
 }
 
 // A payload's bytes in one piece, as many as the chunk has.
@@ -55,14 +52,14 @@ pub fn payload(
     let owed = (total - offset) as usize;
     if len == 0 {
         let here = Phase::Payload(id, r, total, offset);
-        return ended(0, Answer::Status(Status::Incomplete), here, carried);
+        return ended(0, Ok(Answer::Status(Status::Incomplete)), here, carried);
     }
     if len < owed {
-        let part = Answer::Event(piece(id, r, total, offset, len));
+        let part = Ok(Answer::Event(piece(id, r, total, offset, len)));
         let rest = Phase::Payload(id, r, total, offset + (len as u32));
         return ended(len, part, rest, carried);
     }
-    let last = Answer::Event(piece(id, r, total, offset, owed));
+    let last = Ok(Answer::Event(piece(id, r, total, offset, owed)));
     ended(owed, last, idle(), carried)
 }
 
@@ -75,8 +72,8 @@ pub fn slowly(phase: Phase, carried: Carried, chunk: &[u8]) -> CallEnd
     }
     match phase {
         Phase::Payload(id, r, total, offset) => payload(carried, id, r, total, offset, chunk),
-        Phase::Empty(id, r) => ended(0, Answer::Event(piece(id, r, 0, 0, 0)), idle(), carried),
-        Phase::Broken => ended(0, Answer::Refused(Error::InvalidMsg), phase, carried),
+        Phase::Empty(id, r) => ended(0, Ok(Answer::Event(piece(id, r, 0, 0, 0))), idle(), carried),
+        Phase::Broken => ended(0, Err(Error::InvalidMsg), phase, carried),
         _ => scan(phase, carried, chunk),
     }
 }

@@ -7,18 +7,20 @@ use mathlib.Core.Path.{◌≡◌, refl, sym, ap, ◌∙◌, subst}
 use mathlib.Core.Bool.{Bool, true, false}
 use mathlib.Core.List.{List, [], ◌∷◌}
 use lib.ListN.{length, drop}
+use Rattle.std.specs.Prelude.{Result, Ok, Err}
 use Rattle.layout.specs.Limits.{Limits, pick}
 use Rattle.layout.specs.Event as layout
 use Rattle.machine.specs.Calls as machine
 use Rattle.machine.specs.Calls.{State, reading, owing, broke, call}
 use Rattle.machine.specs.Run.{Ending, ended, unfinished}
 use Rattle.machine.proofs.Ends.{turns, one_empty, call_nearer}
+use Rattle.types.specs.declared.Error.{Error}
 use Rattle.types.specs.Types.{refusal}
 use Rattle.event.specs.declared.Event as Events
 use Rattle.event.specs.Event.{event_of}
 use Rattle.istream.specs.declared.IStream.{IStream}
 use Rattle.call_end.specs.declared.Answer.{Answer}
-use Rattle.call_end.specs.declared.Answer.TheVariants.{Event, Status, Refused}
+use Rattle.call_end.specs.declared.Answer.TheVariants.{Event, Status}
 use Rattle.istream.specs.declared.Fed as Given
 use Rattle.istream.specs.Stream.{state_of, sound_stream, answer_in, fed_in, fed_from, fed_of}
 use Rattle.istream.proofs.Calls.{state_of_stream}
@@ -27,7 +29,7 @@ use Rattle.reading.specs.Feeds.{Fed, feeds, feed}
 -- ---- one call
 
 -- an event of the reader's is the machine's
-event_from : (k : ℕ) (a : machine.Said) (e : Events.Event) → answer_in k a ≡ Event e → (x : layout.Event) × (a ≡ machine.event x)
+event_from : (k : ℕ) (a : machine.Said) (e : Events.Event) → answer_in k a ≡ Ok (Event e) → (x : layout.Event) × (a ≡ machine.event x)
 event_from k (machine.event x) e h = (x, refl)
 event_from k (machine.verdict v) e h = let z : ◌≡◌ {A = ℕ} 0 1 = cc in absurd (omega arith)
 event_from k machine.invalid e h = let z : ◌≡◌ {A = ℕ} 0 1 = cc in absurd (omega arith)
@@ -36,33 +38,33 @@ event_from k machine.invalid e h = let z : ◌≡◌ {A = ℕ} 0 1 = cc in absur
 abbrev pub answered : List ℕ → Given.Fed → Fed → Fed
 answered c r q =
     elim r.answer [
-      | Event e ↦ record { events = event_of c e ∷ q.events; read = r.read + q.read; answer = q.answer; stream = q.stream }
-      | Status v ↦ record { events = []; read = r.read; answer = ended (Status v); stream = r.stream }
-      | Refused e ↦ record { events = []; read = r.read; answer = ended (Refused e); stream = r.stream }
+      | Ok (Event e) ↦ record { events = event_of c e ∷ q.events; read = r.read + q.read; answer = q.answer; stream = q.stream }
+      | Ok (Status v) ↦ record { events = []; read = r.read; answer = ended (Ok (Status v)); stream = r.stream }
+      | Err e ↦ record { events = []; read = r.read; answer = ended (Err e); stream = r.stream }
     ]
 
 -- a verdict or a refusal
-abbrev pub Final : Ending Answer → Type 0
-Final (ended (Event e)) = ⊥
-Final (ended (Status v)) = Unit {0}
-Final (ended (Refused e)) = Unit {0}
+abbrev pub Final : Ending (Result Answer Error) → Type 0
+Final (ended (Ok (Event e))) = ⊥
+Final (ended (Ok (Status v))) = Unit {0}
+Final (ended (Err e)) = Unit {0}
 Final unfinished = ⊥
 
-answered_final : (c : List ℕ) (k : ℕ) (a : Answer) (s : IStream) (q : Fed) → ((e : Events.Event) → a ≡ Event e → Final q.answer)
+answered_final : (c : List ℕ) (k : ℕ) (a : Result Answer Error) (s : IStream) (q : Fed) → ((e : Events.Event) → a ≡ Ok (Event e) → Final q.answer)
     → Final (answered c (record { read = k; answer = a; stream = s }) q).answer
-answered_final c k (Event e) s q h = h e refl
-answered_final c k (Status v) s q h = tt
-answered_final c k (Refused e) s q h = tt
+answered_final c k (Ok (Event e)) s q h = h e refl
+answered_final c k (Ok (Status v)) s q h = tt
+answered_final c k (Err e) s q h = tt
 
-answered_same : (c : List ℕ) (k : ℕ) (a : Answer) (s : IStream) (p q : Fed) → Final (answered c (record { read = k; answer = a; stream = s }) p).answer
-    → ((e : Events.Event) → a ≡ Event e → Final p.answer → p ≡ q)
+answered_same : (c : List ℕ) (k : ℕ) (a : Result Answer Error) (s : IStream) (p q : Fed) → Final (answered c (record { read = k; answer = a; stream = s }) p).answer
+    → ((e : Events.Event) → a ≡ Ok (Event e) → Final p.answer → p ≡ q)
     → answered c (record { read = k; answer = a; stream = s }) p ≡ answered c (record { read = k; answer = a; stream = s }) q
-answered_same c k (Event e) s p q f h = ap (λ (x : Fed). record { events = event_of c e ∷ x.events; read = k + x.read; answer = x.answer; stream = x.stream }) (h e refl f)
-answered_same c k (Status v) s p q f h = refl
-answered_same c k (Refused e) s p q f h = refl
+answered_same c k (Ok (Event e)) s p q f h = ap (λ (x : Fed). record { events = event_of c e ∷ x.events; read = k + x.read; answer = x.answer; stream = x.stream }) (h e refl f)
+answered_same c k (Ok (Status v)) s p q f h = refl
+answered_same c k (Err e) s p q f h = refl
 
 module _ (L : Limits) where
-  nearer_in : (st : State) (c : List ℕ) (e : Events.Event) → (fed_in (call L st c)).answer ≡ Event e
+  nearer_in : (st : State) (c : List ℕ) (e : Events.Event) → (fed_in (call L st c)).answer ≡ Ok (Event e)
       → turns (state_of (fed_in (call L st c)).stream) (drop (fed_in (call L st c)).read c) < turns st c
   unfolding fed_in
   nearer_in st c e h =
@@ -72,18 +74,18 @@ module _ (L : Limits) where
 
   -- whether the state is sound or not: a refusal is no event
   nearer_checked : (s : IStream) (c : List ℕ) (t : Bool) (e : Events.Event)
-      → (pick t (fed_in (call L (state_of s) c)) (record { read = 0; answer = Refused (refusal 1); stream = s })).answer ≡ Event e
-      → turns (state_of (pick t (fed_in (call L (state_of s) c)) (record { read = 0; answer = Refused (refusal 1); stream = s })).stream) (drop (pick t (fed_in (call L (state_of s) c)) (record { read = 0; answer = Refused (refusal 1); stream = s })).read c) < turns (state_of s) c
+      → (pick t (fed_in (call L (state_of s) c)) (record { read = 0; answer = Err (refusal 1); stream = s })).answer ≡ Ok (Event e)
+      → turns (state_of (pick t (fed_in (call L (state_of s) c)) (record { read = 0; answer = Err (refusal 1); stream = s })).stream) (drop (pick t (fed_in (call L (state_of s) c)) (record { read = 0; answer = Err (refusal 1); stream = s })).read c) < turns (state_of s) c
   nearer_checked s c true e h = nearer_in (state_of s) c e h
   nearer_checked s c false e h = let z : ◌≡◌ {A = ℕ} 0 1 = cc in absurd (omega arith)
 
-  nearer_from : (st : State) (s : IStream) (c : List ℕ) (e : Events.Event) → (fed_from L st s c).answer ≡ Event e
+  nearer_from : (st : State) (s : IStream) (c : List ℕ) (e : Events.Event) → (fed_from L st s c).answer ≡ Ok (Event e)
       → turns (state_of (fed_from L st s c).stream) (drop (fed_from L st s c).read c) < turns (state_of s) c
   nearer_from (reading d p) s c e h = nearer_checked s c (sound_stream L s) e h
   nearer_from (owing d id r) s c e h = nearer_checked s c (sound_stream L s) e h
   nearer_from broke s c e h = let z : ◌≡◌ {A = ℕ} 0 1 = cc in absurd (omega arith)
 
-  fed_nearer : (s : IStream) (c : List ℕ) (e : Events.Event) → (fed_of L s c).answer ≡ Event e → turns (state_of (fed_of L s c).stream) (drop (fed_of L s c).read c) < turns (state_of s) c
+  fed_nearer : (s : IStream) (c : List ℕ) (e : Events.Event) → (fed_of L s c).answer ≡ Ok (Event e) → turns (state_of (fed_of L s c).stream) (drop (fed_of L s c).read c) < turns (state_of s) c
   unfolding fed_of
   fed_nearer s c e h = nearer_from (state_of s) s c e h
 

@@ -8,6 +8,7 @@ use mathlib.Core.List.{List, [], ◌∷◌, ◌++◌}
 use lib.ListN.{length, take, drop, get_or, length-take}
 use lib.Dec.{ltb, leb, eqb}
 use borrow.Author.Tests.{ltb-false}
+use Rattle.std.specs.Prelude.{Result, Ok, Err}
 use Rattle.layout.specs.Limits.{Limits, pick}
 use Rattle.layout.specs.Varint.{Push, more, value, overrun, push}
 use Rattle.layout.specs.Field.{Width, fp32, fp64, Raw, Subtyped, Wire, bytes_of, subtype_of, wire_of, float, raw, known, unknown}
@@ -23,11 +24,12 @@ use Rattle.machine.specs.Calls.{standing_of, standing}
 use Rattle.machine.specs.Run.{given, due, Follows, Ending, ended, unfinished, Chunk, calls, Heard, status, seen, chunks, verdicts_of, heard_of, heard_all, read_of, last_heard, join}
 use Rattle.machine.proofs.Calls.{call_follows, fresh_follows}
 use Rattle.machine.proofs.Runs.{standing_with, standing_is, reads, verdicts_last, joined_injective}
-use Rattle.event.specs.Event.{event_of, declared}
+use Rattle.event.specs.Event.{event_of}
 use Rattle.event.proofs.Laws.{InRange, declared_back}
 use Rattle.istream.specs.declared.IStream.{IStream}
 use Rattle.call_end.specs.declared.Answer.TheVariants as Answers
 use Rattle.istream.specs.declared.Fed as Given
+use Rattle.types.specs.declared.Error.{Error}
 use Rattle.types.specs.Types.{refusal}
 use Rattle.istream.specs.Stream.{state_of, stream_in, sound_stream, standing_in, status_of, status_in, answer_in, fed_in, fed_of}
 use Rattle.phase.specs.Steps.{covered}
@@ -73,10 +75,10 @@ Ranged c n (verdict v) = Unit {0}
 Ranged c n invalid = Unit {0}
 
 -- the machine's last answer as the reader's
-abbrev final : Ending Said → Ending Rattle.call_end.specs.declared.Answer.Answer
+abbrev final : Ending Said → Ending (Result Rattle.call_end.specs.declared.Answer.Answer Error)
 final (ended (event e)) = unfinished
-final (ended (verdict v)) = ended (Answers.Status (status_in v))
-final (ended invalid) = ended (Answers.Refused (refusal 2))
+final (ended (verdict v)) = ended (Ok (Answers.Status (status_in v)))
+final (ended invalid) = ended (Err (refusal 2))
 final unfinished = unfinished
 
 abbrev image : Chunk → Fed
@@ -85,7 +87,7 @@ image r = record { events = r.events; read = r.read; answer = final r.answer; st
 -- a verdict that comes with an answer is complete or incomplete
 abbrev Plain : Said → Type 0
 Plain (event e) = Unit {0}
-Plain (verdict v) = (n : ℕ) → told n (ended (Answers.Status (status_in v))) ≡ status v
+Plain (verdict v) = (n : ℕ) → told n (ended (Ok (Answers.Status (status_in v)))) ≡ status v
 Plain invalid = Unit {0}
 
 abbrev PlainEnd : Ending Said → Type 0
@@ -245,9 +247,9 @@ module _ (L : Limits) where
   after : ℕ → List ℕ → Given.Fed → Fed
   after n c r =
       elim r.answer [
-        | Answers.Event e ↦ (let q = feeds L n r.stream (drop r.read c) in record { events = event_of c e ∷ q.events; read = r.read + q.read; answer = q.answer; stream = q.stream })
-        | Answers.Status v ↦ record { events = []; read = r.read; answer = ended (Answers.Status v); stream = r.stream }
-        | Answers.Refused e ↦ record { events = []; read = r.read; answer = ended (Answers.Refused e); stream = r.stream }
+        | Ok (Answers.Event e) ↦ (let q = feeds L n r.stream (drop r.read c) in record { events = event_of c e ∷ q.events; read = r.read + q.read; answer = q.answer; stream = q.stream })
+        | Ok (Answers.Status v) ↦ record { events = []; read = r.read; answer = ended (Ok (Answers.Status v)); stream = r.stream }
+        | Err e ↦ record { events = []; read = r.read; answer = ended (Err e); stream = r.stream }
       ]
 
   -- by the machine's answer
@@ -295,11 +297,11 @@ module _ (L : Limits) where
 
   -- ---- verdicts
 
-  plain_pick : (t : Bool) (n : ℕ) → told n (ended (Answers.Status (status_in (pick t complete incomplete)))) ≡ status (pick t complete incomplete)
+  plain_pick : (t : Bool) (n : ℕ) → told n (ended (Ok (Answers.Status (status_in (pick t complete incomplete))))) ≡ status (pick t complete incomplete)
   plain_pick true n = refl
   plain_pick false n = refl
 
-  plain_at : (d : ℕ) (p : Phase) (n : ℕ) → told n (ended (Answers.Status (status_in (verdict_at d p)))) ≡ status (verdict_at d p)
+  plain_at : (d : ℕ) (p : Phase) (n : ℕ) → told n (ended (Ok (Answers.Status (status_in (verdict_at d p))))) ≡ status (verdict_at d p)
   unfolding verdict_after ending
   plain_at d (in_header zero v) n = plain_pick (eqb d 0) n
   plain_at d (in_header (suc k) v) n = refl

@@ -1,16 +1,17 @@
 -- Calls of the reader one after another, as its caller makes them: a chunk, its rest handed in again after each event until the answer is
 -- none; and a list of chunks in order. Events are the layout's, taken from the chunk that the call was lent.
-use Rattle.std.specs.Prelude.{ℕ, zero, suc, ◌+◌, ◌*◌, List, [], ◌∷◌, ◌++◌, length, take, drop}
+use Rattle.std.specs.Prelude.{ℕ, zero, suc, ◌+◌, ◌*◌, List, [], ◌∷◌, ◌++◌, length, take, drop, Result, Ok, Err}
 use Rattle.layout.specs.Limits.{Limits}
 use Rattle.layout.specs.Event as layout
 use Rattle.layout.specs.Message.{complete, incomplete, Bytes}
 use Rattle.machine.specs.Calls.{fresh}
 use Rattle.machine.specs.Run.{Ending, ended, unfinished, Heard, status, refused, nothing}
+use Rattle.types.specs.declared.Error.{Error}
 use Rattle.types.specs.Types.{number_of}
 use Rattle.event.specs.Event.{event_of}
 use Rattle.istream.specs.declared.IStream.{IStream}
 use Rattle.call_end.specs.declared.Answer.{Answer}
-use Rattle.call_end.specs.declared.Answer.TheVariants.{Event, Status, Refused}
+use Rattle.call_end.specs.declared.Answer.TheVariants.{Event, Status}
 use Rattle.call_end.specs.declared.Status.TheVariants.{Complete, Incomplete}
 use Rattle.istream.specs.Stream.{stream_in, fed_of}
 
@@ -20,7 +21,7 @@ use Rattle.istream.specs.Stream.{stream_in, fed_of}
 pub record Fed : Type 0 where
   pub events : List layout.Event
   pub read : ℕ
-  pub answer : Ending Answer
+  pub answer : Ending (Result Answer Error)
   pub stream : IStream
 
 -- at most n calls
@@ -29,9 +30,9 @@ feeds L zero s c = record { events = []; read = 0; answer = unfinished; stream =
 feeds L (suc n) s c =
     let r = fed_of L s c in
     elim r.answer [
-      | Event e ↦ (let q = feeds L n r.stream (drop r.read c) in record { events = event_of c e ∷ q.events; read = r.read + q.read; answer = q.answer; stream = q.stream })
-      | Status v ↦ record { events = []; read = r.read; answer = ended (Status v); stream = r.stream }
-      | Refused e ↦ record { events = []; read = r.read; answer = ended (Refused e); stream = r.stream }
+      | Ok (Event e) ↦ (let q = feeds L n r.stream (drop r.read c) in record { events = event_of c e ∷ q.events; read = r.read + q.read; answer = q.answer; stream = q.stream })
+      | Ok (Status v) ↦ record { events = []; read = r.read; answer = ended (Ok (Status v)); stream = r.stream }
+      | Err e ↦ record { events = []; read = r.read; answer = ended (Err e); stream = r.stream }
     ]
 
 -- two calls a byte, and two more, are enough (proofs/Ends)
@@ -41,11 +42,11 @@ feed L s c = feeds L (2 * length c + 2) s c
 -- ---- a list of chunks
 
 -- what is heard of an ending, n bytes being read in all: a refusal by its number
-abbrev pub told : ℕ → Ending Answer → Heard
-told n (ended (Event e)) = nothing
-told n (ended (Status Complete)) = status complete
-told n (ended (Status Incomplete)) = status incomplete
-told n (ended (Refused e)) = refused (number_of e) n
+abbrev pub told : ℕ → Ending (Result Answer Error) → Heard
+told n (ended (Ok (Event e))) = nothing
+told n (ended (Ok (Status Complete))) = status complete
+told n (ended (Ok (Status Incomplete))) = status incomplete
+told n (ended (Err e)) = refused (number_of e) n
 told n unfinished = nothing
 
 -- the events given, what was heard after each chunk, the bytes read in all, and the reader after the last
@@ -65,10 +66,10 @@ feed_all L s n (c ∷ cs) =
 -- ---- any calls
 
 -- the event that an answer gives, the call being lent this chunk
-abbrev pub given_by : List ℕ → Answer → List layout.Event
-given_by c (Event e) = event_of c e ∷ []
-given_by c (Status v) = []
-given_by c (Refused e) = []
+abbrev pub given_by : List ℕ → Result Answer Error → List layout.Event
+given_by c (Ok (Event e)) = event_of c e ∷ []
+given_by c (Ok (Status v)) = []
+given_by c (Err e) = []
 
 -- The reader after calls on any chunks whatever, a chunk's rest handed in or not: the bytes that were read, and the events given.
 pub data Reached (L : Limits) : List ℕ → List layout.Event → IStream → Type 0 where

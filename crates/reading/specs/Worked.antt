@@ -1,10 +1,11 @@
 -- Worked calls of the reader, one table with one theorem: readers that no call can leave, a broken one, and bytes that raise an event, end
 -- within a field or break the message.
-use Rattle.std.specs.Prelude.{ℕ, ◌≡◌, refl, List, [], ◌∷◌}
+use Rattle.std.specs.Prelude.{ℕ, ◌≡◌, refl, List, [], ◌∷◌, Result, Ok, Err}
 use Rattle.layout.specs.Limits.{base}
 use Rattle.layout.specs.Varint.{push}
 use Rattle.machine.specs.Machine.{at_header, at_word, at_unsigned_count, at_signed_count, at_float_count, at_array_word, at_unsigned, at_signed, within, at_float, at_byte, step, ending, verdict_after}
 use Rattle.machine.specs.Calls.{fresh, broke, standing, scanned, scan, call}
+use Rattle.types.specs.declared.Error.{Error}
 use Rattle.types.specs.Types.{refusal}
 use Rattle.varint.specs.Varint.{sound_acc}
 use Rattle.event.specs.declared.Event.TheVariants.{Unsigned}
@@ -14,8 +15,8 @@ use Rattle.istream.specs.declared.IStream.{IStream}
 use Rattle.istream.specs.declared.Standing.{Standing}
 use Rattle.istream.specs.declared.Standing.TheVariants as Standings
 use Rattle.call_end.specs.declared.Answer.{Answer}
-use Rattle.call_end.specs.declared.Answer.TheVariants.{Event, Status, Refused}
-use Rattle.call_end.specs.declared.Status.TheVariants.{Complete, Incomplete}
+use Rattle.call_end.specs.declared.Answer.TheVariants.{Event, Status}
+use Rattle.call_end.specs.declared.Status.TheVariants.{Complete}
 use Rattle.istream.specs.Stream.{stream_in, sound_stream, status_of, fed_in, fed_of}
 
 -- a row: a reader and a chunk; the bytes read, the answer, the reader after the call, and where it then stands
@@ -23,7 +24,7 @@ pub record Row : Type 0 where
   pub before : IStream
   pub chunk : List ℕ
   pub read : ℕ
-  pub answer : Answer
+  pub answer : Result Answer Error
   pub after : IStream
   pub stands : Standing
 
@@ -47,13 +48,13 @@ five = 0x08 ∷ 0x05 ∷ []
 abbrev pub table : List Row
 table =
     -- number 1: nothing is read, and the reader comes back as it was
-    record { before = wild; chunk = five; read = 0; answer = Refused (refusal 1); after = wild; stands = Standings.Incomplete }
+    record { before = wild; chunk = five; read = 0; answer = Err (refusal 1); after = wild; stands = Standings.Incomplete }
     -- an event, and then the verdict
-    ∷ record { before = stream_in fresh; chunk = five; read = 2; answer = Event (Unsigned 1 5); after = stream_in fresh; stands = Standings.Complete }
-    ∷ record { before = stream_in fresh; chunk = []; read = 0; answer = Status Complete; after = stream_in fresh; stands = Standings.Complete }
+    ∷ record { before = stream_in fresh; chunk = five; read = 2; answer = Ok (Event (Unsigned 1 5)); after = stream_in fresh; stands = Standings.Complete }
+    ∷ record { before = stream_in fresh; chunk = []; read = 0; answer = Ok (Status Complete); after = stream_in fresh; stands = Standings.Complete }
     -- number 2 at the offending byte, which is counted; then with nothing read
-    ∷ record { before = stream_in fresh; chunk = 0x07 ∷ 0x08 ∷ []; read = 1; answer = Refused (refusal 2); after = stream_in broke; stands = Standings.Invalid }
-    ∷ record { before = stream_in broke; chunk = five; read = 0; answer = Refused (refusal 2); after = stream_in broke; stands = Standings.Invalid }
+    ∷ record { before = stream_in fresh; chunk = 0x07 ∷ 0x08 ∷ []; read = 1; answer = Err (refusal 2); after = stream_in broke; stands = Standings.Invalid }
+    ∷ record { before = stream_in broke; chunk = five; read = 0; answer = Err (refusal 2); after = stream_in broke; stands = Standings.Invalid }
     ∷ []
 
 pub worked : said_all table ≡ table

@@ -10,6 +10,7 @@ use lib.Bits.{bit_or, or_shifted_r}
 use borrow.Author.Tests.{lt-ltb, le-ltb, le-leb, lt-leb}
 use types.Run.{OneOf}
 use denote.Enum.Declared.{tag_of}
+use Rattle.std.specs.Prelude.{Some, None}
 use Rattle.layout.specs.Limits.{Limits}
 use Rattle.layout.specs.Varint as varints
 use Rattle.layout.specs.Field.{bytes_of}
@@ -30,7 +31,7 @@ use Rattle.event.specs.Event.{declared}
 use Rattle.phase.specs.declared.Phase.TheVariants.{Float}
 use Rattle.phase.specs.Phases.{phase_in, carried_at}
 use Rattle.phase.proofs.Phases.{float_back, pow256}
-use Rattle.phase.specs.declared.Stepped.TheVariants.{On, Raised, Bad}
+use Rattle.phase.specs.declared.Stepped.TheVariants.{On, Raised}
 use Rattle.phase.specs.Steps.{stepped}
 
 -- ---- a varint's byte, from what the code knows of the push
@@ -43,46 +44,13 @@ module _ (L : Limits) (a : Acc) (b : ℕ) (s : Sound L a) (p : Push) (e : p ≡ 
   unfolding within
   value_in n h = sym (ap stepped (pushing (Value n) h))
 
-  pub more_in : (x : Acc) → p ≡ More x → On (phase_in (P x.taken x.value)) (carried_at d) ≡ stepped (within d (varints.push L a.taken a.value b) P F)
+  pub more_in : (x : Acc) → p ≡ More x → Some (On (phase_in (P x.taken x.value)) (carried_at d)) ≡ stepped (within d (varints.push L a.taken a.value b) P F)
   unfolding within
   more_in x h = sym (ap stepped (pushing (More x) h))
 
-  pub over_in : OneOf (0 ∷ 2 ∷ []) (tag_of the_type p) → OneOf (1 ∷ 2 ∷ []) (tag_of the_type p) → Bad ≡ stepped (within d (varints.push L a.taken a.value b) P F)
+  pub over_in : p ≡ Overlong → None ≡ stepped (within d (varints.push L a.taken a.value b) P F)
   unfolding within
-  over_in h i = sym (ap stepped (pushing Overlong (overlong p h i)))
-    where
-      overlong : (p : Push) → OneOf (0 ∷ 2 ∷ []) (tag_of the_type p) → OneOf (1 ∷ 2 ∷ []) (tag_of the_type p) → p ≡ Overlong
-      overlong (More a) h (inl i) = absurd (omega arith)
-      overlong (More a) h (inr i) = absurd (omega arith)
-      overlong (Value v) (inl h) i = absurd (omega arith)
-      overlong (Value v) (inr h) i = absurd (omega arith)
-      overlong Overlong h i = refl
-
--- ---- counts
-
-pub count_bad : (L : Limits) (d id n : ℕ) → L.count < n → Bad ≡ stepped (at_unsigned_count L d id n)
-unfolding at_unsigned_count
-count_bad L d id n h = simp (lt-leb _ _ h)
-
-pub count_bad_signed : (L : Limits) (d id n : ℕ) → L.count < n → Bad ≡ stepped (at_signed_count L d id n)
-unfolding at_signed_count
-count_bad_signed L d id n h = simp (lt-leb _ _ h)
-
-pub count_bad_float : (L : Limits) (d id n : ℕ) → L.count < n → Bad ≡ stepped (at_float_count L d id n)
-unfolding at_float_count
-count_bad_float L d id n h = simp (lt-leb _ _ h)
-
-pub count_in_lem : (L : Limits) (d id n : ℕ) → n ≤ L.count → Raised (Array id ArrayKinds.Unsigned n) (phase_in (first_or n (λ m. in_unsigned id m 0 0))) (carried_at d) ≡ stepped (at_unsigned_count L d id n)
-unfolding at_unsigned_count
-count_in_lem L d id n h = simp (le-leb _ _ h)
-
-pub count_in-signed : (L : Limits) (d id n : ℕ) → n ≤ L.count → Raised (Array id ArrayKinds.Signed n) (phase_in (first_or n (λ m. in_signed id m 0 0))) (carried_at d) ≡ stepped (at_signed_count L d id n)
-unfolding at_signed_count
-count_in-signed L d id n h = simp (le-leb _ _ h)
-
-pub count_in_float : (L : Limits) (d id n : ℕ) → n ≤ L.count → On (phase_in (in_array_word id n 0 0)) (carried_at d) ≡ stepped (at_float_count L d id n)
-unfolding at_float_count
-count_in_float L d id n h = simp (le-leb _ _ h)
+  over_in h = sym (ap stepped (pushing Overlong h))
 
 -- ---- floats, low byte first
 
@@ -95,11 +63,11 @@ joined_byte v b k l h s =
     ∙ ap (λ (p : ℕ). v + b * p) (sym (pow256 k))
 
 pub float_more : (d id : ℕ) (w : FloatType) (left k x : ℕ) → k + 1 < bytes_of (width w)
-    → On (Float id w left (k + 1) x) (carried_at d) ≡ stepped (at_float d id (width w) left k x)
+    → Some (On (Float id w left (k + 1) x) (carried_at d)) ≡ stepped (at_float d id (width w) left k x)
 unfolding at_float
 float_more d id w left k x h = simp (lt-ltb _ _ h, float_back w)
 
 pub float_whole : (d id : ℕ) (w : FloatType) (left k x : ℕ) → bytes_of (width w) ≤ k + 1
-    → Raised (declared 0 (layout.Float id (width w) x)) (phase_in (next_or left (λ m. in_float id (width w) m 0 0))) (carried_at d) ≡ stepped (at_float d id (width w) left k x)
+    → Some (Raised (declared 0 (layout.Float id (width w) x)) (phase_in (next_or left (λ m. in_float id (width w) m 0 0))) (carried_at d)) ≡ stepped (at_float d id (width w) left k x)
 unfolding at_float
 float_whole d id w left k x h = simp (le-ltb _ _ h)

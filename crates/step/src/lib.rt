@@ -1,15 +1,16 @@
 // One byte of a message, in a phase that is read byte by byte.
 #![tactic(auto)]
 
-ghost use Rattle.std.specs.Prelude.{◌≡◌, ◌^◌, ◌<◌};
-ghost use Rattle.layout.specs.Limits.{base};
+ghost use Rattle.std.specs.Prelude.{◌≡◌, ◌^◌, ◌<◌, leb, Some, None};
+ghost use Rattle.layout.specs.Limits.{base, pick};
 ghost use Rattle.layout.specs.Field.{bytes_of};
-ghost use Rattle.machine.specs.Machine.{in_header, in_unsigned, in_signed, in_word, in_unsigned_count, in_signed_count, in_float_count, in_array_word, in_float, step};
+ghost use Rattle.machine.specs.Machine.{in_float, at_header, at_unsigned, at_signed, at_word, at_unsigned_count, at_signed_count, at_float_count, at_array_word, step};
 ghost use Rattle.types.specs.Types.{width};
 ghost use Rattle.varint.specs.Varint.{Sound};
 ghost use Rattle.phase.specs.Phases.{state_at};
 ghost use Rattle.phase.specs.Sound.{AtBytes};
 ghost use Rattle.phase.specs.Steps.{stepped, step_on};
+ghost use Rattle.step.specs.Takes.{Takes};
 
 use event::{Event, float_event};
 use headers::field;
@@ -18,180 +19,187 @@ use types::{ARRAY_MAX, ArrayKind, FloatType, ID_MAX};
 use varint::{Acc, Push, zigzag_decode};
 use words::{element, fixlen};
 
-// A header's byte.
-fn header(carried: Carried, a: Acc, b: u8) -> Stepped
-    requires { Sound base a }
-    ensures { result ≡ stepped (step base carried.depth (in_header a.taken a.value) b) }
+// A varint's byte. More are to come, and what is under way has the longer varint; or the value is whole; or the varint is overlong.
+fn varint<P: FnOnce(Acc) -> Phase, V: FnOnce(u64) -> Option<Stepped>>(
+    carried: Carried,
+    a: Acc,
+    b: u8,
+    under_way: P,
+    whole: V,
+) -> Option<Stepped>
+    requires sound { Sound base a }
+    requires more { P.IsAlwaysCallable under_way }
+    requires value { V.IsAlwaysCallable whole }
+    ensures { Takes (P.post under_way) (V.post whole) carried.depth a b result }
 {
-    let p = a.push(b);
-    let Push::Value(v) = p else {
-        let Push::More(next) = p else {
-            return Stepped::Bad;
-        };
-        return Stepped::On(Phase::Header(next), carried);
-    };
-    let id = v / 8;
+    match a.push(b) {
+        Push::More(next) => Some(Stepped::On(under_way(next), carried)),
+        Push::Value(v) => whole(v),
+        Push::Overlong => None,
+    }
+}
+
+// A header is whole.
+#[tactic(auto, unfolding(machine::specs::Machine::at_header))]
+fn header(carried: Carried, h: u64) -> Option<Stepped>
+    ensures { result ≡ stepped (at_header base carried.depth h) }
+{
+    let id = h / 8;
     if (ID_MAX as u64) < id {
-        return Stepped::Bad;
+        return None;
     }
-    field(carried, id as u32, (v % 8) as u8)
+    field(carried, id as u32, (h % 8) as u8)
 }
 
-// A number's byte: a scalar or an element.
-fn unsigned(carried: Carried, id: u32, left: u32, a: Acc, b: u8) -> Stepped
-    requires { Sound base a }
-    ensures { result ≡ stepped (step base carried.depth (in_unsigned id left a.taken a.value) b) }
+// A number is whole: a scalar or an element.
+#[tactic(auto, using(phase::proofs::Phases::next_first), unfolding(machine::specs::Machine::at_unsigned))]
+fn unsigned(carried: Carried, id: u32, left: u32, v: u64) -> Option<Stepped>
+    ensures { result ≡ stepped (at_unsigned carried.depth id left v) }
 {
-    let p = a.push(b);
-    let Push::Value(v) = p else {
-        let Push::More(next) = p else {
-            return Stepped::Bad;
-        };
-        return Stepped::On(Phase::Unsigned(id, left, next), carried);
-    };
-    Stepped::Raised(Event::Unsigned(id, v), unsigneds(id, less(left)), carried)
+    let next = unsigneds(id, less(left));
+    Some(Stepped::Raised(Event::Unsigned(id, v), next, carried))
 }
 
-fn signed(carried: Carried, id: u32, left: u32, a: Acc, b: u8) -> Stepped
-    requires { Sound base a }
-    ensures { result ≡ stepped (step base carried.depth (in_signed id left a.taken a.value) b) }
+#[tactic(auto, using(phase::proofs::Phases::next_first), unfolding(machine::specs::Machine::at_signed))]
+fn signed(carried: Carried, id: u32, left: u32, v: u64) -> Option<Stepped>
+    ensures { result ≡ stepped (at_signed carried.depth id left v) }
 {
-    let p = a.push(b);
-    let Push::Value(v) = p else {
-        let Push::More(next) = p else {
-            return Stepped::Bad;
-        };
-        return Stepped::On(Phase::Signed(id, left, next), carried);
-    };
-    Stepped::Raised(
-        Event::Signed(id, zigzag_decode(v)),
-        signeds(id, less(left)),
-        carried,
-    )
+    let next = signeds(id, less(left));
+    Some(Stepped::Raised(Event::Signed(id, zigzag_decode(v)), next, carried))
 }
 
-// A word's byte.
-fn word(carried: Carried, id: u32, a: Acc, b: u8) -> Stepped
-    requires { Sound base a }
-    ensures { result ≡ stepped (step base carried.depth (in_word id a.taken a.value) b) }
+// A word is whole.
+#[tactic(auto, unfolding(machine::specs::Machine::at_word))]
+fn word(carried: Carried, id: u32, w: u64) -> Option<Stepped>
+    ensures { result ≡ stepped (at_word base carried.depth id w) }
 {
-    let p = a.push(b);
-    let Push::Value(v) = p else {
-        let Push::More(next) = p else {
-            return Stepped::Bad;
-        };
-        return Stepped::On(Phase::Word(id, next), carried);
-    };
-    fixlen(carried, id, v / 8, (v % 8) as u8)
+    fixlen(carried, id, w / 8, (w % 8) as u8)
 }
 
-// A count's byte.
-fn unsigned_count(carried: Carried, id: u32, a: Acc, b: u8) -> Stepped
-    requires { Sound base a }
-    ensures { result ≡ stepped (step base carried.depth (in_unsigned_count id a.taken a.value) b) }
+// How many elements are counted, if an array can have so many.
+fn count(n: u64) -> Option<u32>
+    ensures { result ≡ pick (leb n base.count) (Some n) None }
 {
-    let p = a.push(b);
-    let Push::Value(n) = p else {
-        let Push::More(next) = p else {
-            return Stepped::Bad;
-        };
-        return Stepped::On(Phase::UnsignedCount(id, next), carried);
-    };
     if (ARRAY_MAX as u64) < n {
-        return Stepped::Bad;
+        return None;
     }
-    Stepped::Raised(
-        Event::Array(id, ArrayKind::Unsigned, n as u32),
-        unsigneds(id, n as u32),
-        carried,
-    )
+    Some(n as u32)
 }
 
-fn signed_count(carried: Carried, id: u32, a: Acc, b: u8) -> Stepped
-    requires { Sound base a }
-    ensures { result ≡ stepped (step base carried.depth (in_signed_count id a.taken a.value) b) }
+// A count is whole.
+#[tactic(auto, unfolding(machine::specs::Machine::at_unsigned_count))]
+fn unsigned_count(carried: Carried, id: u32, n: u64) -> Option<Stepped>
+    ensures { result ≡ stepped (at_unsigned_count base carried.depth id n) }
 {
-    let p = a.push(b);
-    let Push::Value(v) = p else {
-        let Push::More(next) = p else {
-            return Stepped::Bad;
-        };
-        return Stepped::On(Phase::SignedCount(id, next), carried);
-    };
-    if (ARRAY_MAX as u64) < v {
-        return Stepped::Bad;
-    }
-    Stepped::Raised(
-        Event::Array(id, ArrayKind::Signed, v as u32),
-        signeds(id, v as u32),
-        carried,
-    )
+    let n = count(n)?;
+    let announced = Event::Array(id, ArrayKind::Unsigned, n);
+    Some(Stepped::Raised(announced, unsigneds(id, n), carried))
+}
+
+#[tactic(auto, unfolding(machine::specs::Machine::at_signed_count))]
+fn signed_count(carried: Carried, id: u32, n: u64) -> Option<Stepped>
+    ensures { result ≡ stepped (at_signed_count base carried.depth id n) }
+{
+    let n = count(n)?;
+    let announced = Event::Array(id, ArrayKind::Signed, n);
+    Some(Stepped::Raised(announced, signeds(id, n), carried))
 }
 
 // A float array is announced at its word, not here.
-fn float_count(carried: Carried, id: u32, a: Acc, b: u8) -> Stepped
-    requires { Sound base a }
-    ensures { result ≡ stepped (step base carried.depth (in_float_count id a.taken a.value) b) }
+#[tactic(auto, unfolding(machine::specs::Machine::at_float_count))]
+fn float_count(carried: Carried, id: u32, n: u64) -> Option<Stepped>
+    ensures { result ≡ stepped (at_float_count base carried.depth id n) }
 {
-    let p = a.push(b);
-    let Push::Value(v) = p else {
-        let Push::More(next) = p else {
-            return Stepped::Bad;
-        };
-        return Stepped::On(Phase::FloatCount(id, next), carried);
-    };
-    if (ARRAY_MAX as u64) < v {
-        return Stepped::Bad;
-    }
-    let count = v as u32;
-    let word = Phase::ArrayWord(id, count, Acc { value: 0, taken: 0 });
-    Stepped::On(word, carried)
+    let word = Phase::ArrayWord(id, count(n)?, Acc::new());
+    Some(Stepped::On(word, carried))
 }
 
-fn array_word(carried: Carried, id: u32, count: u32, a: Acc, b: u8) -> Stepped
-    requires { Sound base a }
-    ensures { result ≡ stepped (step base carried.depth (in_array_word id count a.taken a.value) b) }
+#[tactic(auto, unfolding(machine::specs::Machine::at_array_word))]
+fn array_word(carried: Carried, id: u32, count: u32, w: u64) -> Option<Stepped>
+    ensures { result ≡ stepped (at_array_word carried.depth id count w) }
 {
-    let p = a.push(b);
-    let Push::Value(v) = p else {
-        let Push::More(next) = p else {
-            return Stepped::Bad;
-        };
-        return Stepped::On(Phase::ArrayWord(id, count, next), carried);
-    };
-    element(carried, id, count, v / 8, (v % 8) as u8)
+    element(carried, id, count, w / 8, (w % 8) as u8)
 }
 
 // A float's byte, low byte first.
-fn float(carried: Carried, id: u32, w: FloatType, left: u32, k: u8, v: u64, b: u8) -> Stepped
+fn float(
+    carried: Carried,
+    id: u32,
+    w: FloatType,
+    left: u32,
+    k: u8,
+    v: u64,
+    b: u8,
+) -> Option<Stepped>
     requires { (k < bytes_of (width w)) × (v < 256 ^ k) }
     ensures { result ≡ stepped (step base carried.depth (in_float id (width w) left k v) b) }
 {
     let x = v | ((b as u64) << (k * 8));
     if k + 1 < w.bytes() {
-        Stepped::On(Phase::Float(id, w, left, k + 1, x), carried)
+        Some(Stepped::On(Phase::Float(id, w, left, k + 1, x), carried))
     } else {
-        Stepped::Raised(float_event(id, w, x), floats(id, w, less(left)), carried)
+        let next = floats(id, w, less(left));
+        Some(Stepped::Raised(float_event(id, w, x), next, carried))
     }
 }
 
 // One byte, in a sound phase that is read byte by byte. Only the reader calls this, which has tested the phase.
-pub fn step(carried: Carried, phase: Phase, b: u8) -> Stepped
+pub fn step(carried: Carried, phase: Phase, b: u8) -> Option<Stepped>
     requires { AtBytes base (state_at carried.depth phase) }
     ensures { result ≡ stepped (step_on base (state_at carried.depth phase) b) }
 {
     match phase {
-        Phase::Header(a) => header(carried, a, b),
-        Phase::Unsigned(id, left, a) => unsigned(carried, id, left, a, b),
-        Phase::Signed(id, left, a) => signed(carried, id, left, a, b),
-        Phase::Word(id, a) => word(carried, id, a, b),
-        Phase::UnsignedCount(id, a) => unsigned_count(carried, id, a, b),
-        Phase::SignedCount(id, a) => signed_count(carried, id, a, b),
-        Phase::FloatCount(id, a) => float_count(carried, id, a, b),
-        Phase::ArrayWord(id, count, a) => array_word(carried, id, count, a, b),
+        Phase::Header(a) => varint(carried, a, b, |a| Phase::Header(a), |h| header(carried, h)),
+        Phase::Unsigned(id, left, a) => varint(
+            carried,
+            a,
+            b,
+            |a| Phase::Unsigned(id, left, a),
+            |v| unsigned(carried, id, left, v),
+        ),
+        Phase::Signed(id, left, a) => varint(
+            carried,
+            a,
+            b,
+            |a| Phase::Signed(id, left, a),
+            |v| signed(carried, id, left, v),
+        ),
+        Phase::Word(id, a) => varint(
+            carried,
+            a,
+            b,
+            |a| Phase::Word(id, a),
+            |w| word(carried, id, w),
+        ),
+        Phase::UnsignedCount(id, a) => varint(
+            carried,
+            a,
+            b,
+            |a| Phase::UnsignedCount(id, a),
+            |n| unsigned_count(carried, id, n),
+        ),
+        Phase::SignedCount(id, a) => varint(
+            carried,
+            a,
+            b,
+            |a| Phase::SignedCount(id, a),
+            |n| signed_count(carried, id, n),
+        ),
+        Phase::FloatCount(id, a) => varint(
+            carried,
+            a,
+            b,
+            |a| Phase::FloatCount(id, a),
+            |n| float_count(carried, id, n),
+        ),
+        Phase::ArrayWord(id, count, a) => varint(
+            carried,
+            a,
+            b,
+            |a| Phase::ArrayWord(id, count, a),
+            |w| array_word(carried, id, count, w),
+        ),
         Phase::Float(id, w, left, k, v) => float(carried, id, w, left, k, v, b),
-        Phase::Payload(_, _, _, _) => Stepped::Bad,
-        Phase::Empty(_, _) => Stepped::Bad,
-        Phase::Broken => Stepped::Bad,
+        Phase::Payload(_, _, _, _) | Phase::Empty(_, _) | Phase::Broken => None,
     }
 }

@@ -1,9 +1,10 @@
 -- The port's own enums as the layout's, and the numbers of the refusals.
-use Rattle.std.specs.Prelude.{ℕ, zero, suc, cond, eqb}
-use Rattle.layout.specs.Field.{Width, Raw, Subtype, Kind, fp32, fp64, string, blob, float, raw, unsigneds, signeds, floats}
+use Rattle.std.specs.Prelude.{ℕ, zero, suc, cond, eqb, Result, Ok, Err}
+use Rattle.layout.specs.Field.{Width, Raw, Subtype, Subtyped, known, unknown, Kind, fp32, fp64, string, blob, float, raw, unsigneds, signeds, floats}
 use Rattle.layout.specs.Field.{subtype_number, kind_number}
 use Rattle.types.specs.declared.FixlenType.{FixlenType}
 use Rattle.types.specs.declared.FixlenType.TheVariants as Fix
+use Rattle.types.specs.declared.UnknownSubtype.{UnknownSubtype}
 use Rattle.types.specs.declared.ArrayKind.{ArrayKind}
 use Rattle.types.specs.declared.ArrayKind.TheVariants as ArrayKinds
 use Rattle.types.specs.declared.FloatType.{FloatType}
@@ -24,6 +25,11 @@ fixlen_type (float fp32) = Fix.Fp32
 fixlen_type (float fp64) = Fix.Fp64
 fixlen_type (raw string) = Fix.Str
 fixlen_type (raw blob) = Fix.Blob
+
+-- what a number names
+abbrev pub subtyped : Result FixlenType UnknownSubtype → Subtyped
+subtyped (Ok t) = known (subtype t)
+subtyped (Err e) = unknown
 
 abbrev pub kind : ArrayKind → Kind
 kind ArrayKinds.Unsigned = unsigneds

@@ -2,8 +2,8 @@
 #![tactic(auto)]
 
 ghost use Rattle.std.specs.Prelude.{◌≡◌};
-ghost use Rattle.layout.specs.Field.{bytes_of, floats};
-ghost use Rattle.types.specs.Types.{fixlen_raw, kind_raw, number_of, width, float_fixlen, raw_fixlen_type, array_kind};
+ghost use Rattle.layout.specs.Field.{bytes_of, floats, subtype_of};
+ghost use Rattle.types.specs.Types.{subtyped, fixlen_raw, kind_raw, number_of, width, float_fixlen, raw_fixlen_type, array_kind};
 
 // SofaBuffers wire and API version that this library implements.
 pub const API_VERSION: u32 = 1;
@@ -61,7 +61,7 @@ pub const FP32_WORD: u64 = 32;
 pub const FP64_WORD: u64 = 65;
 
 // Subtype of a fixed-length field, in its word's low three bits.
-#[derive(Clone, Copy)]
+#[derive(Clone, Copy, Debug, PartialEq, Eq)]
 pub enum FixlenType {
     Fp32,
     Fp64,
@@ -70,7 +70,7 @@ pub enum FixlenType {
 }
 
 // Element type of an array.
-#[derive(Clone, Copy)]
+#[derive(Clone, Copy, Debug, PartialEq, Eq)]
 pub enum ArrayKind {
     Unsigned,
     Signed,
@@ -79,21 +79,25 @@ pub enum ArrayKind {
 }
 
 // The subtypes that are floats.
-#[derive(Clone, Copy)]
+#[derive(Clone, Copy, Debug, PartialEq, Eq)]
 pub enum FloatType {
     Fp32,
     Fp64,
 }
 
 // The subtypes whose payload goes as it is.
-#[derive(Clone, Copy)]
+#[derive(Clone, Copy, Debug, PartialEq, Eq)]
 pub enum RawType {
     Str,
     Blob,
 }
 
+// A number that no subtype of a fixed-length field has.
+#[derive(Clone, Copy, Debug, PartialEq, Eq)]
+pub struct UnknownSubtype;
+
 // The refusals, in the order of their numbers: 01's, and those of 02 that are built.
-#[derive(Clone, Copy)]
+#[derive(Clone, Copy, Debug, PartialEq, Eq)]
 pub enum Error {
     UnsoundReader,
     InvalidMsg,
@@ -109,11 +113,11 @@ pub enum Error {
     NoBuffer,
 }
 
-impl FixlenType {
-    pub fn raw(self) -> u8
-        ensures { result ≡ fixlen_raw self }
-    {
-        match self {
+impl From<FixlenType> for u8 {
+    ghost from_gives = { λ t n. n ≡ fixlen_raw t };
+
+    fn from(t: FixlenType) -> u8 {
+        match t {
             FixlenType::Fp32 => 0,
             FixlenType::Fp64 => 1,
             FixlenType::Str => 2,
@@ -122,15 +126,69 @@ impl FixlenType {
     }
 }
 
-impl ArrayKind {
+impl TryFrom<u8> for FixlenType {
+    type Error = UnknownSubtype;
+
+    ghost try_from_gives = { λ n r. subtype_of n ≡ subtyped r };
+
+    fn try_from(n: u8) -> Result<FixlenType, UnknownSubtype> {
+        match n {
+            0 => Ok(FixlenType::Fp32),
+            1 => Ok(FixlenType::Fp64),
+            2 => Ok(FixlenType::Str),
+            3 => Ok(FixlenType::Blob),
+            _ => Err(UnknownSubtype),
+        }
+    }
+}
+
+impl FixlenType {
     pub fn raw(self) -> u8
-        ensures { result ≡ kind_raw self }
+        ensures { result ≡ fixlen_raw self }
     {
-        match self {
+        u8::from(self)
+    }
+}
+
+impl From<ArrayKind> for u8 {
+    ghost from_gives = { λ k n. n ≡ kind_raw k };
+
+    fn from(k: ArrayKind) -> u8 {
+        match k {
             ArrayKind::Unsigned => 0,
             ArrayKind::Signed => 1,
             ArrayKind::Fp32 => 2,
             ArrayKind::Fp64 => 3,
+        }
+    }
+}
+
+impl ArrayKind {
+    pub fn raw(self) -> u8
+        ensures { result ≡ kind_raw self }
+    {
+        u8::from(self)
+    }
+}
+
+impl From<FloatType> for FixlenType {
+    ghost from_gives = { λ w t. t ≡ float_fixlen w };
+
+    fn from(w: FloatType) -> FixlenType {
+        match w {
+            FloatType::Fp32 => FixlenType::Fp32,
+            FloatType::Fp64 => FixlenType::Fp64,
+        }
+    }
+}
+
+impl From<FloatType> for ArrayKind {
+    ghost from_gives = { λ w k. k ≡ array_kind (floats (width w)) };
+
+    fn from(w: FloatType) -> ArrayKind {
+        match w {
+            FloatType::Fp32 => ArrayKind::Fp32,
+            FloatType::Fp64 => ArrayKind::Fp64,
         }
     }
 }
@@ -149,18 +207,23 @@ impl FloatType {
     pub fn fixlen(self) -> FixlenType
         ensures { result ≡ float_fixlen self }
     {
-        match self {
-            FloatType::Fp32 => FixlenType::Fp32,
-            FloatType::Fp64 => FixlenType::Fp64,
-        }
+        FixlenType::from(self)
     }
 
     pub fn kind(self) -> ArrayKind
         ensures { result ≡ array_kind (floats (width self)) }
     {
-        match self {
-            FloatType::Fp32 => ArrayKind::Fp32,
-            FloatType::Fp64 => ArrayKind::Fp64,
+        ArrayKind::from(self)
+    }
+}
+
+impl From<RawType> for FixlenType {
+    ghost from_gives = { λ r t. t ≡ raw_fixlen_type r };
+
+    fn from(r: RawType) -> FixlenType {
+        match r {
+            RawType::Str => FixlenType::Str,
+            RawType::Blob => FixlenType::Blob,
         }
     }
 }
@@ -169,19 +232,16 @@ impl RawType {
     pub fn fixlen(self) -> FixlenType
         ensures { result ≡ raw_fixlen_type self }
     {
-        match self {
-            RawType::Str => FixlenType::Str,
-            RawType::Blob => FixlenType::Blob,
-        }
+        FixlenType::from(self)
     }
 }
 
-impl Error {
-    // 01's number of a refusal, or 02's.
-    pub fn number(self) -> u8
-        ensures { result ≡ number_of self }
-    {
-        match self {
+// 01's number of a refusal, or 02's.
+impl From<Error> for u8 {
+    ghost from_gives = { λ e n. n ≡ number_of e };
+
+    fn from(e: Error) -> u8 {
+        match e {
             Error::UnsoundReader => 1,
             Error::InvalidMsg => 2,
             Error::UnsoundGatherer => 3,
@@ -195,5 +255,13 @@ impl Error {
             Error::PlaceBeyond => 11,
             Error::NoBuffer => 18,
         }
+    }
+}
+
+impl Error {
+    pub fn number(self) -> u8
+        ensures { result ≡ number_of self }
+    {
+        u8::from(self)
     }
 }

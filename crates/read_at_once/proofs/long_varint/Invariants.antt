@@ -1,12 +1,7 @@
 -- `read_at_once::long_varint` meets its contract: at each turn, whatever takes the varint is as far as the bytes so far have come to.
-use Prim.Native.Nat.{◌-◌}
-use lib.ListN.{length}
 use Rattle.layout.specs.Limits.{base}
 use Rattle.read_at_once.proofs.AtOnce.{Under}
 use Rattle.read_at_once.proofs.long_varint.Given as goal
 
 abbrev pub invariant-loop-i : goal.invariant-loop-i
 invariant-loop-i l = Under base l.chunk l.at l.i l.acc
-
-abbrev pub decreases-loop-i : goal.decreases-loop-i
-decreases-loop-i l = length l.chunk - l.i

@@ -2,6 +2,7 @@
 use mathlib.Core.Path.{◌≡◌, sym, ap, ◌∙◌, subst}
 use Prim.Native.Nat.{ℕ, ◌+◌, ◌*◌, ◌^◌, ◌<◌}
 use native.Mathlib.Omega.{arith}
+use Rattle.std.specs.Prelude.{Some}
 use Rattle.layout.specs.Field.{bytes_of}
 use Rattle.layout.specs.Event as layout
 use Rattle.machine.specs.Machine.{step, first_or, next_or, in_float}
@@ -35,12 +36,12 @@ float_event-requires c =
 pub returns-then-k-bytes : goal.returns-then-k-bytes
 unfolding step
 returns-then-k-bytes c =
-    ap (λ (x : ℕ). On (Float c.args.id c.args.w c.args.left (c.args.k + 1) x) c.args.carried) (joined_byte c.args.v c.args.b c.args.k (omega (arith, bytes_8 c.args.w, c.requires.0)) c.ranges.b.fits c.requires.1) ∙ float_more c.args.carried.depth c.args.id c.args.w c.args.left c.args.k _ (subst (λ (n : ℕ). c.args.k + 1 < n) c.bytes.ensures c.if-k-bytes.true)
+    ap (λ (x : ℕ). Some (On (Float c.args.id c.args.w c.args.left (c.args.k + 1) x) c.args.carried)) (joined_byte c.args.v c.args.b c.args.k (omega (arith, bytes_8 c.args.w, c.requires.0)) c.ranges.b.fits c.requires.1) ∙ float_more c.args.carried.depth c.args.id c.args.w c.args.left c.args.k _ (subst (λ (n : ℕ). c.args.k + 1 < n) c.bytes.ensures c.if-k-bytes.true)
 
 pub returns-else-k-bytes : goal.returns-else-k-bytes
 unfolding step
 returns-else-k-bytes c =
     let e = joined_byte c.args.v c.args.b c.args.k (omega (arith, bytes_8 c.args.w, c.requires.0)) c.ranges.b.fits c.requires.1 in
-    raised _ _ (c.floats.ensures ∙ ap (λ (n : ℕ). phase_in (first_or n (λ m. in_float c.args.id (width c.args.w) m 0 0))) c.less.ensures ∙ ap phase_in (next_first c.args.left (λ m. in_float c.args.id (width c.args.w) m 0 0)))
-    ∙ ap (λ (v : Event). Raised v (phase_in (next_or c.args.left (λ m. in_float c.args.id (width c.args.w) m 0 0))) c.args.carried) (c.float_event.ensures ∙ ap (λ (x : ℕ). declared 0 (layout.Float c.args.id (width c.args.w) x)) e)
+    raised _ _ (c.floats-next.ensures ∙ ap (λ (n : ℕ). phase_in (first_or n (λ m. in_float c.args.id (width c.args.w) m 0 0))) c.less.ensures ∙ ap phase_in (next_first c.args.left (λ m. in_float c.args.id (width c.args.w) m 0 0)))
+    ∙ ap (λ (v : Event). Some (Raised v (phase_in (next_or c.args.left (λ m. in_float c.args.id (width c.args.w) m 0 0))) c.args.carried)) (c.float_event.ensures ∙ ap (λ (x : ℕ). declared 0 (layout.Float c.args.id (width c.args.w) x)) e)
     ∙ float_whole c.args.carried.depth c.args.id c.args.w c.args.left c.args.k _ (omega (arith, c.if-k-bytes.false, c.bytes.ensures))

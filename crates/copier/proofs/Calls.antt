@@ -39,7 +39,7 @@ use Rattle.owed.specs.declared.Owed.TheVariants as owed
 use Rattle.output.specs.declared.Output.{Output}
 use Rattle.owed.specs.Owed.{owed_of, owed_in, place_in, output_of, level_of, legal_of, place_is_in}
 use Rattle.output.specs.Output.{output_bytes}
-use Rattle.owed.proofs.Laws.{owed_back, spelled, sound-parts}
+use Rattle.owed.proofs.Laws.{owed_back, spelled, sound_parts}
 use Rattle.copier.specs.declared.Copier.{Copier}
 use Rattle.copier.specs.declared.Opening.{Opening}
 use Rattle.copier.specs.declared.Copied as results
@@ -88,7 +88,7 @@ level_once r w owed.End place e = let h : r + 1 ≡ w = eqb-true (r + 1) w e in 
 
 ready_depth : (k : Copier) (size : ℕ) → Live (state_of k.reader) → sound_writer k size ≡ true → depth_once k.writer.depth (owed_of k.owed k.place) ≡ k.reader.carried.depth
 ready_depth k size l e =
-    level_once k.reader.carried.depth k.writer.depth k.owed k.place (both (level_of k.reader.carried.depth k.writer.depth k.owed) (legal_of k.owed && place_is_in k.owed k.place) (sym (sound-parts k.reader.carried.depth k.writer.depth k.owed k.place) ∙ ready_agrees k size l e)).0
+    level_once k.reader.carried.depth k.writer.depth k.owed k.place (both (level_of k.reader.carried.depth k.writer.depth k.owed) (legal_of k.owed && place_is_in k.owed k.place) (sym (sound_parts k.reader.carried.depth k.writer.depth k.owed k.place) ∙ ready_agrees k size l e)).0
 
 -- ---- what is owed goes out
 

@@ -14,7 +14,9 @@ use Rattle.low_bytes.proofs.Low.{length_low}
 use Rattle.emit.proofs.Elements.{length-each}
 use Rattle.emit.proofs.Segments.{joined}
 use Rattle.emit.specs.Cursor.{Emitted}
-use Rattle.outcomes.specs.declared.Outcome.{Outcome}
+use Rattle.std.specs.Prelude.{Result}
+use Rattle.types.specs.declared.Error.{Error}
+use Rattle.outcomes.specs.declared.Reach.{Reach}
 use Rattle.outcomes.specs.Outcome.{reaches}
 use Rattle.held.specs.Headers.{headers_of, head_of, start_at, Ended}
 use Rattle.held.proofs.Ends.{ended, ended_as, grouped}
@@ -43,7 +45,7 @@ module _ (w : Width) (held : ℕ) (places : List ℕ) (id : ℕ) {A : Type 0} (f
       let m = length-append (head_of held places (id * 8 + 5) (length l) ++ word (bytes_of w) (float w)) (each f l) in
       omega arith
 
-  pub floats_ended : (pos : ℕ) (b : List ℕ) (place : ℕ) (c1 : Cursor) (b1 : List ℕ) (c2 : Cursor) (b2 : List ℕ) (r : Outcome) → pos ≤ length b
+  pub floats_ended : (pos : ℕ) (b : List ℕ) (place : ℕ) (c1 : Cursor) (b1 : List ℕ) (c2 : Cursor) (b2 : List ℕ) (r : Result Reach Error) → pos ≤ length b
       → Emitted (start_at pos place) b (head_of held places (id * 8 + 5) (length l) ++ word (bytes_of w) (float w)) c1 b1
       → Emitted c1 b1 (each f l) c2 b2
       → r ≡ reaches pos (length b) (length (head_of held places (id * 8 + 5) (length l)) + (1 + length l * bytes_of w)) place

@@ -16,8 +16,10 @@ use Rattle.emit.proofs.Segments.{joined}
 use Rattle.emit.specs.Cursor.{Emitted}
 use Rattle.elements.specs.OutAfter.{OutAfter, elements_most}
 use Rattle.elements.proofs.Resumed.{counted_up}
-use Rattle.outcomes.specs.declared.Outcome.{Outcome}
-use Rattle.outcomes.specs.declared.Outcome.TheVariants.{Through}
+use Rattle.std.specs.Prelude.{Result, Ok}
+use Rattle.types.specs.declared.Error.{Error}
+use Rattle.outcomes.specs.declared.Reach.{Reach}
+use Rattle.outcomes.specs.declared.Reach.TheVariants.{Through}
 use Rattle.outcomes.specs.Outcome.{reaches}
 use Rattle.outcomes.proofs.Outcomes.{reaches_full}
 use Rattle.held.specs.Headers.{headers_of, head_of, start_at, Ended}
@@ -58,11 +60,11 @@ module _ (held : ℕ) (places : List ℕ) (header : ℕ) {A : Type 0} (f : A →
   spelled = grouped (headers_of held places) (shortest header) (shortest (length l)) (each f l) ∙ ap (λ (t : List ℕ). headers_of held places ++ t) q
 
   -- before the buffer's end
-  pub stopped : c2.skip ≡ 0 → c2.pos < length b → Ended pos b (headers_of held places ++ o) place (Through c2.pos) b2
+  pub stopped : c2.skip ≡ 0 → c2.pos < length b → Ended pos b (headers_of held places ++ o) place (Ok (Through c2.pos)) b2
   stopped z k = ended_as pos b _ _ place _ b2 spelled (stops_short pos b _ place c2 b2 output h z k)
 
   -- by its elements' count
-  pub counted-out : (most whole part r : ℕ) (x : Outcome) → length l ≤ base.count → most ≡ far place (length b - pos)
+  pub counted-out : (most whole part r : ℕ) (x : Result Reach Error) → length l ≤ base.count → most ≡ far place (length b - pos)
       → OutAfter f l most whole part → r ≡ pick (ltb whole (length l)) (most + 1) (most - part) → x ≡ reaches pos (length b) (length (head_of held places header (length l)) + r) place
       → Ended pos b (headers_of held places ++ o) place x b2
   counted-out most whole part r x k m s n t =

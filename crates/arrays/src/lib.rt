@@ -19,9 +19,9 @@ use emit::Cursor;
 use float_values::{put_f32s, put_f64s};
 use floats::{put_fp32s, put_fp64s};
 use held::{head_len, put_head, tagged};
-use outcomes::{Outcome, finish};
+use outcomes::{Reach, finish};
 use types::{
-    ARRAY_MAX, LAZY_SEQ_DEPTH, T_FIXLENARRAY, T_VARINTARRAY_SIGNED, T_VARINTARRAY_UNSIGNED,
+    ARRAY_MAX, Error, LAZY_SEQ_DEPTH, T_FIXLENARRAY, T_VARINTARRAY_SIGNED, T_VARINTARRAY_UNSIGNED,
 };
 use varint::VARINT_MAX;
 
@@ -50,7 +50,7 @@ fn finish_counted(
     out: Out,
     most: usize,
     place: usize,
-) -> Outcome
+) -> Result<Reach, Error>
     requires { (held ≤ lazy_depth) × (pos ≤ size) × (out.part ≤ most) × (most ≤ 9223372036854775808 + elements_most base.count) }
     ensures { result ≡ reaches pos size (length (head_of held places header n) + pick (ltb out.whole n) (most + 1) (most - out.part)) place }
 {
@@ -69,7 +69,7 @@ pub fn put_unsigned_array(
     id: u32,
     items: &[u64],
     place: usize,
-) -> Outcome
+) -> Result<Reach, Error>
     requires { (held ≤ lazy_depth) × (pos ≤ length buf.old) × (length items.now ≤ base.count) }
     ensures { Ended pos buf.old (headers_of held places ++ field_bytes (unsigned_array id items.now)) place result buf.new }
 {
@@ -79,7 +79,7 @@ pub fn put_unsigned_array(
     let start = put_head(buf, pos, places, held, header, count, place);
     let end = put_varints(start, buf, items);
     if end.skip == 0 && end.pos < size {
-        return Outcome::Through(end.pos);
+        return Ok(Reach::Through(end.pos));
     }
     let most = farthest(place, size - pos);
     let out = varints_out(items, most);
@@ -105,7 +105,7 @@ pub fn put_signed_array(
     id: u32,
     items: &[i64],
     place: usize,
-) -> Outcome
+) -> Result<Reach, Error>
     requires { (held ≤ lazy_depth) × (pos ≤ length buf.old) × (length items.now ≤ base.count) }
     ensures { Ended pos buf.old (headers_of held places ++ field_bytes (signed_array id items.now)) place result buf.new }
 {
@@ -115,7 +115,7 @@ pub fn put_signed_array(
     let start = put_head(buf, pos, places, held, header, count, place);
     let end = put_zigzags(start, buf, items);
     if end.skip == 0 && end.pos < size {
-        return Outcome::Through(end.pos);
+        return Ok(Reach::Through(end.pos));
     }
     let most = farthest(place, size - pos);
     let out = zigzags_out(items, most);
@@ -169,7 +169,7 @@ fn finish_floats(
     n: usize,
     bytes: usize,
     place: usize,
-) -> Outcome
+) -> Result<Reach, Error>
     requires { (held ≤ lazy_depth) × (pos ≤ size) × (n ≤ base.count) × (bytes ≤ bytes_of fp64 * base.count) }
     ensures { result ≡ reaches pos size (length (head_of held places (id * 8 + 5) n) + (1 + bytes)) place }
 {
@@ -186,7 +186,7 @@ pub fn put_fp32_bits_array(
     id: u32,
     items: &[u32],
     place: usize,
-) -> Outcome
+) -> Result<Reach, Error>
     requires { (held ≤ lazy_depth) × (pos ≤ length buf.old) × (length items.now ≤ base.count) }
     ensures { Ended pos buf.old (headers_of held places ++ field_bytes (float_array id fp32 items.now)) place result buf.new }
 {
@@ -206,7 +206,7 @@ pub fn put_fp32_array(
     id: u32,
     items: &[f32],
     place: usize,
-) -> Outcome
+) -> Result<Reach, Error>
     requires { (held ≤ lazy_depth) × (pos ≤ length buf.old) × (length items.now ≤ base.count) }
     ensures { Ended pos buf.old (headers_of held places ++ field_bytes (float_array id fp32 (map (to_bits binary32) items.now))) place result buf.new }
 {
@@ -226,7 +226,7 @@ pub fn put_fp64_bits_array(
     id: u32,
     items: &[u64],
     place: usize,
-) -> Outcome
+) -> Result<Reach, Error>
     requires { (held ≤ lazy_depth) × (pos ≤ length buf.old) × (length items.now ≤ base.count) }
     ensures { Ended pos buf.old (headers_of held places ++ field_bytes (float_array id fp64 items.now)) place result buf.new }
 {
@@ -246,7 +246,7 @@ pub fn put_fp64_array(
     id: u32,
     items: &[f64],
     place: usize,
-) -> Outcome
+) -> Result<Reach, Error>
     requires { (held ≤ lazy_depth) × (pos ≤ length buf.old) × (length items.now ≤ base.count) }
     ensures { Ended pos buf.old (headers_of held places ++ field_bytes (float_array id fp64 (map (to_bits binary64) items.now))) place result buf.new }
 {

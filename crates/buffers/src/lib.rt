@@ -8,21 +8,27 @@ use checks::check_change;
 use places::sound_for;
 use types::{Error, LAZY_SEQ_DEPTH};
 
-// The old position, below which the bytes to be sent stand, and the new one; or refused.
+// The old position, below which the bytes to be sent stand, and the new one.
 #[derive(Clone, Copy)]
-pub enum Moved {
-    To(usize, usize),
-    Refused(Error),
+pub struct Moved {
+    pub sent: usize,
+    pub next: usize,
 }
 
 // The bytes below the position are sent, and writing starts at 0.
-pub fn drain(pos: usize, depth: u16, held: u16, places: [u32; LAZY_SEQ_DEPTH], size: usize) -> Moved
+pub fn drain(
+    pos: usize,
+    depth: u16,
+    held: u16,
+    places: [u32; LAZY_SEQ_DEPTH],
+    size: usize,
+) -> Result<Moved, Error>
     ensures { result ≡ drained_to pos depth held places size }
 {
     if sound_for(pos, depth, held, places, size) {
-        Moved::To(pos, 0)
+        Ok(Moved { sent: pos, next: 0 })
     } else {
-        Moved::Refused(Error::UnsoundWriter)
+        Err(Error::UnsoundWriter)
     }
 }
 
@@ -36,19 +42,13 @@ pub fn change(
     new: usize,
     offset: usize,
     drained: bool,
-) -> Moved
+) -> Result<Moved, Error>
     ensures { result ≡ changed_to pos depth held places old new offset drained }
 {
-    let check = check_change(
-        sound_for(pos, depth, held, places, old),
-        new,
-        offset,
-        drained,
-    );
-    let error = check.error;
-    if check.ok {
-        Moved::To(pos, offset)
-    } else {
-        Moved::Refused(error)
-    }
+    let sound = sound_for(pos, depth, held, places, old);
+    check_change(sound, new, offset, drained)?;
+    Ok(Moved {
+        sent: pos,
+        next: offset,
+    })
 }

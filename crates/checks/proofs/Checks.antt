@@ -1,12 +1,12 @@
 -- What the first tests of a call say, and what a call that passes them knows.
-use mathlib.Core.Path.{◌≡◌, refl, sym, ap, ◌∙◌}
+use mathlib.Core.Path.{◌≡◌, refl}
 use mathlib.Core.List.{List, [], ◌∷◌}
-use mathlib.Core.Bool.{Bool, true, false, not}
+use mathlib.Core.Bool.{Bool, true, false}
 use Prim.Native.Nat.{ℕ, ◌≤◌}
-use native.Mathlib.Omega.{arith}
 use borrow.Author.Tests.{ltb-false, not-false}
+use Rattle.std.specs.Prelude.{Ok, Err}
+use Rattle.types.specs.declared.Error.{Error}
 use Rattle.layout.specs.Limits.{pick}
-use Rattle.checks.specs.declared.Check.{Check}
 use Rattle.refusals.specs.Judged.{Test, Judgement, accepted, refused_with, judged}
 use Rattle.checks.specs.Check.{check_of}
 use Rattle.refusals.specs.Tests.{unsound_writer, id_too_large, too_long}
@@ -15,16 +15,16 @@ pub passed : (t : Test) (ts : List Test) → judged (t ∷ ts) ≡ accepted → 
 passed t ts e = go t.fails refl e
   where
     go : (b : Bool) → t.fails ≡ b → pick b (refused_with t.error) (judged ts) ≡ accepted → (t.fails ≡ false) × (judged ts ≡ accepted)
-    go true p e = let z : ◌≡◌ {A = ℕ} 0 1 = cc in absurd (omega arith)
+    go true p e = cc
     go false p e = (p, e)
 
-pub check_passes : (v : Judgement) (r : Check) → r ≡ check_of v → not r.ok ≡ false → v ≡ accepted
-check_passes accepted r e h = refl
-check_passes (refused_with x) r e h = let z : true ≡ false = sym (ap (λ (c : Check). not c.ok) e) ∙ h in let y : ◌≡◌ {A = ℕ} 0 1 = cc in absurd (omega arith)
+pub check_passes : (v : Judgement) → check_of v ≡ Ok tt → v ≡ accepted
+check_passes accepted h = refl
+check_passes (refused_with x) h = cc
 
-pub check_fails : (v : Judgement) (r : Check) → r ≡ check_of v → not r.ok ≡ true → v ≡ refused_with r.error
-check_fails accepted r e h = let z : false ≡ true = sym (ap (λ (c : Check). not c.ok) e) ∙ h in let y : ◌≡◌ {A = ℕ} 0 1 = cc in absurd (omega arith)
-check_fails (refused_with x) r e h = ap (λ (c : Check). refused_with c.error) (sym e)
+pub check_fails : (v : Judgement) (x : Error) → check_of v ≡ Err x → v ≡ refused_with x
+check_fails accepted x h = cc
+check_fails (refused_with y) x h = cc
 
 -- the state is sound, whatever else is tested
 pub check_sound : (sound : Bool) (ts : List Test) → judged (unsound_writer sound ∷ ts) ≡ accepted → sound ≡ true

@@ -1,10 +1,12 @@
 -- How the code says what the first tests of a call come to.
-use Rattle.std.specs.Prelude.{true, false}
-use Rattle.types.specs.Types.{refusal}
-use Rattle.refusals.specs.Judged.{Judgement, accepted, refused_with}
-use Rattle.checks.specs.declared.Check.{Check}
+use Rattle.std.specs.Prelude.{[], ◌∷◌, Result, Ok, Err, ⊤}
+use Rattle.types.specs.declared.Error.{Error}
+use Rattle.refusals.specs.Judged.{Test, Judgement, accepted, refused_with, judged}
 
--- where all pass, the error says nothing
-abbrev pub check_of : Judgement → Check
-check_of accepted = record { ok = true; error = refusal 11 }
-check_of (refused_with e) = record { ok = false; error = e }
+abbrev pub check_of : Judgement → Result ⊤ Error
+check_of accepted = Ok tt
+check_of (refused_with e) = Err e
+
+-- one test alone
+abbrev pub alone : Test → Result ⊤ Error
+alone t = check_of (judged (t ∷ []))

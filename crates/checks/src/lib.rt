@@ -1,46 +1,42 @@
 // What a call of the writer refuses, by numbers alone, and in which order. (Whether the state is sound is told.)
 #![tactic(auto)]
 
-ghost use Rattle.std.specs.Prelude.{◌≡◌, true, false};
-ghost use Rattle.types.specs.Types.{subtype};
-ghost use Rattle.refusals.specs.Judged.{accepted, refused_with, judged};
-ghost use Rattle.refusals.specs.Tests.{bad_buffer, is_string};
+ghost use Rattle.std.specs.Prelude.{◌≡◌};
+ghost use Rattle.refusals.specs.Judged.{judged};
+ghost use Rattle.refusals.specs.Tests.{bad_buffer, unsound_writer, id_too_large, too_long};
 ghost use Rattle.refusals.specs.Orders.{change_tests, scalar_tests, sized_tests, fixlen_tests, begin_tests, end_tests};
-ghost use Rattle.checks.specs.Check.{check_of};
+ghost use Rattle.checks.specs.Check.{check_of, alone};
 
 use types::{Error, FIXLEN_MAX, FixlenType, ID_MAX, MAX_DEPTH};
 
-// Whether a call's first tests pass; else the refusal. (With `ok`, the error says nothing: the place is tested later.)
-#[derive(Clone, Copy)]
-pub struct Check {
-    pub ok: bool,
-    pub error: Error,
-}
-
-fn failed(error: Error) -> Check
-    ensures { result ≡ check_of (refused_with error) }
+// The test of a state, an id, a length against the limit of its kind: each alone.
+fn sound_state(sound: bool) -> Result<(), Error>
+    ensures { result ≡ alone (unsound_writer sound) }
 {
-    Check { ok: false, error }
-}
-
-fn passed() -> Check
-    ensures { result ≡ check_of accepted }
-{
-    Check {
-        ok: true,
-        error: Error::PlaceBeyond,
+    if sound {
+        Ok(())
+    } else {
+        Err(Error::UnsoundWriter)
     }
 }
 
-// Whether a subtype is a string's.
-fn is_string(t: FixlenType) -> bool
-    ensures { result ≡ is_string (subtype t) }
+fn legal_id(id: u32) -> Result<(), Error>
+    ensures { result ≡ alone (id_too_large id) }
 {
-    match t {
-        FixlenType::Fp32 => false,
-        FixlenType::Fp64 => false,
-        FixlenType::Str => true,
-        FixlenType::Blob => false,
+    if ID_MAX < id {
+        Err(Error::IdTooLarge)
+    } else {
+        Ok(())
+    }
+}
+
+fn short_enough(len: usize, most: u32) -> Result<(), Error>
+    ensures { result ≡ alone (too_long most len) }
+{
+    if (most as usize) < len {
+        Err(Error::TooLong)
+    } else {
+        Ok(())
     }
 }
 
@@ -56,85 +52,67 @@ pub fn unfit(size: usize, offset: usize, drained: bool) -> bool
 }
 
 // The refusals of a buffer change: the new buffer, then the state.
-pub fn check_change(sound: bool, size: usize, offset: usize, drained: bool) -> Check
+pub fn check_change(
+    sound: bool,
+    size: usize,
+    offset: usize,
+    drained: bool,
+) -> Result<(), Error>
     ensures { result ≡ check_of (judged (change_tests sound size offset drained)) }
 {
     if unfit(size, offset, drained) {
-        return failed(Error::BadBuffer);
+        return Err(Error::BadBuffer);
     }
-    if !sound {
-        return failed(Error::UnsoundWriter);
-    }
-    passed()
+    sound_state(sound)
 }
 
 // The refusals of a field: the state, the id.
-pub fn check_field(sound: bool, id: u32) -> Check
+pub fn check_field(sound: bool, id: u32) -> Result<(), Error>
     ensures { result ≡ check_of (judged (scalar_tests sound id)) }
 {
-    if !sound {
-        return failed(Error::UnsoundWriter);
-    }
-    if ID_MAX < id {
-        return failed(Error::IdTooLarge);
-    }
-    passed()
+    sound_state(sound)?;
+    legal_id(id)
 }
 
 // And those of one with a payload or an array: how long it is, against the limit of its kind.
-pub fn check_sized(sound: bool, id: u32, len: usize, most: u32) -> Check
+pub fn check_sized(sound: bool, id: u32, len: usize, most: u32) -> Result<(), Error>
     ensures { result ≡ check_of (judged (sized_tests sound id most len)) }
 {
-    if !sound {
-        return failed(Error::UnsoundWriter);
-    }
-    if ID_MAX < id {
-        return failed(Error::IdTooLarge);
-    }
-    if (most as usize) < len {
-        return failed(Error::TooLong);
-    }
-    passed()
+    sound_state(sound)?;
+    legal_id(id)?;
+    short_enough(len, most)
 }
 
 // The refusals of a fixed-length field of any subtype: a string's, too, behind the state.
-pub fn check_fixlen(sound: bool, t: FixlenType, id: u32, len: usize) -> Check
+pub fn check_fixlen(sound: bool, t: FixlenType, id: u32, len: usize) -> Result<(), Error>
     ensures { result ≡ check_of (judged (fixlen_tests sound t id len)) }
 {
-    if !sound {
-        return failed(Error::UnsoundWriter);
+    sound_state(sound)?;
+    if matches!(t, FixlenType::Str) {
+        return Err(Error::StringSubtype);
     }
-    if is_string(t) {
-        return failed(Error::StringSubtype);
-    }
-    check_sized(true, id, len, FIXLEN_MAX)
+    legal_id(id)?;
+    short_enough(len, FIXLEN_MAX)
 }
 
 // The refusals of an open: the state, the depth, the id.
-pub fn check_begin(sound: bool, depth: u16, id: u32) -> Check
+pub fn check_begin(sound: bool, depth: u16, id: u32) -> Result<(), Error>
     ensures { result ≡ check_of (judged (begin_tests sound depth id)) }
 {
-    if !sound {
-        return failed(Error::UnsoundWriter);
+    sound_state(sound)?;
+    if MAX_DEPTH <= u32::from(depth) {
+        return Err(Error::Nesting);
     }
-    if MAX_DEPTH <= depth as u32 {
-        return failed(Error::Nesting);
-    }
-    if ID_MAX < id {
-        return failed(Error::IdTooLarge);
-    }
-    passed()
+    legal_id(id)
 }
 
 // The refusals of a close: the state, the depth.
-pub fn check_end(sound: bool, depth: u16) -> Check
+pub fn check_end(sound: bool, depth: u16) -> Result<(), Error>
     ensures { result ≡ check_of (judged (end_tests sound depth)) }
 {
-    if !sound {
-        return failed(Error::UnsoundWriter);
-    }
+    sound_state(sound)?;
     if depth == 0 {
-        return failed(Error::Nesting);
+        return Err(Error::Nesting);
     }
-    passed()
+    Ok(())
 }

@@ -10,7 +10,8 @@ use Rattle.putting.specs.Put.{reached, Puts}
 use Rattle.emit.specs.Cursor.{placed, moved, Emitted}
 use Rattle.putting.proofs.Writes.{reached_is}
 use Rattle.putting.proofs.Turns.{in_a_row, same_size}
-use Rattle.outcomes.specs.declared.Outcome.TheVariants.{Through}
+use Rattle.std.specs.Prelude.{Ok}
+use Rattle.outcomes.specs.declared.Reach.TheVariants.{Through}
 use Rattle.held.specs.Headers.{start_at, Ended}
 use Rattle.at_ease.specs.AtOnce.{pair_most, room_for, PutsIf}
 use Rattle.held.proofs.Ends.{at_once}
@@ -22,7 +23,7 @@ as_whole pos b o c' b' (e, f) = (ap (λ (x : Cursor). x.pos) e, f)
 
 -- the held headers h, and then the rest of the output, o
 pub behind : (pos : ℕ) (b h o : List ℕ) (place n : ℕ) (c1 : Cursor) (b1 : List ℕ) (rest : Bool) (end : ℕ) (b2 : List ℕ) → place ≡ 0 → pos + (length h + pair_most + n) ≤ length b → length o ≤ pair_most + n
-    → Emitted (start_at pos 0) b h c1 b1 → rest ≡ true → PutsIf (room_for (length b1) c1.pos n && rest) b1 c1.pos o b2 end → Ended pos b (h ++ o) place (Through end) b2
+    → Emitted (start_at pos 0) b h c1 b1 → rest ≡ true → PutsIf (room_for (length b1) c1.pos n && rest) b1 c1.pos o b2 end → Ended pos b (h ++ o) place (Ok (Through end)) b2
 behind pos b h o place n c1 b1 rest end b2 z r l e er w =
     let inside : pos ≤ length b = omega arith in
     let w1 = as_whole pos b h c1 b1 e in

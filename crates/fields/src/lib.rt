@@ -9,8 +9,8 @@ ghost use Rattle.places.specs.Places.{lazy_depth};
 ghost use Rattle.held.specs.Headers.{headers_of, head_of, Ended};
 
 use held::{has_room_behind, head_len, held_len, put_head, put_held, tagged};
-use outcomes::{Outcome, finish};
-use types::{LAZY_SEQ_DEPTH, T_SEQUENCE_END};
+use outcomes::{Reach, finish};
+use types::{Error, LAZY_SEQ_DEPTH, T_SEQUENCE_END};
 use varint::varint_len;
 use write_at_once::{put_field, put_pair};
 
@@ -23,7 +23,7 @@ pub fn put_varint_field(
     header: u64,
     value: u64,
     place: usize,
-) -> Outcome
+) -> Result<Reach, Error>
     requires { (held ≤ lazy_depth) × (pos ≤ length buf.old) }
     ensures { Ended pos buf.old (head_of held places header value) place result buf.new }
 {
@@ -31,7 +31,7 @@ pub fn put_varint_field(
     if place == 0 && has_room_behind(size, pos, places, held, 0) {
         let behind = put_held(buf, pos, places, held, 0);
         let end = put_pair(buf, behind.pos, [0; LAZY_SEQ_DEPTH], header, value);
-        return Outcome::Through(end);
+        return Ok(Reach::Through(end));
     }
     put_head(buf, pos, places, held, header, value, place);
     finish(pos, size, head_len(places, held, header, value), place)
@@ -47,7 +47,7 @@ pub fn put_fixlen_field(
     word: u64,
     bytes: &[u8],
     place: usize,
-) -> Outcome
+) -> Result<Reach, Error>
     requires { (held ≤ lazy_depth) × (pos ≤ length buf.old) }
     ensures { Ended pos buf.old (headers_of held places ++ (shortest header ++ (shortest word ++ bytes.now))) place result buf.new }
 {
@@ -55,7 +55,7 @@ pub fn put_fixlen_field(
     if place == 0 && has_room_behind(size, pos, places, held, bytes.len()) {
         let behind = put_held(buf, pos, places, held, 0);
         let end = put_field(buf, behind.pos, [0; LAZY_SEQ_DEPTH], header, word, bytes);
-        return Outcome::Through(end);
+        return Ok(Reach::Through(end));
     }
     let head = put_head(buf, pos, places, held, header, word, place);
     head.put_bytes(buf, bytes);
@@ -71,7 +71,7 @@ pub fn put_marker(
     held: u16,
     header: u64,
     place: usize,
-) -> Outcome
+) -> Result<Reach, Error>
     requires { (held ≤ lazy_depth) × (pos ≤ length buf.old) }
     ensures { Ended pos buf.old (headers_of held places ++ shortest header) place result buf.new }
 {
@@ -93,7 +93,7 @@ pub fn put_close(
     places: [u32; LAZY_SEQ_DEPTH],
     held: u16,
     place: usize,
-) -> Outcome
+) -> Result<Reach, Error>
     requires { (held ≤ lazy_depth) × (pos ≤ length buf.old) }
     ensures { Ended pos buf.old (headers_of held places ++ field_bytes (end 0)) place result buf.new }
 {

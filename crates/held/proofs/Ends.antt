@@ -12,8 +12,10 @@ use Rattle.emit.specs.declared.Cursor.{Cursor}
 use Rattle.putting.specs.Put.{put, reached, Puts}
 use Rattle.emit.specs.Cursor.{placed, moved, Emitted}
 use Rattle.putting.proofs.Writes.{put-none, reached_is}
-use Rattle.outcomes.specs.declared.Outcome.{Outcome}
-use Rattle.outcomes.specs.declared.Outcome.TheVariants.{Through, Full}
+use Rattle.std.specs.Prelude.{Result, Ok}
+use Rattle.types.specs.declared.Error.{Error}
+use Rattle.outcomes.specs.declared.Reach.{Reach}
+use Rattle.outcomes.specs.declared.Reach.TheVariants.{Through, Full}
 use Rattle.outcomes.specs.Outcome.{reaches}
 use Rattle.outcomes.proofs.Outcomes.{reaches_through, reaches_full}
 use Rattle.held.specs.Headers.{start_at, buffer_after, Ended}
@@ -23,7 +25,7 @@ pub grouped : (held a b c : List ℕ) → held ++ (a ++ b) ++ c ≡ held ++ (a +
 grouped held a b c = append_assoc held (a ++ b) c ∙ ap (λ (l : List ℕ). held ++ l) (append_assoc a b c)
 
 -- how a call ends, for an output that is spelled otherwise
-pub ended_as : (pos : ℕ) (b o o' : List ℕ) (place : ℕ) (r : Outcome) (b' : List ℕ) → o ≡ o' → Ended pos b o place r b' → Ended pos b o' place r b'
+pub ended_as : (pos : ℕ) (b o o' : List ℕ) (place : ℕ) (r : Result Reach Error) (b' : List ℕ) → o ≡ o' → Ended pos b o place r b' → Ended pos b o' place r b'
 ended_as pos b o o' place r b' q (e, f) = (e ∙ ap (λ (l : List ℕ). reaches pos (length b) (length l) place) q, f ∙ ap (λ (l : List ℕ). buffer_after pos b l place) q)
 
 module _ (pos : ℕ) (b o : List ℕ) (place : ℕ) (c' : Cursor) (b' : List ℕ) (e : Emitted (start_at pos place) b o c' b') where
@@ -46,19 +48,19 @@ module _ (pos : ℕ) (b o : List ℕ) (place : ℕ) (c' : Cursor) (b' : List ℕ
       (p ∙ r ∙ ap (λ (n : ℕ). pos + min n (length b - pos)) d, ap (λ (x : Cursor). x.skip) e.0)
 
   -- by its length
-  pub ended : (total : ℕ) (r : Outcome) → total ≡ length o → r ≡ reaches pos (length b) total place → Ended pos b o place r b'
+  pub ended : (total : ℕ) (r : Result Reach Error) → total ≡ length o → r ≡ reaches pos (length b) total place → Ended pos b o place r b'
   ended total r q h = (h ∙ ap (λ (n : ℕ). reaches pos (length b) n place) q, left_any)
 
   -- before the buffer's end: all of it is out
-  pub stops_short : pos ≤ length b → c'.skip ≡ 0 → c'.pos < length b → Ended pos b o place (Through c'.pos) b'
+  pub stops_short : pos ≤ length b → c'.skip ≡ 0 → c'.pos < length b → Ended pos b o place (Ok (Through c'.pos)) b'
   stops_short i z h = let (p, m) = ends_at in (reaches_through pos (length b) (length o) place c'.pos (omega arith) (omega arith) (omega arith), left_any)
 
   -- there is more of it than the place and the room
-  pub goes_on : (out : ℕ) → out ≡ place + (length b - pos) → place + (length b - pos) < length o → Ended pos b o place (Full out) b'
+  pub goes_on : (out : ℕ) → out ≡ place + (length b - pos) → place + (length b - pos) < length o → Ended pos b o place (Ok (Full out)) b'
   goes_on out q h = (reaches_full pos (length b) (length o) place out (omega arith) (omega arith) q, left_any)
 
 -- all of it at once, where there is room
-pub at_once : (pos : ℕ) (b o : List ℕ) (place end : ℕ) (b' : List ℕ) → place ≡ 0 → pos + length o ≤ length b → Puts b pos o b' end → Ended pos b o place (Through end) b'
+pub at_once : (pos : ℕ) (b o : List ℕ) (place end : ℕ) (b' : List ℕ) → place ≡ 0 → pos + length o ≤ length b → Puts b pos o b' end → Ended pos b o place (Ok (Through end)) b'
 unfolding buffer_after
 at_once pos b o place end b' z h (e, f) =
     let r : reached b pos o ≡ pos + min (length o) (length b - pos) = reached_is b pos o in

@@ -1,11 +1,12 @@
 -- The headers that are held back, and where a call's output goes on that begins with them.
-use Rattle.std.specs.Prelude.{◌≡◌, List, ◌++◌, ℕ, ◌+◌, ◌*◌, ltb, length, take, drop}
+use Rattle.std.specs.Prelude.{◌≡◌, List, ◌++◌, ℕ, ◌+◌, ◌*◌, ltb, length, take, drop, Result}
 use Rattle.layout.specs.Limits.{base, longest, pick}
 use Rattle.layout.specs.Varint.{shortest}
 use Rattle.layout.specs.Field.{header, each, t_begin}
 use Rattle.putting.specs.Put.{put}
 use Rattle.emit.specs.declared.Cursor.{Cursor}
-use Rattle.outcomes.specs.declared.Outcome.{Outcome}
+use Rattle.types.specs.declared.Error.{Error}
+use Rattle.outcomes.specs.declared.Reach.{Reach}
 use Rattle.outcomes.specs.Outcome.{reaches}
 use Rattle.places.specs.Places.{lazy_depth}
 use Rattle.at_ease.specs.AtOnce.{pair_most}
@@ -34,5 +35,5 @@ unfoldable pub buffer_after : ℕ → List ℕ → List ℕ → ℕ → List ℕ
 buffer_after pos b o place = pick (ltb (length o) place) b (put b pos (drop place o))
 
 -- how a call ends with the output o, gone on with from a place, from pos on over b: the outcome, and the buffer then
-abbrev pub Ended : ℕ → List ℕ → List ℕ → ℕ → Outcome → List ℕ → Type 0
+abbrev pub Ended : ℕ → List ℕ → List ℕ → ℕ → Result Reach Error → List ℕ → Type 0
 Ended pos b o place r b' = (r ≡ reaches pos (length b) (length o) place) × (b' ≡ buffer_after pos b o place)

@@ -13,22 +13,23 @@ use Rattle.types.proofs.Numbers.{refusal-number}
 use Rattle.putting.specs.Put.{put}
 use Rattle.ostream.specs.declared.OStream.{OStream}
 use Rattle.ostream.specs.declared.Answer.{Answer}
-use Rattle.ostream.specs.declared.Answer.TheVariants.{Done, Full, Refused}
+use Rattle.ostream.specs.declared.Answer.TheVariants.{Done, Full}
+use Rattle.std.specs.Prelude.{Result, Ok, Err}
 use Rattle.ostream.specs.Stream.{at}
 use Rattle.ostream.specs.Emission.{Judgement, accepted, refused_with, judged, Call, Said, through, full, number, said_of, untouched, emitted, written_by, written}
 
 -- Each answer of the code's has its own words: what is said fixes the answer.
-abbrev answer_of : Said → Answer
-answer_of through = Done
-answer_of (full n) = Full n
-answer_of (number n) = Refused (refusal n)
+abbrev answer_of : Said → Result Answer Error
+answer_of through = Ok Done
+answer_of (full n) = Ok (Full n)
+answer_of (number n) = Err (refusal n)
 
-said_again : (a : Answer) → answer_of (said_of a) ≡ a
-said_again Done = refl
-said_again (Full n) = refl
-said_again (Refused e) = ap Refused (refusal-number e)
+said_again : (a : Result Answer Error) → answer_of (said_of a) ≡ a
+said_again (Ok Done) = refl
+said_again (Ok (Full n)) = refl
+said_again (Err e) = ap Err (refusal-number e)
 
-pub said_once : (a a' : Answer) → said_of a ≡ said_of a' → a ≡ a'
+pub said_once : (a a' : Result Answer Error) → said_of a ≡ said_of a' → a ≡ a'
 said_once a a' e = sym (said_again a) ∙ ap answer_of e ∙ said_again a'
 
 module _ (k : Call) (s : OStream) (b : List ℕ) (place : ℕ) where

@@ -7,6 +7,7 @@ use native.Mathlib.Omega.{arith}
 use lib.Dec.{leb, eqb}
 use lib.ListN.{length, take, drop}
 use borrow.Author.Tests.{leb-true, ltb-true, le-leb, le-ltb}
+use Rattle.std.specs.Prelude.{Ok}
 use Rattle.layout.specs.Limits.{base}
 use Rattle.places.specs.Places.{clean}
 use Rattle.at_ease.specs.AtOnce.{pair_most, roomy_at, easy_at, easy_with, closes_at, holds_at, PutsWhole}
@@ -101,7 +102,7 @@ abbrev pub Serves : Bool → Call → List ℕ → OStream → Type 0
 Serves t k o next = t ≡ true → (judged k.tests ≡ accepted) × (o ≡ k.output) × (next ≡ k.done)
 
 -- a call whose output goes at once
-pub goes_at_once : (k : Call) (s : OStream) (b o : List ℕ) (place end : ℕ) (b' : List ℕ) (next : OStream) (t : Bool) → PutsWhole t b s.offset o b' end → s.offset < end → place ≡ 0 → Serves t k o next → result_of (record { answer = Done; stream = at next end }) b' ≡ written k s b place
+pub goes_at_once : (k : Call) (s : OStream) (b o : List ℕ) (place end : ℕ) (b' : List ℕ) (next : OStream) (t : Bool) → PutsWhole t b s.offset o b' end → s.offset < end → place ≡ 0 → Serves t k o next → result_of (record { answer = Ok Done; stream = at next end }) b' ≡ written k s b place
 goes_at_once k s b o place end b' next t w h z serves =
     let g = went t b s.offset o b' end w h in
     let q = serves g.0 in

@@ -13,7 +13,7 @@ use Rattle.at_ease.proofs.AtOnce.{clean_zeros}
 use Rattle.buffers.specs.Moved.{moved_by}
 use Rattle.ostream.specs.declared.OStream.{OStream}
 use Rattle.ostream.specs.declared.Answer.TheVariants.{Done}
-use Rattle.ostream.specs.declared.Count.TheVariants.{Bytes, Refused}
+use Rattle.std.specs.Prelude.{Ok, Err}
 use Rattle.ostream.specs.Stream.{every, sound_stream, at, opened}
 use Rattle.ostream.specs.Emission.{Judgement, accepted, refused_with, refused}
 use Rattle.ostream.specs.Private.{counted_at}
@@ -38,17 +38,17 @@ unheld_clean s size h e = sym (ap (λ (n : ℕ). every (λ x. eqb x 0) (drop n s
 -- ---- by numbers
 
 -- where a call about buffers goes on, in the state
-pub counted-at : (v : Judgement) (s : OStream) (pos : ℕ) → counted_at s (moved_by v s.offset pos) ≡ counted_by v s pos
-counted-at accepted s pos = refl
-counted-at (refused_with e) s pos = refl
+pub counted_is : (v : Judgement) (s : OStream) (pos : ℕ) → counted_at s (moved_by v s.offset pos) ≡ counted_by v s pos
+counted_is accepted s pos = refl
+counted_is (refused_with e) s pos = refl
 
 -- ---- a drain
 
-pub drained_is : (s : OStream) (size : ℕ) → sound_stream s size ≡ true → draining s size ≡ record { answer = Bytes s.offset; stream = at s 0 }
+pub drained_is : (s : OStream) (size : ℕ) → sound_stream s size ≡ true → draining s size ≡ record { answer = Ok s.offset; stream = at s 0 }
 unfolding draining
 drained_is s size h = simp h
 
-pub drain_refused : (s : OStream) (size : ℕ) → sound_stream s size ≡ false → draining s size ≡ record { answer = Refused (refusal 6); stream = s }
+pub drain_refused : (s : OStream) (size : ℕ) → sound_stream s size ≡ false → draining s size ≡ record { answer = Err (refusal 6); stream = s }
 unfolding draining
 drain_refused s size h = simp h
 
@@ -64,7 +64,7 @@ fits size offset false h = le-ltb size offset (omega arith)
 
 -- ---- opening
 
-pub open_taken : (size offset : ℕ) (drained : Bool) → (bad_buffer size offset drained).fails ≡ false → opening size offset drained ≡ record { answer = Done; stream = opened offset }
+pub open_taken : (size offset : ℕ) (drained : Bool) → (bad_buffer size offset drained).fails ≡ false → opening size offset drained ≡ record { answer = Ok Done; stream = opened offset }
 unfolding opening
 open_taken size offset drained h = simp h
 
@@ -76,15 +76,15 @@ open_refused size offset drained h = simp h
 
 module _ (s : OStream) (old new offset : ℕ) (drained : Bool) where
   -- 5 by the new buffer, whatever the state
-  pub change_refused : (bad_buffer new offset drained).fails ≡ true → changing s old new offset drained ≡ record { answer = Refused (refusal 5); stream = s }
+  pub change_refused : (bad_buffer new offset drained).fails ≡ true → changing s old new offset drained ≡ record { answer = Err (refusal 5); stream = s }
   unfolding changing
   change_refused t = simp t
 
   -- 6 by the old one
-  pub change_unsound : (bad_buffer new offset drained).fails ≡ false → sound_stream s old ≡ false → changing s old new offset drained ≡ record { answer = Refused (refusal 6); stream = s }
+  pub change_unsound : (bad_buffer new offset drained).fails ≡ false → sound_stream s old ≡ false → changing s old new offset drained ≡ record { answer = Err (refusal 6); stream = s }
   unfolding changing
   change_unsound t h = simp (t, h)
 
-  pub change_taken : (bad_buffer new offset drained).fails ≡ false → sound_stream s old ≡ true → changing s old new offset drained ≡ record { answer = Bytes s.offset; stream = at s offset }
+  pub change_taken : (bad_buffer new offset drained).fails ≡ false → sound_stream s old ≡ true → changing s old new offset drained ≡ record { answer = Ok s.offset; stream = at s offset }
   unfolding changing
   change_taken t h = simp (t, h)

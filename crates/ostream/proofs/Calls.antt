@@ -13,10 +13,12 @@ use Rattle.types.specs.declared.Error.{Error}
 use Rattle.types.specs.Types.{refusal}
 use Rattle.putting.specs.Put.{put}
 use Rattle.putting.proofs.Writes.{put-none}
-use Rattle.outcomes.specs.declared.Outcome.{Outcome}
-use Rattle.outcomes.specs.declared.Outcome.TheVariants.{Through, Full, Refused}
+use Rattle.std.specs.Prelude.{Result, Ok, Err}
+use Rattle.outcomes.specs.declared.Reach.{Reach}
+use Rattle.outcomes.specs.declared.Reach.TheVariants.{Through, Full}
 use Rattle.outcomes.specs.Outcome.{reaches}
-use Rattle.checks.proofs.Checks.{passed, check_sound}
+use Rattle.checks.specs.Check.{check_of}
+use Rattle.checks.proofs.Checks.{passed, check_fails, check_sound}
 use Rattle.held.specs.Headers.{headers_of, buffer_after, Ended}
 use Rattle.write_slowly.specs.Went.{Went, went_by, goes_by, field_from}
 use Rattle.ostream.specs.declared.OStream.{OStream}
@@ -85,15 +87,15 @@ none_held s e = ap (λ (n : ℕ). each (λ id. header id t_begin) (take n s.pend
 -- ---- how a call ends
 
 -- an outcome in the state, and the buffer then
-settled-emitted : (s : OStream) (b o : List ℕ) (place : ℕ) (next : OStream) (out : Outcome) (b' : List ℕ) → Ended s.offset b o place out b' → result_of (settled s (length b) next out) b' ≡ emitted s b o place next
+settled-emitted : (s : OStream) (b o : List ℕ) (place : ℕ) (next : OStream) (out : Result Reach Error) (b' : List ℕ) → Ended s.offset b o place out b' → result_of (settled s (length b) next out) b' ≡ emitted s b o place next
 unfolding reaches buffer_after emitted result_of
 settled-emitted s b o place next out b' (e, f) =
-    ap (λ (x : Outcome). result_of (settled s (length b) next x) b') e
+    ap (λ (x : Result Reach Error). result_of (settled s (length b) next x) b') e
     ∙ ap (result_of (settled s (length b) next (reaches s.offset (length b) (length o) place))) f
     ∙ go (ltb (length o) place) (leb (length o - place) (length b - s.offset))
   where
     go : (beyond fits : Bool)
-        → result_of (settled s (length b) next (pick beyond (Refused (refusal 11)) (pick fits (Through (s.offset + (length o - place))) (Full (place + (length b - s.offset)))))) (pick beyond b (put b s.offset (drop place o)))
+        → result_of (settled s (length b) next (pick beyond (Err (refusal 11)) (pick fits (Ok (Through (s.offset + (length o - place)))) (Ok (Full (place + (length b - s.offset))))))) (pick beyond b (put b s.offset (drop place o)))
         ≡ emitted_by beyond fits s b o place next
     go true fits = refl
     go false true = refl
@@ -105,7 +107,7 @@ unfolding emitted result_of
 unwritten-emitted s b place next h e = go (ltb 0 place) refl
   where
     go : (beyond : Bool) → ltb 0 place ≡ beyond
-        → result_of (pick beyond (refused s (refusal 11)) (record { answer = Answers.Done; stream = next })) b
+        → result_of (pick beyond (refused s (refusal 11)) (record { answer = Ok Answers.Done; stream = next })) b
         ≡ emitted_by beyond (leb (0 - place) (length b - s.offset)) s b [] place next
     go true q = refl
     go false q =
@@ -117,9 +119,9 @@ unwritten-emitted s b place next h e = go (ltb 0 place) refl
         ∙ sym (simp (le-leb (0 - place) (length b - s.offset) (omega arith)))
 
 module _ (k : Call) (s : OStream) (b : List ℕ) (place : ℕ) (r : Written) where
-  pub refuses : (e : Error) → judged k.tests ≡ refused_with e → r ≡ refused s e → result_of r b ≡ written k s b place
+  pub refuses : (e : Error) → check_of (judged k.tests) ≡ Err e → r ≡ refused s e → result_of r b ≡ written k s b place
   unfolding written written_by result_of
-  refuses e j h = ap (λ (x : Written). result_of x b) h ∙ sym (ap (λ (v : Judgement). written_by v k s b place) j)
+  refuses e j h = ap (λ (x : Written). result_of x b) h ∙ sym (ap (λ (v : Judgement). written_by v k s b place) (check_fails (judged k.tests) e j))
 
   -- an output and a state as they are spelled
   accepts : (o : List ℕ) (next : OStream) (b' : List ℕ) → o ≡ k.output → next ≡ k.done → judged k.tests ≡ accepted → result_of r b' ≡ emitted s b o place next → result_of r b' ≡ written k s b place
@@ -131,7 +133,7 @@ module _ (k : Call) (s : OStream) (b : List ℕ) (place : ℕ) (r : Written) whe
       ∙ sym (ap (λ (v : Judgement). written_by v k s b place) j)
 
   -- the output has been put as far as there is room
-  pub settles : (o : List ℕ) (next : OStream) (out : Outcome) (b' : List ℕ) → o ≡ k.output → next ≡ k.done → judged k.tests ≡ accepted → Ended s.offset b o place out b'
+  pub settles : (o : List ℕ) (next : OStream) (out : Result Reach Error) (b' : List ℕ) → o ≡ k.output → next ≡ k.done → judged k.tests ≡ accepted → Ended s.offset b o place out b'
       → r ≡ settled s (length b) next out → result_of r b' ≡ written k s b place
   settles o next out b' eo en j f h = accepts o next b' eo en j (ap (λ (x : Written). result_of x b') h ∙ settled-emitted s b o place next out b' f)
 
@@ -142,12 +144,12 @@ module _ (k : Call) (s : OStream) (b : List ℕ) (place : ℕ) (r : Written) whe
 
 -- ---- a field by the numbers of the state
 
-pub few_clears : (s : OStream) → s.npending ≤ lazy_depth → (out : Outcome) → Clears s out
-few_clears s h (Through end) = h
-few_clears s h (Full out) = tt
-few_clears s h (Refused e) = tt
+pub few_clears : (s : OStream) → s.npending ≤ lazy_depth → (out : Result Reach Error) → Clears s out
+few_clears s h (Ok (Through end)) = h
+few_clears s h (Ok (Full out)) = tt
+few_clears s h (Err e) = tt
 
-module _ (s : OStream) (b : List ℕ) (id : ℕ) (more : List Test) (bytes : List ℕ) (place : ℕ) (out : Outcome) (b' : List ℕ) (w : went_by out b' ≡ field_from s.offset s.depth s.npending s.pending b id more bytes place) where
+module _ (s : OStream) (b : List ℕ) (id : ℕ) (more : List Test) (bytes : List ℕ) (place : ℕ) (out : Result Reach Error) (b' : List ℕ) (w : went_by out b' ≡ field_from s.offset s.depth s.npending s.pending b id more bytes place) where
   -- where it is all out, the state was sound
   pub field_clears : Clears s out
   unfolding sound_stream went_by goes_by
@@ -171,7 +173,7 @@ module _ (s : OStream) (b : List ℕ) (id : ℕ) (more : List Test) (bytes : Lis
           settled-emitted s b (held_bytes s ++ bytes) place (committed s s.depth) out b' (ap (λ (g : Went). g.outcome) w, ap (λ (g : Went). g.buf) w)
           ∙ ap (λ (l : List ℕ). emitted s b l place (committed s s.depth)) o ∙ ap (λ (next : OStream). emitted s b k.output place next) d
       go (refused_with e) w =
-          ap (λ (x : Outcome). result_of (settled s (length b) (committed s s.depth) x) b') (ap (λ (g : Went). g.outcome) w)
+          ap (λ (x : Result Reach Error). result_of (settled s (length b) (committed s s.depth) x) b') (ap (λ (g : Went). g.outcome) w)
           ∙ ap (result_of (refused s e)) (ap (λ (g : Went). g.buf) w)
 
 -- two calls that come to the same

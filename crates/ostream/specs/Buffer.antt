@@ -1,10 +1,9 @@
 -- The calls about buffers: opening, draining, and changing the buffer.
-use Rattle.std.specs.Prelude.{Bool, List, [], ◌∷◌, ℕ, take}
+use Rattle.std.specs.Prelude.{Bool, List, [], ◌∷◌, ℕ, take, Ok, Err}
 use Rattle.refusals.specs.Orders.{change_tests}
 use Rattle.ostream.specs.declared.OStream.{OStream}
 use Rattle.ostream.specs.declared.Answer.TheVariants.{Done}
 use Rattle.ostream.specs.declared.Written.{Written}
-use Rattle.ostream.specs.declared.Count.TheVariants.{Bytes, Refused}
 use Rattle.ostream.specs.declared.Counted.{Counted}
 use Rattle.ostream.specs.Stream.{at, opened, sound_stream}
 use Rattle.ostream.specs.Emission.{Judgement, accepted, refused_with, judged, refused}
@@ -13,7 +12,7 @@ pub use Rattle.refusals.specs.Tests.{bad_buffer}
 
 -- "Opening at offset o leaves the buffer's first o bytes as they came". Where it is refused the state is that of a writer at 0.
 abbrev pub opened_by : Judgement → ℕ → Written
-opened_by accepted offset = record { answer = Done; stream = opened offset }
+opened_by accepted offset = record { answer = Ok Done; stream = opened offset }
 opened_by (refused_with e) offset = refused (opened 0) e
 
 unfoldable pub opening : ℕ → ℕ → Bool → Written
@@ -21,8 +20,8 @@ opening size offset drained = opened_by (judged (bad_buffer size offset drained 
 
 -- The old position is answered, and the state is at another.
 abbrev pub counted_by : Judgement → OStream → ℕ → Counted
-counted_by accepted s pos = record { answer = Bytes s.offset; stream = at s pos }
-counted_by (refused_with e) s pos = record { answer = Refused e; stream = s }
+counted_by accepted s pos = record { answer = Ok s.offset; stream = at s pos }
+counted_by (refused_with e) s pos = record { answer = Err e; stream = s }
 
 -- A drain: "the bytes below the position" are sent, "after which writing starts at 0".
 unfoldable pub draining : OStream → ℕ → Counted

@@ -42,7 +42,7 @@ impl OStream {
         if self.offset < end {
             self.offset = end;
             return Written {
-                answer: Answer::Done,
+                answer: Ok(Answer::Done),
                 stream: self,
             };
         }
@@ -105,7 +105,7 @@ impl OStream {
         if self.offset < end {
             self.offset = end;
             return Written {
-                answer: Answer::Done,
+                answer: Ok(Answer::Done),
                 stream: self,
             };
         }

@@ -46,7 +46,7 @@ impl OStream {
         if self.offset < end {
             self.offset = end;
             return Written {
-                answer: Answer::Done,
+                answer: Ok(Answer::Done),
                 stream: self,
             };
         }
@@ -86,10 +86,8 @@ impl OStream {
     ) -> Written
         ensures { result_of result buf.new ≡ written (fixlen_call self (length buf.old) id bytes.now subtype) self buf.old place }
     {
-        let check = check_fixlen(self.sound(buf.len()), subtype, id, bytes.len());
-        let error = check.error;
-        if !check.ok {
-            return self.refuse(error);
+        if let Err(e) = check_fixlen(self.sound(buf.len()), subtype, id, bytes.len()) {
+            return self.refuse(e);
         }
         self.write_fixlen_raw(buf, id, bytes, subtype, place)
     }

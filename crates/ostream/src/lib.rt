@@ -17,7 +17,7 @@ ghost use Rattle.ostream.specs.Buffer.{opening, draining, changing};
 
 use buffers::{Moved, change, drain};
 use checks::unfit;
-use outcomes::Outcome;
+use outcomes::Reach;
 use places::{clear, sound_for};
 use types::{Error, LAZY_SEQ_DEPTH};
 
@@ -31,30 +31,24 @@ pub struct OStream {
     pub npending: u16,
 }
 
-// What a call comes to: all its bytes are out; the buffer is full, and that many are out; or refused.
+// What a call comes to that is not refused: all its bytes are out; or the buffer is full, and that many are out.
 #[derive(Clone, Copy)]
 pub enum Answer {
     Done,
     Full(usize),
-    Refused(Error),
 }
 
+// And the state, which a refusal hands back as it was.
 #[derive(Clone, Copy)]
 pub struct Written {
-    pub answer: Answer,
+    pub answer: Result<Answer, Error>,
     pub stream: OStream,
 }
 
 // What a call comes to that answers a position: that many bytes stand below it.
 #[derive(Clone, Copy)]
-pub enum Count {
-    Bytes(usize),
-    Refused(Error),
-}
-
-#[derive(Clone, Copy)]
 pub struct Counted {
-    pub answer: Count,
+    pub answer: Result<usize, Error>,
     pub stream: OStream,
 }
 
@@ -112,7 +106,7 @@ impl OStream {
         ensures { result ≡ refused self e }
     {
         Written {
-            answer: Answer::Refused(e),
+            answer: Err(e),
             stream: self,
         }
     }
@@ -132,27 +126,27 @@ impl OStream {
 
     // The answer of a call that writes, by what it comes to: once all is out, no id is held any more. (A call whose bytes are out has had
     // its state tested.)
-    fn settle(mut self, size: usize, outcome: Outcome, depth: u16) -> Written
+    fn settle(mut self, size: usize, outcome: Result<Reach, Error>, depth: u16) -> Written
         requires { Clears self outcome }
         ensures { result ≡ settled self size (committed self depth) outcome }
     {
         match outcome {
-            Outcome::Through(end) => {
+            Ok(Reach::Through(end)) => {
                 let mut next = self.commit(depth);
                 next.offset = end;
                 Written {
-                    answer: Answer::Done,
+                    answer: Ok(Answer::Done),
                     stream: next,
                 }
             }
-            Outcome::Full(out) => {
+            Ok(Reach::Full(out)) => {
                 self.offset = size;
                 Written {
-                    answer: Answer::Full(out),
+                    answer: Ok(Answer::Full(out)),
                     stream: self,
                 }
             }
-            Outcome::Refused(e) => self.refuse(e),
+            Err(e) => self.refuse(e),
         }
     }
 
@@ -164,13 +158,14 @@ impl OStream {
             return self.refuse(Error::PlaceBeyond);
         }
         Written {
-            answer: Answer::Done,
+            answer: Ok(Answer::Done),
             stream: next,
         }
     }
 
     // ---- opening, drain, buffer change
 
+    #[tactic(auto, unfolding(crate::specs::Buffer::opening))]
     fn open(size: usize, offset: usize, drained: bool) -> Written
         ensures { result ≡ opening size offset drained }
     {
@@ -178,7 +173,7 @@ impl OStream {
             OStream::install(0).refuse(Error::BadBuffer)
         } else {
             Written {
-                answer: Answer::Done,
+                answer: Ok(Answer::Done),
                 stream: OStream::install(offset),
             }
         }
@@ -213,25 +208,26 @@ impl OStream {
     }
 
     // The answer of a drain or a buffer change, and the state at the new position.
-    fn count(mut self, moved: Moved) -> Counted
+    fn count(mut self, moved: Result<Moved, Error>) -> Counted
         ensures { result ≡ counted_at self moved }
     {
         match moved {
-            Moved::To(sent, offset) => {
-                self.offset = offset;
+            Ok(to) => {
+                self.offset = to.next;
                 Counted {
-                    answer: Count::Bytes(sent),
+                    answer: Ok(to.sent),
                     stream: self,
                 }
             }
-            Moved::Refused(e) => Counted {
-                answer: Count::Refused(e),
+            Err(e) => Counted {
+                answer: Err(e),
                 stream: self,
             },
         }
     }
 
     // The caller drains the buffer: as many bytes as answered are to be sent, and writing starts at 0.
+    #[tactic(auto, using(crate::proofs::Buffers::counted_is), unfolding(crate::specs::Stream::sound_stream, crate::specs::Buffer::draining))]
     pub fn flush(self, buf: &[u8]) -> Counted
         ensures { result ≡ draining self (length buf.now) }
     {
@@ -241,6 +237,7 @@ impl OStream {
     }
 
     // Another buffer from the offset on. The answer counts the old one's bytes, which the caller of a drained writer still sends.
+    #[tactic(auto, using(crate::proofs::Buffers::counted_is), unfolding(crate::specs::Stream::sound_stream, crate::specs::Buffer::changing))]
     pub fn buffer_set(self, old: &[u8], new: &[u8], offset: usize, drained: bool) -> Counted
         ensures { result ≡ changing self (length old.now) (length new.now) offset drained }
     {

@@ -48,7 +48,7 @@ impl OStream {
         if self.offset < end {
             self.offset = end;
             return Written {
-                answer: Answer::Done,
+                answer: Ok(Answer::Done),
                 stream: self,
             };
         }

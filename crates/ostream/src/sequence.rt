@@ -57,7 +57,7 @@ impl OStream {
             )
         {
             return Written {
-                answer: Answer::Done,
+                answer: Ok(Answer::Done),
                 stream: self.hold(id),
             };
         }
@@ -69,10 +69,8 @@ impl OStream {
         ensures { result_of result buf.new ≡ written (begin_call self (length buf.old) id) self buf.old place }
     {
         let size = buf.len();
-        let check = check_begin(self.sound(size), self.depth, id);
-        let error = check.error;
-        if !check.ok {
-            return self.refuse(error);
+        if let Err(e) = check_begin(self.sound(size), self.depth, id) {
+            return self.refuse(e);
         }
         if self.npending < LAZY_SEQ_DEPTH as u16 {
             return self.alter(place, self.hold(id));
@@ -96,7 +94,7 @@ impl OStream {
             self.offset = end;
             self.depth = self.depth - 1;
             return Written {
-                answer: Answer::Done,
+                answer: Ok(Answer::Done),
                 stream: self,
             };
         }
@@ -107,10 +105,8 @@ impl OStream {
     fn end_slowly(self, buf: &mut [u8], place: usize) -> Written
         ensures { result_of result buf.new ≡ written (end_call self (length buf.old)) self buf.old place }
     {
-        let check = check_end(self.sound(buf.len()), self.depth);
-        let error = check.error;
-        if !check.ok {
-            return self.refuse(error);
+        if let Err(e) = check_end(self.sound(buf.len()), self.depth) {
+            return self.refuse(e);
         }
         if self.npending == 0 {
             return self.close(buf, place);
@@ -133,10 +129,8 @@ impl OStream {
     pub fn write_sequence_end_keep(mut self, buf: &mut [u8], place: usize) -> Written
         ensures { result_of result buf.new ≡ written (end_keep_call self (length buf.old)) self buf.old place }
     {
-        let check = check_end(self.sound(buf.len()), self.depth);
-        let error = check.error;
-        if !check.ok {
-            return self.refuse(error);
+        if let Err(e) = check_end(self.sound(buf.len()), self.depth) {
+            return self.refuse(e);
         }
         self.close(buf, place)
     }

@@ -1,42 +1,34 @@
 // How far a call's output goes, by numbers alone: all of it out, up to the buffer's end, or refused for the place to go on from.
 #![tactic(auto)]
 
-ghost use Rattle.std.specs.Prelude.{◌≡◌, ◌≤◌, min};
+ghost use Rattle.std.specs.Prelude.{◌≡◌, ◌≤◌};
 ghost use Rattle.outcomes.specs.Outcome.{reaches};
 
 use types::Error;
 
-// What a call comes to: all its bytes are out, up to a position; the buffer is full, and that many are out; or refused.
+// How far a call goes that is not refused: all its bytes are out, up to a position; or the buffer is full, and that many are out.
 #[derive(Clone, Copy)]
-pub enum Outcome {
+pub enum Reach {
     Through(usize),
     Full(usize),
-    Refused(Error),
-}
-
-fn least(a: usize, b: usize) -> usize
-    ensures { result ≡ min a b }
-{
-    if a < b { a } else { b }
 }
 
 // What a call comes to whose output has `total` bytes, those from the place on being out as far as there is room. (`fields` and
 // `arrays` call it with the position that they require themselves.)
-pub fn finish(pos: usize, size: usize, total: usize, place: usize) -> Outcome
+#[tactic(auto, unfolding(crate::specs::Outcome::reaches))]
+pub fn finish(pos: usize, size: usize, total: usize, place: usize) -> Result<Reach, Error>
     requires { pos ≤ size }
     ensures { result ≡ reaches pos size total place }
 {
     if total < place {
-        return Outcome::Refused(Error::PlaceBeyond);
+        return Err(Error::PlaceBeyond);
     }
     let owed = total - place;
     let room = size - pos;
-    let out = least(owed, room);
-    let end = pos + out;
-    let count = place + out;
+    let out = owed.min(room);
     if owed <= room {
-        Outcome::Through(end)
+        Ok(Reach::Through(pos + out))
     } else {
-        Outcome::Full(count)
+        Ok(Reach::Full(place + out))
     }
 }

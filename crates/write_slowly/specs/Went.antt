@@ -1,7 +1,7 @@
 -- A field or an array by the numbers of a writer's state: its refusals in order, else its bytes behind the held headers, from a place on.
-use Rattle.std.specs.Prelude.{Bool, List, ◌∷◌, ◌++◌, ℕ, length}
-use Rattle.outcomes.specs.declared.Outcome.{Outcome}
-use Rattle.outcomes.specs.declared.Outcome.TheVariants.{Refused}
+use Rattle.std.specs.Prelude.{Bool, List, ◌∷◌, ◌++◌, ℕ, length, Result, Err}
+use Rattle.types.specs.declared.Error.{Error}
+use Rattle.outcomes.specs.declared.Reach.{Reach}
 use Rattle.refusals.specs.Judged.{Test, Judgement, accepted, refused_with, judged}
 use Rattle.refusals.specs.Tests.{unsound_writer, id_too_large}
 use Rattle.outcomes.specs.Outcome.{reaches}
@@ -10,17 +10,17 @@ use Rattle.held.specs.Headers.{headers_of, buffer_after}
 
 -- what the call comes to, and the buffer as it leaves it
 pub record Went : Type 0 where
-  pub outcome : Outcome
+  pub outcome : Result Reach Error
   pub buf : List ℕ
 
 -- the code's result and the buffer, as such a record
-unfoldable pub went_by : Outcome → List ℕ → Went
+unfoldable pub went_by : Result Reach Error → List ℕ → Went
 went_by r b = record { outcome = r; buf = b }
 
 -- an output gone on with from a place, at a position in the buffer; where it is refused, the buffer is unaltered
 unfoldable pub goes_by : Judgement → ℕ → List ℕ → List ℕ → ℕ → Went
 goes_by accepted pos b o place = record { outcome = reaches pos (length b) (length o) place; buf = buffer_after pos b o place }
-goes_by (refused_with e) pos b o place = record { outcome = Refused e; buf = b }
+goes_by (refused_with e) pos b o place = record { outcome = Err e; buf = b }
 
 -- the tests of a field: the state, the id, and those of its length, where it has one
 abbrev pub tests : Bool → ℕ → List Test → List Test

@@ -1,6 +1,6 @@
 // A field or an array from any state and any place on, by the state's numbers: what it refuses, in order, and else its bytes behind the
 // headers that are held back.
-#![tactic(auto)]
+#![tactic(auto, using(crate::proofs::Went::refuses, crate::proofs::Went::goes))]
 
 ghost use Rattle.std.specs.Prelude.{◌≡◌, [], ◌∷◌, map, ◌++◌, ◌+◌, ◌*◌, length};
 ghost use Rattle.std.specs.Float.{binary32, binary64};
@@ -17,12 +17,12 @@ use arrays::{
     put_fp32_array, put_fp32_bits_array, put_fp64_array, put_fp64_bits_array, put_signed_array,
     put_unsigned_array,
 };
-use checks::{Check, check_field, check_sized};
+use checks::{check_field, check_sized};
 use fields::{put_fixlen_field, put_varint_field};
 use held::tagged;
-use outcomes::Outcome;
+use outcomes::Reach;
 use places::sound_for;
-use types::{ARRAY_MAX, FIXLEN_MAX, FixlenType, LAZY_SEQ_DEPTH, T_FIXLEN};
+use types::{ARRAY_MAX, Error, FIXLEN_MAX, FixlenType, LAZY_SEQ_DEPTH, T_FIXLEN};
 
 // The refusals of a field with a payload, in order: the state, the id, the length.
 fn check_payload(
@@ -33,7 +33,7 @@ fn check_payload(
     size: usize,
     id: u32,
     len: usize,
-) -> Check
+) -> Result<(), Error>
     ensures { result ≡ check_of (judgement_of pos depth held places size id (payload_too_long len ∷ [])) }
 {
     check_sized(
@@ -53,7 +53,7 @@ fn check_array(
     size: usize,
     id: u32,
     count: usize,
-) -> Check
+) -> Result<(), Error>
     ensures { result ≡ check_of (judgement_of pos depth held places size id (array_too_long count ∷ [])) }
 {
     check_sized(
@@ -75,18 +75,15 @@ pub fn varint_field(
     wire: u8,
     value: u64,
     place: usize,
-) -> Outcome
+) -> Result<Reach, Error>
     ensures { went_by result buf.new ≡ field_from pos depth held places buf.old id [] (shortest (id * 8 + wire) ++ shortest value) place }
 {
-    let tests = check_field(sound_for(pos, depth, held, places, buf.len()), id);
-    let error = tests.error;
-    if !tests.ok {
-        return Outcome::Refused(error);
-    }
+    check_field(sound_for(pos, depth, held, places, buf.len()), id)?;
     put_varint_field(buf, pos, places, held, tagged(id, wire), value, place)
 }
 
 // A fixed-length field: the header, the word, and the bytes as they are.
+#[tactic(auto, using(crate::proofs::Went::refuses, crate::proofs::Went::goes), unfolding(layout::specs::Copy::fixlen_bytes))]
 pub fn fixlen_field(
     buf: &mut [u8],
     pos: usize,
@@ -97,14 +94,10 @@ pub fn fixlen_field(
     bytes: &[u8],
     t: FixlenType,
     place: usize,
-) -> Outcome
+) -> Result<Reach, Error>
     ensures { went_by result buf.new ≡ field_from pos depth held places buf.old id (payload_too_long (length bytes.now) ∷ []) (fixlen_bytes id (subtype t) bytes.now) place }
 {
-    let tests = check_payload(pos, depth, held, places, buf.len(), id, bytes.len());
-    let error = tests.error;
-    if !tests.ok {
-        return Outcome::Refused(error);
-    }
+    check_payload(pos, depth, held, places, buf.len(), id, bytes.len())?;
     let word = tagged(bytes.len() as u32, t.raw());
     put_fixlen_field(
         buf,
@@ -128,14 +121,10 @@ pub fn unsigned_array(
     id: u32,
     items: &[u64],
     place: usize,
-) -> Outcome
+) -> Result<Reach, Error>
     ensures { went_by result buf.new ≡ field_from pos depth held places buf.old id (array_too_long (length items.now) ∷ []) (field_bytes (unsigned_array id items.now)) place }
 {
-    let tests = check_array(pos, depth, held, places, buf.len(), id, items.len());
-    let error = tests.error;
-    if !tests.ok {
-        return Outcome::Refused(error);
-    }
+    check_array(pos, depth, held, places, buf.len(), id, items.len())?;
     put_unsigned_array(buf, pos, places, held, id, items, place)
 }
 
@@ -149,14 +138,10 @@ pub fn signed_array(
     id: u32,
     items: &[i64],
     place: usize,
-) -> Outcome
+) -> Result<Reach, Error>
     ensures { went_by result buf.new ≡ field_from pos depth held places buf.old id (array_too_long (length items.now) ∷ []) (field_bytes (signed_array id items.now)) place }
 {
-    let tests = check_array(pos, depth, held, places, buf.len(), id, items.len());
-    let error = tests.error;
-    if !tests.ok {
-        return Outcome::Refused(error);
-    }
+    check_array(pos, depth, held, places, buf.len(), id, items.len())?;
     put_signed_array(buf, pos, places, held, id, items, place)
 }
 
@@ -170,14 +155,10 @@ pub fn fp32_bits_array(
     id: u32,
     items: &[u32],
     place: usize,
-) -> Outcome
+) -> Result<Reach, Error>
     ensures { went_by result buf.new ≡ field_from pos depth held places buf.old id (array_too_long (length items.now) ∷ []) (field_bytes (float_array id fp32 items.now)) place }
 {
-    let tests = check_array(pos, depth, held, places, buf.len(), id, items.len());
-    let error = tests.error;
-    if !tests.ok {
-        return Outcome::Refused(error);
-    }
+    check_array(pos, depth, held, places, buf.len(), id, items.len())?;
     put_fp32_bits_array(buf, pos, places, held, id, items, place)
 }
 
@@ -191,14 +172,10 @@ pub fn fp32_array(
     id: u32,
     items: &[f32],
     place: usize,
-) -> Outcome
+) -> Result<Reach, Error>
     ensures { went_by result buf.new ≡ field_from pos depth held places buf.old id (array_too_long (length items.now) ∷ []) (field_bytes (float_array id fp32 (map (to_bits binary32) items.now))) place }
 {
-    let tests = check_array(pos, depth, held, places, buf.len(), id, items.len());
-    let error = tests.error;
-    if !tests.ok {
-        return Outcome::Refused(error);
-    }
+    check_array(pos, depth, held, places, buf.len(), id, items.len())?;
     put_fp32_array(buf, pos, places, held, id, items, place)
 }
 
@@ -212,14 +189,10 @@ pub fn fp64_bits_array(
     id: u32,
     items: &[u64],
     place: usize,
-) -> Outcome
+) -> Result<Reach, Error>
     ensures { went_by result buf.new ≡ field_from pos depth held places buf.old id (array_too_long (length items.now) ∷ []) (field_bytes (float_array id fp64 items.now)) place }
 {
-    let tests = check_array(pos, depth, held, places, buf.len(), id, items.len());
-    let error = tests.error;
-    if !tests.ok {
-        return Outcome::Refused(error);
-    }
+    check_array(pos, depth, held, places, buf.len(), id, items.len())?;
     put_fp64_bits_array(buf, pos, places, held, id, items, place)
 }
 
@@ -233,13 +206,9 @@ pub fn fp64_array(
     id: u32,
     items: &[f64],
     place: usize,
-) -> Outcome
+) -> Result<Reach, Error>
     ensures { went_by result buf.new ≡ field_from pos depth held places buf.old id (array_too_long (length items.now) ∷ []) (field_bytes (float_array id fp64 (map (to_bits binary64) items.now))) place }
 {
-    let tests = check_array(pos, depth, held, places, buf.len(), id, items.len());
-    let error = tests.error;
-    if !tests.ok {
-        return Outcome::Refused(error);
-    }
+    check_array(pos, depth, held, places, buf.len(), id, items.len())?;
     put_fp64_array(buf, pos, places, held, id, items, place)
 }

@@ -13,7 +13,7 @@ use Rattle.layout.specs.Limits.{pick}
 use Rattle.layout.specs.Message.{All}
 use Rattle.putting.specs.Put.{put}
 use Rattle.putting.proofs.Writes.{length-put}
-use Rattle.ostream.specs.declared.Count.TheVariants as Counts
+use Rattle.std.specs.Prelude.{Ok}
 use Rattle.ostream.specs.Stream.{at}
 use Rattle.ostream.proofs.Calls.{is_sound}
 use Rattle.writes.specs.Series.{Op, Desk, Act, write, drain, change, aside, other, beside, none, counts, sending, writing, act, acts, Allowed, Lawful, Plain}
@@ -36,7 +36,7 @@ sends_one d l c = go d.full refl (none d.ops) refl (ltb 0 d.stream.offset) refl
     go false e true f false g = let w : false ≡ true = simp (e, f, g) at c in let v : ◌≡◌ {A = ℕ} 0 1 = cc in absurd (omega arith)
     go false e false f false g = let w : false ≡ true = simp (e, f, g) at c in let v : ◌≡◌ {A = ℕ} 0 1 = cc in absurd (omega arith)
 
-lean_sending : (d : Desk) (b : List ℕ) → Fine d → Lean d → 1 ≤ length b → Lean (sending d (Counts.Bytes d.stream.offset) (at d.stream 0) b [])
+lean_sending : (d : Desk) (b : List ℕ) → Fine d → Lean d → 1 ≤ length b → Lean (sending d (Ok d.stream.offset) (at d.stream 0) b [])
 lean_sending d b f l h =
     let i : d.stream.offset ≤ length d.buf = (is_sound d.stream (length d.buf) f.sound.0).inside in
     let n : length (drop (length d.reserved) (take d.stream.offset d.buf)) ≡ d.stream.offset =
@@ -62,8 +62,8 @@ lean_writing d (op ∷ rest) f l e =
     (λ a r. record { room = omega (arith, n, l.room); start = l.start; few = l.few; filled = λ x. sym n })
     (λ x a. record { room = l.room; start = l.start; few = l.few; filled = λ x. let w : ◌≡◌ {A = ℕ} 0 1 = cc in absurd (omega arith) })
 
-lean_change : (d : Desk) (b : List ℕ) (o : ℕ) → Fine d → Lean d → 1 ≤ length b → o ≡ 0 → Lean (sending d (Counts.Bytes d.stream.offset) (at d.stream o) b (take o b))
-lean_change d b o f l h z = subst (λ (o : ℕ). Lean (sending d (Counts.Bytes d.stream.offset) (at d.stream o) b (take o b))) (sym z) (lean_sending d b f l h)
+lean_change : (d : Desk) (b : List ℕ) (o : ℕ) → Fine d → Lean d → 1 ≤ length b → o ≡ 0 → Lean (sending d (Ok d.stream.offset) (at d.stream o) b (take o b))
+lean_change d b o f l h z = subst (λ (o : ℕ). Lean (sending d (Ok d.stream.offset) (at d.stream o) b (take o b))) (sym z) (lean_sending d b f l h)
 
 lean_act : (a : Act) (d : Desk) → Fine d → Lean d → Allowed a d → Plain a → Lean (act a d)
 unfolding act

@@ -13,7 +13,7 @@ use Rattle.layout.specs.Message.{All}
 use Rattle.putting.specs.Put.{put}
 use Rattle.putting.proofs.Writes.{length-put}
 use Rattle.ostream.specs.declared.OStream.{OStream}
-use Rattle.ostream.specs.declared.Count.TheVariants as Counts
+use Rattle.std.specs.Prelude.{Ok}
 use Rattle.ostream.specs.declared.Counted.{Counted}
 use Rattle.ostream.specs.Stream.{at}
 use Rattle.ostream.specs.Emission.{Judgement, accepted, refused_with}
@@ -51,7 +51,7 @@ record Ready (d : Desk) : Type 0 where
 
 -- a change that is taken
 changed_desk : (d : Desk) (b : List ℕ) (o : ℕ) (drained : Bool) → Fine d → o < length b
-    → act (change b o drained) d ≡ sending d (Counts.Bytes d.stream.offset) (at d.stream o) b (take o b)
+    → act (change b o drained) d ≡ sending d (Ok d.stream.offset) (at d.stream o) b (take o b)
 unfolding act
 changed_desk d b o drained f h = ap (λ (r : Counted). sending d r.answer r.stream b (take o b)) (change_taken d.stream (length d.buf) (length b) o drained (fits (length b) o drained h) f.sound.0)
 
@@ -62,8 +62,8 @@ record Freed (d x : Desk) : Type 0 where
   free : x.stream.offset < length x.buf
   on : x.full ≡ false
 
-freed_sending : (d : Desk) (b : List ℕ) (o : ℕ) (r : List ℕ) → Ready d → o < length b → Fine (sending d (Counts.Bytes d.stream.offset) (at d.stream o) b r)
-    → Freed d (sending d (Counts.Bytes d.stream.offset) (at d.stream o) b r)
+freed_sending : (d : Desk) (b : List ℕ) (o : ℕ) (r : List ℕ) → Ready d → o < length b → Fine (sending d (Ok d.stream.offset) (at d.stream o) b r)
+    → Freed d (sending d (Ok d.stream.offset) (at d.stream o) b r)
 freed_sending d b o r q h f =
     record {
       ready = record { fine = f; room = omega arith };

@@ -16,7 +16,7 @@ use Rattle.putting.specs.Put.{put}
 use Rattle.putting.proofs.Writes.{length-put}
 use Rattle.drains.specs.Drains.{rounded_up}
 use Rattle.drains.proofs.Rounding.{rounded_parts}
-use Rattle.ostream.specs.declared.Count.TheVariants as Counts
+use Rattle.std.specs.Prelude.{Ok}
 use Rattle.ostream.specs.Stream.{at}
 use Rattle.ostream.specs.Emission.{accepted}
 use Rattle.ostream.proofs.Calls.{is_sound}
@@ -92,7 +92,7 @@ module _ (size total : ℕ) where
       ∙ ap (λ (x : ℕ). length d.sent + x)
       (ap (λ (r : List ℕ). length (drop (length r) (take d.stream.offset d.buf))) l.start ∙ length-take-le d.stream.offset d.buf (inside d f))
 
-  level-sending : (d : Desk) → Fine d → Level size total d → d.full ≡ true → Level size total (sending d (Counts.Bytes d.stream.offset) (at d.stream 0) d.buf [])
+  level-sending : (d : Desk) → Fine d → Level size total d → d.full ≡ true → Level size total (sending d (Ok d.stream.offset) (at d.stream 0) d.buf [])
   level-sending d f l e =
       let k : pick (counts d) (suc d.drains) d.drains ≡ suc d.drains = ap (λ (t : Bool). pick t (suc d.drains) d.drains) (count d e) in
       let m = sends d f l in

@@ -8,6 +8,7 @@ use mathlib.Core.List.{List, [], ◌∷◌, ◌++◌}
 use borrow.Author.Tests.{le-ltb}
 use lib.ListN.{length, take, drop_of_length-le}
 use lib.Seq.{length-take-le}
+use Rattle.std.specs.Prelude.{Ok}
 use Rattle.ostream.specs.declared.Answer.TheVariants.{Done}
 use Rattle.ostream.specs.declared.Written.{Written}
 use Rattle.ostream.specs.Stream.{every, opened}
@@ -22,7 +23,7 @@ use Rattle.writes.proofs.Exact.{Level}
 use Rattle.writes.proofs.Written.{make_sound, steady, outputs-written}
 
 -- `OStream::new` is an opening at 0 that is taken over every buffer.
-pub opening_new : (size : ℕ) → opening size 0 false ≡ record { answer = Done; stream = opened 0 }
+pub opening_new : (size : ℕ) → opening size 0 false ≡ record { answer = Ok Done; stream = opened 0 }
 unfolding opening
 opening_new size = simp (le-ltb size 0 (omega arith))
 

@@ -16,10 +16,10 @@ use Rattle.types.specs.Types.{number_of}
 use Rattle.putting.specs.Put.{put}
 use Rattle.putting.proofs.Writes.{put_is, take-over, length-put}
 use Rattle.ostream.specs.declared.OStream.{OStream}
-use Rattle.ostream.specs.declared.Count.TheVariants as Counts
+use Rattle.std.specs.Prelude.{Ok}
 use Rattle.ostream.specs.declared.Counted.{Counted}
 use Rattle.ostream.specs.Stream.{at}
-use Rattle.ostream.specs.Emission.{Judgement, accepted, refused_with, judged, Call, Result, through, full, number, untouched, emitted_by, emitted, written_by, written}
+use Rattle.ostream.specs.Emission.{Judgement, accepted, refused_with, judged, Call, Outcome, through, full, number, untouched, emitted_by, emitted, written_by, written}
 use Rattle.ostream.specs.Calls.{unsound}
 use Rattle.ostream.specs.Buffer.{bad_buffer, counted_by, draining, changing}
 use Rattle.ostream.proofs.Calls.{is_sound}
@@ -298,14 +298,14 @@ unfolding writing
 by_write P d op rest f e done part none =
     go (judgement op d.stream) refl (leb (length (op.output d.stream) - d.place) (length d.buf - d.stream.offset)) refl
   where
-    next : Result → Desk
+    next : Outcome → Desk
     next r = wrote d rest r.said r.stream r.buf
 
     go : (v : Judgement) → judgement op d.stream ≡ v → (t : Bool) → leb (length (op.output d.stream) - d.place) (length d.buf - d.stream.offset) ≡ t
         → P (next (written (call_of op d.stream (length d.buf)) d.stream d.buf d.place))
-    go accepted a true t = subst (λ (r : Result). P (next r)) (sym (all_goes d op rest f e a (leb-true _ _ t))) (done a (leb-true _ _ t))
-    go accepted a false t = subst (λ (r : Result). P (next r)) (sym (part_goes d op rest f e a (leb-false _ _ t))) (part a (leb-false _ _ t))
-    go (refused_with x) a t u = subst (λ (r : Result). P (next r)) (sym (none_goes d op rest f e x a)) (none x a)
+    go accepted a true t = subst (λ (r : Outcome). P (next r)) (sym (all_goes d op rest f e a (leb-true _ _ t))) (done a (leb-true _ _ t))
+    go accepted a false t = subst (λ (r : Outcome). P (next r)) (sym (part_goes d op rest f e a (leb-false _ _ t))) (part a (leb-false _ _ t))
+    go (refused_with x) a t u = subst (λ (r : Outcome). P (next r)) (sym (none_goes d op rest f e x a)) (none x a)
 
 kept_writing : (d : Desk) (ops : List Op) (f : Fine d) → d.ops ≡ ops → Kept d (writing d ops)
 unfolding writing
@@ -319,7 +319,7 @@ same_place : (place : ℕ) (s : OStream) (p : ℕ) (ops : List Op) → All Stead
 same_place place s p [] h q = q
 same_place place s p (op ∷ ops) h q = subst (λ (l : List ℕ). place ≤ length l) (sym (output-at op h.0 s p)) q
 
-kept_sending : (d : Desk) (b : List ℕ) (o : ℕ) → Fine d → o ≤ length b → Kept d (sending d (Counts.Bytes d.stream.offset) (at d.stream o) b (take o b))
+kept_sending : (d : Desk) (b : List ℕ) (o : ℕ) → Fine d → o ≤ length b → Kept d (sending d (Ok d.stream.offset) (at d.stream o) b (take o b))
 unfolding whole whole_refused last_state
 kept_sending d b o f h =
     let n : length (take o b) ≡ o = length-take-le o b h in
@@ -349,7 +349,7 @@ kept_beside d numbers f = record { fine = record { sound = f.sound; reserved = f
 
 -- a change, by its answer
 pub by_change : (P : Desk → Type 0) (d : Desk) (b : List ℕ) (o : ℕ) (drained : Bool) → Fine d
-    → (o ≤ length b → P (sending d (Counts.Bytes d.stream.offset) (at d.stream o) b (take o b)))
+    → (o ≤ length b → P (sending d (Ok d.stream.offset) (at d.stream o) b (take o b)))
     → P (beside d d.stream d.buf (5 ∷ []))
     → P (act (change b o drained) d)
 unfolding act
@@ -360,7 +360,7 @@ by_change P d b o drained f goes stays = go (bad_buffer (length b) o drained).fa
     go true t = subst (λ (r : Counted). P (sending d r.answer r.stream b (take o b))) (sym (change_refused d.stream (length d.buf) (length b) o drained t)) stays
     go false t = subst (λ (r : Counted). P (sending d r.answer r.stream b (take o b))) (sym (change_taken d.stream (length d.buf) (length b) o drained t f.sound.0)) (goes (fit (length b) o drained t))
 
-pub drained_desk : (d : Desk) → Fine d → act drain d ≡ sending d (Counts.Bytes d.stream.offset) (at d.stream 0) d.buf []
+pub drained_desk : (d : Desk) → Fine d → act drain d ≡ sending d (Ok d.stream.offset) (at d.stream 0) d.buf []
 unfolding act
 drained_desk d f = ap (λ (r : Counted). sending d r.answer r.stream d.buf []) (drained_is d.stream (length d.buf) f.sound.0)
 
@@ -402,7 +402,7 @@ unfolding act Allowed
 by_aside P d op place h p =
     let c : Call = call_of op d.stream (length d.buf) in
     let u = unaltered c d.stream d.buf place h in
-    let r : Result = written c d.stream d.buf place in
+    let r : Outcome = written c d.stream d.buf place in
     let ns : List ℕ = numbers_in r.said in
     subst (λ (s : OStream). P (beside d s r.buf ns)) (sym u.0) (subst (λ (b : List ℕ). P (beside d d.stream b ns)) (sym u.1) (p ns))
 

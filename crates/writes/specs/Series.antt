@@ -1,13 +1,12 @@
 -- A series of writes as its caller makes it: opened over a buffer, each call carried on from its place through every "full", a refused
 -- one passed over, over any buffers, with drains, buffer changes and refused calls anywhere. The caller stores what each call returns.
-use Rattle.std.specs.Prelude.{ℕ, zero, suc, ◌≤◌, ◌<◌, ◌≡◌, Bool, true, false, ◌&&◌, ◌||◌, List, [], ◌∷◌, ◌++◌, ltb, length, take, drop}
+use Rattle.std.specs.Prelude.{ℕ, zero, suc, ◌≤◌, ◌<◌, ◌≡◌, Bool, true, false, ◌&&◌, ◌||◌, List, [], ◌∷◌, ◌++◌, ltb, length, take, drop, Result, Ok, Err}
 use Rattle.layout.specs.Limits.{pick}
 use Rattle.types.specs.Types.{number_of}
 use Rattle.ostream.specs.declared.OStream.{OStream}
 use Rattle.ostream.specs.declared.Answer.{Answer}
-use Rattle.ostream.specs.declared.Answer.TheVariants.{Done, Full, Refused}
-use Rattle.ostream.specs.declared.Count.{Count}
-use Rattle.ostream.specs.declared.Count.TheVariants as Counts
+use Rattle.ostream.specs.declared.Answer.TheVariants.{Done, Full}
+use Rattle.types.specs.declared.Error.{Error}
 use Rattle.ostream.specs.Stream.{at, sound_stream, lazy_depth}
 use Rattle.ostream.specs.Emission as calls
 use Rattle.ostream.specs.Emission.{Test, Judgement, accepted, refused_with, judged, Call, through, full, number, said_of, written}
@@ -90,9 +89,9 @@ numbers_in through = []
 numbers_in (full p) = []
 numbers_in (number n) = n ∷ []
 
-abbrev pub numbers_of : Count → List ℕ
-numbers_of (Counts.Bytes n) = []
-numbers_of (Counts.Refused e) = number_of e ∷ []
+abbrev pub numbers_of : Result ℕ Error → List ℕ
+numbers_of (Ok n) = []
+numbers_of (Err e) = number_of e ∷ []
 
 -- a call with another buffer than the one lent
 pub data Other : Type 0 where
@@ -157,8 +156,8 @@ abbrev pub counts : Desk → Bool
 counts d = d.full || (none d.ops && ltb 0 d.stream.offset)
 
 -- As many bytes of the buffer as were answered are sent, and another is lent with some of its bytes reserved.
-abbrev pub sending : Desk → Count → OStream → List ℕ → List ℕ → Desk
-sending d (Counts.Bytes n) s b reserved =
+abbrev pub sending : Desk → Result ℕ Error → OStream → List ℕ → List ℕ → Desk
+sending d (Ok n) s b reserved =
     record {
       stream = s;
       buf = b;
@@ -172,7 +171,7 @@ sending d (Counts.Bytes n) s b reserved =
       refused = d.refused;
       others = d.others;
     }
-sending d (Counts.Refused e) s b reserved = beside d s d.buf (number_of e ∷ [])
+sending d (Err e) s b reserved = beside d s d.buf (number_of e ∷ [])
 
 -- ---- the acts
 
@@ -240,10 +239,10 @@ Stays (other x) = Unit {0}
 -- ---- from the opening to the end
 
 -- the bytes that an opening reserves: none where it is refused, which leaves a writer at 0
-abbrev pub reserved_by : Answer → List ℕ → ℕ → List ℕ
-reserved_by Done b o = take o b
-reserved_by (Full p) b o = []
-reserved_by (Refused e) b o = []
+abbrev pub reserved_by : Result Answer Error → List ℕ → ℕ → List ℕ
+reserved_by (Ok Done) b o = take o b
+reserved_by (Ok (Full p)) b o = []
+reserved_by (Err e) b o = []
 
 -- a writer that has sent nothing yet
 abbrev pub fresh : OStream → List ℕ → List ℕ → List Op → List ℕ → Desk

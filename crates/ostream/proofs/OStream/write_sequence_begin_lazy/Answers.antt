@@ -3,6 +3,7 @@ use mathlib.Core.Path.{refl, sym, ap, ◌∙◌}
 use native.Mathlib.Omega.{arith}
 use borrow.Author.Tests.{lt-ltb, le-ltb, lt-leb}
 use lib.ListN.{length}
+use Rattle.std.specs.Prelude.{Ok}
 use Rattle.ostream.specs.declared.OStream.{OStream}
 use Rattle.ostream.specs.declared.Answer.TheVariants.{Done}
 use Rattle.ostream.specs.Stream.{lazy_depth, holding}
@@ -26,4 +27,4 @@ returns-then-can_hold c =
     (simp (h.sound, lt-leb _ _ h.shallow, le-ltb _ _ h.legal))
     i
     refl
-    (ap (λ (x : OStream). record { answer = Done; stream = x }) c.hold.ensures ∙ sym (simp (le-ltb 0 c.args.place (omega arith))))
+    (ap (λ (x : OStream). record { answer = Ok Done; stream = x }) c.hold.ensures ∙ sym (simp (le-ltb 0 c.args.place (omega arith))))

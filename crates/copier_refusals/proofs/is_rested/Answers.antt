@@ -2,7 +2,7 @@
 use Prim.Native.Nat.{ℕ, ◌+◌}
 use mathlib.Core.Path.{◌≡◌, ap, ◌∙◌}
 use lib.ListN.{length, get_or}
-use Rattle.copier_refusals.proofs.Rested.{beyond_buffer, too_deep_lem, all_rested}
+use Rattle.copier_refusals.proofs.Rested.{all_rested}
 use borrow.Author.Rules.{rules}
 use Rattle.copier_refusals.proofs.is_rested.Goals as goal
 

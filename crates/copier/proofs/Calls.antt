@@ -6,8 +6,9 @@ use Prim.Native.Nat.{ℕ, ◌+◌, ◌-◌, ◌<◌, ◌≤◌}
 use native.Mathlib.Omega.{arith}
 use lib.ListN.{length, drop, length-drop}
 use borrow.Author.Tests.{leb-true, le-leb, eqb-true}
+use Rattle.std.specs.Prelude.{Ok}
 use Rattle.layout.specs.Limits.{base}
-use Rattle.machine.specs.Calls.{State, reading, owing, broke, fresh}
+use Rattle.machine.specs.Calls.{State, reading, owing, broke}
 use Rattle.types.specs.Types.{number_of, refusal}
 use Rattle.types.specs.declared.Error.{Error}
 use Rattle.refusals.specs.Judged.{Judgement, accepted, refused_with}
@@ -15,16 +16,13 @@ use Rattle.istream.specs.declared.IStream.{IStream}
 use Rattle.phase.specs.declared.Phase as code
 use Rattle.phase.specs.declared.Phase.TheVariants as phases
 use Rattle.phase.specs.Phases.{state_at}
-use Rattle.istream.specs.Stream.{state_of, stream_in, sound_stream}
+use Rattle.istream.specs.Stream.{state_of, sound_stream}
 use Rattle.phase.proofs.Phases.{Live}
 use Rattle.istream.proofs.Calls.{stream_back}
 use Rattle.phase.proofs.Phases.{both}
 use Rattle.putting.specs.Put.{put, reached}
 use Rattle.putting.proofs.Writes.{length-put, reached_le}
-use Rattle.ostream.specs.declared.Counted.{Counted}
-use Rattle.ostream.specs.declared.Written.{Written}
 use Rattle.ostream.specs.Stream as writer
-use Rattle.ostream.specs.Buffer.{opening, draining, changing}
 use Rattle.copying.specs.Owed as copying
 use Rattle.copying.specs.Owed.{nothing, owes, rest, further, depth_by, depth_once, agrees}
 use Rattle.copying.specs.Copy.{full, settled, filled, copy}
@@ -39,12 +37,11 @@ use Rattle.owed.specs.declared.Owed.TheVariants as owed
 use Rattle.output.specs.declared.Output.{Output}
 use Rattle.owed.specs.Owed.{owed_of, owed_in, place_in, output_of, level_of, legal_of, place_is_in}
 use Rattle.output.specs.Output.{output_bytes}
-use Rattle.owed.proofs.Laws.{owed_back, spelled, sound-parts}
+use Rattle.owed.proofs.Laws.{owed_back, spelled, sound_parts}
 use Rattle.copier.specs.declared.Copier.{Copier}
-use Rattle.copier.specs.declared.Opening.{Opening}
 use Rattle.copier.specs.declared.Copied as results
 use Rattle.copier.specs.Copier.{copy_of, sound_reader, sound_writer}
-use Rattle.copier.specs.Calls.{Said, Result, result_of, result_in, untouched, copied, Opens, opens_of, opens_in, started_by, started, sends_of, Sent, drained, changed}
+use Rattle.copier.specs.Calls.{Said, Outcome, result_of, result_in, untouched, copied}
 use Rattle.copier.specs.Feeding.{refused, finished, result_with, Ready}
 use Rattle.copier_refusals.specs.Checked.{judged_by}
 use Rattle.copier_refusals.proofs.Tests.{sound-whole}
@@ -88,7 +85,7 @@ level_once r w owed.End place e = let h : r + 1 ≡ w = eqb-true (r + 1) w e in 
 
 ready_depth : (k : Copier) (size : ℕ) → Live (state_of k.reader) → sound_writer k size ≡ true → depth_once k.writer.depth (owed_of k.owed k.place) ≡ k.reader.carried.depth
 ready_depth k size l e =
-    level_once k.reader.carried.depth k.writer.depth k.owed k.place (both (level_of k.reader.carried.depth k.writer.depth k.owed) (legal_of k.owed && place_is_in k.owed k.place) (sym (sound-parts k.reader.carried.depth k.writer.depth k.owed k.place) ∙ ready_agrees k size l e)).0
+    level_once k.reader.carried.depth k.writer.depth k.owed k.place (both (level_of k.reader.carried.depth k.writer.depth k.owed) (legal_of k.owed && place_is_in k.owed k.place) (sym (sound_parts k.reader.carried.depth k.writer.depth k.owed k.place) ∙ ready_agrees k size l e)).0
 
 -- ---- what is owed goes out
 
@@ -127,7 +124,7 @@ module _ (k : Copier) (c b : List ℕ) (end len : ℕ) (b' : List ℕ) (x : Outp
   puts = ap (put b k.writer.offset) still ∙ sym p.1
 
   pub carry_full : Live (state_of k.reader) → length b - k.writer.offset + k.place < len
-      → Stops (copy base (copy_of k) c b) (record { used = 0; answer = Full; reader = k.reader; depth = k.writer.depth; pos = end; owed = k.owed; place = k.place + (end - k.writer.offset) }) b'
+      → Stops (copy base (copy_of k) c b) (record { used = 0; answer = Ok Full; reader = k.reader; depth = k.writer.depth; pos = end; owed = k.owed; place = k.place + (end - k.writer.offset) }) b'
   carry_full lv h =
       let f : length b - k.writer.offset < length (rest (owed_of k.owed k.place)) = omega (arith, long) in
       let q = copy_full base (copy_of k) c b f ∙ ap (λ (n : ℕ). record { used = 0; answer = full; copy = filled (copy_of k) n; buf = put b k.writer.offset (rest (owed_of k.owed k.place)) }) ends ∙ ap (λ (y : List ℕ). record { used = 0; answer = full; copy = filled (copy_of k) end; buf = y }) puts in
@@ -174,7 +171,7 @@ reader_sound s h = go s.phase refl
 
 module _ (k : Copier) (c b : List ℕ) (h : k.reader.carried.depth ≤ base.depth) where
   -- the result by what the tests come to
-  abbrev result_by : Judgement → Result
+  abbrev result_by : Judgement → Outcome
   result_by accepted = result_in k (copy base (copy_of k) c b)
   result_by (refused_with e) = untouched (number_of e) k b
 
@@ -206,24 +203,3 @@ unfolding sound_writer
 feed_ready k size p =
     let q = all_pass (sound_stream base k.reader) (sound_writer k size) (is_broke (state_of k.reader)) p in
     (q.0, (live_if (state_of k.reader) q.2, q.1))
-
--- ---- the other calls
-
-pub started_is : (size offset : ℕ) (a : Opening) (w : Written) (s : IStream) → w ≡ opening size offset true → opens_of a ≡ opens_in w.answer → s ≡ stream_in fresh
-    → started_by (record { answer = a; copier = record { reader = s; writer = w.stream; owed = owed.Nothing; place = 0 } }) ≡ started size offset
-unfolding started
-started_is size offset a w s e o i =
-    ap (λ (x : Opens). record { opens = x; copier = record { reader = s; writer = w.stream; owed = owed.Nothing; place = 0 } }) o
-    ∙ ap (λ (y : IStream). record { opens = opens_in w.answer; copier = record { reader = y; writer = w.stream; owed = owed.Nothing; place = 0 } }) i
-    ∙ ap (λ (y : Written). record { opens = opens_in y.answer; copier = record { reader = stream_in fresh; writer = y.stream; owed = owed.Nothing; place = 0 } }) e
-
-abbrev with : Copier → Counted → Sent
-with k r = record { sends = sends_of r.answer; copier = record { reader = k.reader; writer = r.stream; owed = k.owed; place = k.place } }
-
-pub drained_is : (k : Copier) (size : ℕ) (r : Counted) → r ≡ draining k.writer size → with k r ≡ drained k size
-unfolding drained
-drained_is k size r e = ap (with k) e
-
-pub changed_is : (k : Copier) (old new offset : ℕ) (r : Counted) → r ≡ changing k.writer old new offset true → with k r ≡ changed k old new offset
-unfolding changed
-changed_is k old new offset r e = ap (with k) e

@@ -1,14 +1,12 @@
 -- The copier's calls: what each says, in 01's words and numbers, and the state and the buffer that it leaves.
-use Rattle.std.specs.Prelude.{ℕ, true, List, length}
+use Rattle.std.specs.Prelude.{ℕ, true, List, length, Result, Ok, Err, ⊤}
 use Rattle.layout.specs.Limits.{base}
+use Rattle.types.specs.declared.Error.{Error}
 use Rattle.types.specs.Types.{number_of}
 use Rattle.machine.specs.Calls.{fresh}
 use Rattle.istream.specs.Stream.{state_of, stream_in}
 use Rattle.ostream.specs.declared.OStream.{OStream}
 use Rattle.ostream.specs.declared.Answer as written
-use Rattle.ostream.specs.declared.Answer.TheVariants as writes
-use Rattle.ostream.specs.declared.Count.{Count}
-use Rattle.ostream.specs.declared.Count.TheVariants as counts
 use Rattle.ostream.specs.Buffer.{opening, draining, changing}
 use Rattle.copying.specs.Copy as copying
 use Rattle.copying.specs.Copy.{copy}
@@ -17,8 +15,6 @@ pub use Rattle.turns.specs.Said.{Said, full, verdict, said_of, said_in}
 use Rattle.copier.specs.declared.Copier.{Copier}
 use Rattle.copier.specs.declared.Copied.{Copied}
 use Rattle.owed.specs.declared.Owed.TheVariants.{Nothing}
-use Rattle.copier.specs.declared.Opening.{Opening}
-use Rattle.copier.specs.declared.Opening.TheVariants as openings
 use Rattle.copier.specs.declared.Opened.{Opened}
 use Rattle.copier.specs.declared.Drained.{Drained}
 use Rattle.copier.specs.Copier.{copy_of, copier_in, sound_reader, sound_writer}
@@ -26,25 +22,25 @@ use Rattle.copier.specs.Copier.{copy_of, copier_in, sound_reader, sound_writer}
 -- ---- feeding
 
 -- What a call uses of the chunk, says and leaves.
-pub record Result : Type 0 where
+pub record Outcome : Type 0 where
   pub used : ℕ
   pub said : Said
   pub copier : Copier
   pub buf : List ℕ
 
 -- the code's result and the buffer as the call leaves it, as such a record
-abbrev pub result_of : Copied → List ℕ → Result
+abbrev pub result_of : Copied → List ℕ → Outcome
 result_of r b = record { used = r.used; said = said_of r.answer; copier = r.copier; buf = b }
 
 -- "on 1 and 6 nothing is read", and nothing alters
-abbrev pub untouched : ℕ → Copier → List ℕ → Result
+abbrev pub untouched : ℕ → Copier → List ℕ → Outcome
 untouched n k b = record { used = 0; said = Said.number n; copier = k; buf = b }
 
-abbrev pub result_in : Copier → copying.Copied → Result
+abbrev pub result_in : Copier → copying.Copied → Outcome
 result_in k r = record { used = r.used; said = said_in r.answer; copier = copier_in k.writer r.copy; buf = r.buf }
 
 -- The refusals in their order, and else the call. "Each later call, an empty chunk too, gives 2 with nothing read."
-unfoldable pub copied : Copier → List ℕ → List ℕ → Result
+unfoldable pub copied : Copier → List ℕ → List ℕ → Outcome
 copied k c b = refusing (sound_reader k.reader) (sound_writer k (length b)) (is_broke (state_of k.reader)) (λ n. untouched n k b) (result_in k (copy base (copy_of k) c b))
 
 -- ---- opening, draining, changing the buffer: a drained writer's, and its refusals alone
@@ -54,14 +50,13 @@ pub data Opens : Type 0 where
   taken : Opens
   number : ℕ → Opens
 
-abbrev pub opens_of : Opening → Opens
-opens_of openings.Open = taken
-opens_of (openings.Refused e) = number (number_of e)
+abbrev pub opens_of : Result ⊤ Error → Opens
+opens_of (Ok x) = taken
+opens_of (Err e) = number (number_of e)
 
-abbrev pub opens_in : written.Answer → Opens
-opens_in writes.Done = taken
-opens_in (writes.Full place) = taken
-opens_in (writes.Refused e) = number (number_of e)
+abbrev pub opens_in : Result written.Answer Error → Opens
+opens_in (Ok a) = taken
+opens_in (Err e) = number (number_of e)
 
 pub record Started : Type 0 where
   pub opens : Opens
@@ -83,9 +78,9 @@ pub data Sends : Type 0 where
   bytes : ℕ → Sends
   number : ℕ → Sends
 
-abbrev pub sends_of : Count → Sends
-sends_of (counts.Bytes n) = bytes n
-sends_of (counts.Refused e) = number (number_of e)
+abbrev pub sends_of : Result ℕ Error → Sends
+sends_of (Ok n) = bytes n
+sends_of (Err e) = number (number_of e)
 
 pub record Sent : Type 0 where
   pub sends : Sends

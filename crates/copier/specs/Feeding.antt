@@ -1,27 +1,26 @@
 -- What the parts of a feed come to: cited by private functions alone. `feed` has its equation in `Calls`.
-use Rattle.std.specs.Prelude.{ℕ, ◌≡◌, true}
+use Rattle.std.specs.Prelude.{ℕ, ◌≡◌, true, Err}
 use Rattle.layout.specs.Limits.{base}
 use Rattle.types.specs.declared.Error.{Error}
 use Rattle.phase.proofs.Phases.{Live}
 use Rattle.istream.specs.Stream.{state_of, sound_stream}
 use Rattle.ostream.specs.declared.OStream.{OStream}
-use Rattle.turns.specs.declared.Answer.TheVariants.{Refused}
 use Rattle.turns.specs.declared.Stop.{Stop}
 use Rattle.turns.specs.Turns.{Ended}
 use Rattle.copier.specs.declared.Copier.{Copier}
 use Rattle.copier.specs.declared.Copied.{Copied}
 use Rattle.copier.specs.Copier.{moved, sound_writer}
-use Rattle.copier.specs.Calls.{Result}
+use Rattle.copier.specs.Calls.{Outcome}
 
 abbrev pub refused : Error → Copier → Copied
-refused e k = record { used = 0; answer = Refused e; copier = k }
+refused e k = record { used = 0; answer = Err e; copier = k }
 
 -- what a stop leaves, with the writer's places
 abbrev pub finished : OStream → Stop → Copied
 finished w s = record { used = s.used; answer = s.answer; copier = record { reader = s.reader; writer = moved w s.pos s.depth; owed = s.owed; place = s.place } }
 
 -- what the definition's call comes to, with the writer's places
-abbrev pub result_with : OStream → Ended → Result
+abbrev pub result_with : OStream → Ended → Outcome
 result_with w r = record { used = r.used; said = r.said; copier = record { reader = r.reader; writer = moved w r.pos r.depth; owed = r.owed; place = r.place }; buf = r.buf }
 
 -- a copier that is sound for a buffer of this size, and whose reader goes on

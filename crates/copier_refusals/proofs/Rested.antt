@@ -50,19 +50,13 @@ some_used l h = go (Zeros l) refl
     go true e = absurd (h (omega (arith, zero_at l 0 e, zero_at l 1 e, zero_at l 2 e, zero_at l 3 e, zero_at l 4 e, zero_at l 5 e, zero_at l 6 e, zero_at l 7 e)))
     go false e = refl
 
--- the tests of a writer that holds none, one after another
+-- the test of a writer that holds none, at a sound offset and depth
 module _ (offset depth : ℕ) (l : List ℕ) (size : ℕ) where
-  pub beyond_buffer : size < offset → false ≡ sound_for offset depth 0 l size
-  beyond_buffer h = simp (lt-leb offset size h)
-
-  pub too_deep_lem : offset ≤ size → base.depth < depth → false ≡ sound_for offset depth 0 l size
-  too_deep_lem a h = simp (le-leb offset size a, le-leb 0 depth (omega arith), lt-leb depth base.depth h)
-
   pub rested : (t : Bool) → offset ≤ size → depth ≤ base.depth → Zeros l ≡ t → sound_for offset depth 0 l size ≡ t
   unfolding every
   rested t a d e = simp (le-leb offset size a, le-leb 0 depth (omega arith), le-leb depth base.depth d) e
 
-  -- the last one: the sum of all places
+  -- by the sum of all places
   pub all_rested : (x : ℕ) → length l ≡ lazy_depth → offset ≤ size → depth ≤ base.depth → x ≡ sum_of l → eqb x 0 ≡ sound_for offset depth 0 l size
   all_rested x n a d e = go (eqb x 0) refl
     where

@@ -26,40 +26,7 @@ use Rattle.places.specs.Places.{sound_for}
 use Rattle.ostream.specs.Stream.{sound_stream}
 use Rattle.copier_refusals.specs.Checked.{copy_by, fits_writer}
 
--- ---- the reader's phase
-
-pub not_broke : (s : IStream) → OneOf (0 ∷ 1 ∷ 2 ∷ 3 ∷ 4 ∷ 5 ∷ 6 ∷ 7 ∷ 8 ∷ 9 ∷ 10 ∷ []) (tag_of readers.the_type s.phase) → false ≡ is_broke (state_of s)
-not_broke s h = go s.phase h
-  where
-    go : (p : code.Phase) → OneOf (0 ∷ 1 ∷ 2 ∷ 3 ∷ 4 ∷ 5 ∷ 6 ∷ 7 ∷ 8 ∷ 9 ∷ 10 ∷ []) (tag_of readers.the_type p) → false ≡ is_broke (state_at s.carried.depth p)
-    go (phases.Header a) h = refl
-    go (phases.Unsigned id left a) h = refl
-    go (phases.Signed id left a) h = refl
-    go (phases.Word id a) h = refl
-    go (phases.UnsignedCount id a) h = refl
-    go (phases.SignedCount id a) h = refl
-    go (phases.FloatCount id a) h = refl
-    go (phases.ArrayWord id count a) h = refl
-    go (phases.Float id w left k v) h = refl
-    go (phases.Payload id r total o) h = refl
-    go (phases.Empty id r) h = refl
-    go phases.Broken h = absurd (miss (0 ∷ 1 ∷ 2 ∷ 3 ∷ 4 ∷ 5 ∷ 6 ∷ 7 ∷ 8 ∷ 9 ∷ 10 ∷ []) 11 tt h)
-
 -- ---- what is owed
-
-pub some_owed : (o : Owed) → OneOf (1 ∷ 2 ∷ 3 ∷ 4 ∷ 5 ∷ 6 ∷ 7 ∷ 8 ∷ 9 ∷ 10 ∷ 11 ∷ []) (tag_of owing-types.the_type o) → false ≡ owes_nothing (owed_of o 0)
-some_owed owes.Nothing h = absurd (miss (1 ∷ 2 ∷ 3 ∷ 4 ∷ 5 ∷ 6 ∷ 7 ∷ 8 ∷ 9 ∷ 10 ∷ 11 ∷ []) 0 tt h)
-some_owed (owes.Unsigned id n) h = refl
-some_owed (owes.Signed id z) h = refl
-some_owed (owes.Element n) h = refl
-some_owed (owes.SignedElement z) h = refl
-some_owed (owes.Fp32 bits) h = refl
-some_owed (owes.Fp64 bits) h = refl
-some_owed (owes.Float id w) h = refl
-some_owed (owes.Payload id r total) h = refl
-some_owed (owes.Array id k n) h = refl
-some_owed (owes.Begin id) h = refl
-some_owed owes.End h = refl
 
 nothing_any : (o : Owed) (place : ℕ) → owes_nothing (owed_of o place) ≡ owes_nothing (owed_of o 0)
 nothing_any owes.Nothing place = refl

@@ -8,11 +8,9 @@ ghost use Rattle.copying.specs.Refusals.{is_broke};
 ghost use Rattle.istream.specs.Stream.{state_of};
 ghost use Rattle.places.specs.Places.{sound_for};
 ghost use Rattle.owed.specs.Owed.{owed_of};
-ghost use Rattle.refusals.specs.Judged.{refused_with};
 ghost use Rattle.checks.specs.Check.{check_of};
 ghost use Rattle.copier_refusals.specs.Checked.{fits_writer, judged_by};
 
-use checks::Check;
 use istream::IStream;
 use ostream::OStream;
 use owed::Owed;
@@ -22,20 +20,13 @@ use types::{Error, LAZY_SEQ_DEPTH, MAX_DEPTH};
 fn is_broken(reader: IStream) -> bool
     ensures { result ≡ is_broke (state_of reader) }
 {
-    let phase = reader.phase;
-    if let Phase::Broken = phase {
-        return true;
-    }
-    false
+    matches!(reader.phase, Phase::Broken)
 }
 
 fn is_nothing(owed: Owed) -> bool
     ensures { result ≡ owes_nothing (owed_of owed 0) }
 {
-    if let Owed::Nothing = owed {
-        return true;
-    }
-    false
+    matches!(owed, Owed::Nothing)
 }
 
 fn sum(a: u32, b: u32, c: u32, d: u32) -> u64
@@ -61,14 +52,14 @@ fn is_rested(offset: usize, depth: u16, places: [u32; LAZY_SEQ_DEPTH], size: usi
 }
 
 // Whether the writer is sound for a buffer of this size, and the copier's own conditions hold.
+#[tactic(auto, using(crate::proofs::Tests::id_held, crate::proofs::Tests::unrested, crate::proofs::Tests::rested_broke, crate::proofs::Tests::rested_whole))]
 fn sound_writer(reader: IStream, writer: OStream, owed: Owed, place: u8, size: usize) -> bool
     ensures { result ≡ fits_writer reader writer owed place size }
 {
     if writer.npending != 0 {
         return false;
     }
-    let places = writer.pending;
-    if !is_rested(writer.offset, writer.depth, places, size) {
+    if !is_rested(writer.offset, writer.depth, writer.pending, size) {
         return false;
     }
     if is_broken(reader) {
@@ -77,27 +68,25 @@ fn sound_writer(reader: IStream, writer: OStream, owed: Owed, place: u8, size: u
     owed.sound(place, reader.carried.depth, writer.depth)
 }
 
-fn failed(error: Error) -> Check
-    ensures { result ≡ check_of (refused_with error) }
-{
-    Check { ok: false, error }
-}
-
 // The refusals of a feed: the reader, the writer with the copier's own conditions, a broken message.
-pub fn check_copier(reader: IStream, writer: OStream, owed: Owed, place: u8, size: usize) -> Check
+#[tactic(auto, unfolding(copying::specs::Refusals::refusing))]
+pub fn check_copier(
+    reader: IStream,
+    writer: OStream,
+    owed: Owed,
+    place: u8,
+    size: usize,
+) -> Result<(), Error>
     ensures { result ≡ check_of (judged_by reader writer owed place size) }
 {
     if !reader.sound() {
-        return failed(Error::UnsoundReader);
+        return Err(Error::UnsoundReader);
     }
     if !sound_writer(reader, writer, owed, place, size) {
-        return failed(Error::UnsoundWriter);
+        return Err(Error::UnsoundWriter);
     }
     if is_broken(reader) {
-        return failed(Error::InvalidMsg);
+        return Err(Error::InvalidMsg);
     }
-    Check {
-        ok: true,
-        error: Error::PlaceBeyond,
-    }
+    Ok(())
 }

@@ -33,7 +33,7 @@ use Rattle.copying_laws.proofs.Bound.{wants_bound}
 use Rattle.copying_laws.proofs.Sound.{sound_plain, copy-sound}
 use Rattle.copier.specs.declared.Copier.{Copier}
 use Rattle.copier.specs.Copier.{copy_of, copier_in}
-use Rattle.copier.specs.Calls.{Said, full, verdict, Result, untouched, said_in, copied, fresh_over, bytes, Sent, over, changed}
+use Rattle.copier.specs.Calls.{Said, full, verdict, Outcome, untouched, said_in, copied, fresh_over, bytes, Sent, over, changed}
 use Rattle.copier.specs.Calls as calls
 use Rattle.copies.specs.Desk.{told, Desk, Stray, Act, feed, drain, change, stray, ended, filled, fed, feeding, none, counts, holding, sending, act, acts, MayStand, Allowed}
 use Rattle.copies.specs.Stands.{out, whole, Stands}
@@ -268,10 +268,10 @@ module _ (reserved : List ℕ) (cs : List (List ℕ)) (d : Desk) (c : List ℕ) 
   by_feed P two on = go (state_of k.reader) refl
     where
       reads : Live (state_of k.reader) → (state_of k.reader ≡ broke → ⊥) → P (fed d c later (copied k c b).said (copied k c b))
-      reads l n = subst (λ (x : Result). P (fed d c later x.said x)) (sym (on_live k c b f.sound l)) (on r.answer n called.final)
+      reads l n = subst (λ (x : Outcome). P (fed d c later x.said x)) (sym (on_live k c b f.sound l)) (on r.answer n called.final)
 
       go : (st : State) → state_of k.reader ≡ st → P (fed d c later (copied k c b).said (copied k c b))
-      go broke h = subst (λ (x : Result). P (fed d c later x.said x)) (sym (on_broken k c b f.sound h)) (two h)
+      go broke h = subst (λ (x : Outcome). P (fed d c later x.said x)) (sym (on_broken k c b f.sound h)) (two h)
       go (reading dep p) h = reads (subst Live (sym h) tt) (λ x. let z : reading dep p ≡ broke = sym h ∙ x in let w : ◌≡◌ {A = ℕ} 0 1 = cc in omega arith)
       go (owing dep id w) h = reads (subst Live (sym h) tt) (λ x. let z : owing dep id w ≡ broke = sym h ∙ x in let v : ◌≡◌ {A = ℕ} 0 1 = cc in omega arith)
 
@@ -349,7 +349,7 @@ unfolding act feeding
 less reserved cs d c later f e more = subst (λ (l : List (List ℕ)). Less reserved cs d c later f e more (feeding d l)) (sym e) (feed_less reserved cs d c later f e more)
 
 -- a feed sends nothing, and counts no drain
-fed_sends : (d : Desk) (c : List ℕ) (cs : List (List ℕ)) (a : Said) (r : Result) → ((fed d c cs a r).sent ≡ d.sent) × ((fed d c cs a r).drains ≡ d.drains)
+fed_sends : (d : Desk) (c : List ℕ) (cs : List (List ℕ)) (a : Said) (r : Outcome) → ((fed d c cs a r).sent ≡ d.sent) × ((fed d c cs a r).drains ≡ d.drains)
 fed_sends d c cs full r = (refl, refl)
 fed_sends d c cs (verdict v) r = (refl, refl)
 fed_sends d c cs (calls.Said.number n) r = (refl, refl)

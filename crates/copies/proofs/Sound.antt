@@ -41,7 +41,7 @@ use Rattle.copying_laws.proofs.Reader.{copy_reader}
 use Rattle.reading.proofs.Feeds.{call-sound}
 use Rattle.copier.specs.declared.Copier.{Copier}
 use Rattle.copier.specs.Copier.{owed_of, owed_in, place_in, copy_of, moved, copier_in, sound_reader, sound_writer, sound_copier}
-use Rattle.copier.specs.Calls.{Said, full, verdict, Result, untouched, said_in, result_in, copied, Opens, taken, Started, opens_in, fresh_over, started, Sends, bytes, sends_of, Sent, over, drained, changed}
+use Rattle.copier.specs.Calls.{Said, full, verdict, Outcome, untouched, said_in, result_in, copied, Opens, taken, Started, opens_in, fresh_over, started, Sends, bytes, sends_of, Sent, over, drained, changed}
 use Rattle.copier.specs.Calls as calls
 use Rattle.copies.specs.Desk.{said_number, sends_number, Stray, feeds, drains, changes, opens, handed_back, refused_with}
 use Rattle.copies.proofs.Owed.{owed_back}
@@ -142,7 +142,7 @@ on_live k c b s l = none-refused _ _ _ (λ n. untouched n k b) _ s.tested s.test
     go broke l = absurd l
 
 -- Every feed hands back a sound copier, and a buffer of the same length.
-abbrev Stays : ℕ → Result → Type 0
+abbrev Stays : ℕ → Outcome → Type 0
 Stays size r = Sound r.copier size × (length r.buf ≡ size)
 
 live_stays : (k : Copier) (c b : List ℕ) → Bytes c → Sound k (length b) → Live (state_of k.reader) → Stays (length b) (copied k c b)
@@ -237,7 +237,7 @@ on_unfit : (k : Copier) (c b : List ℕ) → sound_reader k.reader ≡ true → 
 unfolding copied
 on_unfit k c b e f = unsound_writer_lem _ _ _ (λ n. untouched n k b) _ e f
 
-by_tests : (k : Copier) (c b : List ℕ) (P : Result → Type 0) → P (untouched 1 k b) → P (untouched 6 k b) → P (untouched 2 k b)
+by_tests : (k : Copier) (c b : List ℕ) (P : Outcome → Type 0) → P (untouched 1 k b) → P (untouched 6 k b) → P (untouched 2 k b)
     → (Sound k (length b) → P (result_in k (copy base (copy_of k) c b))) → P (copied k c b)
 by_tests k c b P one six two live = go (sound_reader k.reader) refl (sound_writer k (length b)) refl
   where
@@ -253,7 +253,7 @@ by_tests k c b P one six two live = go (sound_reader k.reader) refl (sound_write
         by_state (reading d p) q s = subst P (sym (on_live k c b s (subst Live (sym q) tt))) (live s)
         by_state (owing d id r) q s = subst P (sym (on_live k c b s (subst Live (sym q) tt))) (live s)
 
-abbrev Refuses : Copier → List ℕ → Result → Type 0
+abbrev Refuses : Copier → List ℕ → Outcome → Type 0
 Refuses k b r = (n : ℕ) → r.said ≡ calls.Said.number n → ((n ≡ 1) ⊎ ((n ≡ 6) ⊎ (n ≡ 2))) × ((n ≡ 1) ⊎ (n ≡ 6) → r ≡ untouched n k b)
 
 same_number : {m n : ℕ} → calls.Said.number m ≡ calls.Said.number n → m ≡ n

@@ -4,7 +4,7 @@ use Rattle.std.specs.Prelude.{ℕ, ◌+◌, ◌≡◌, ◌⊎◌, Bool, true, fa
 use Rattle.layout.specs.Limits.{pick}
 use Rattle.machine.specs.Run.{Heard, status, refused, nothing}
 use Rattle.copier.specs.declared.Copier.{Copier}
-use Rattle.copier.specs.Calls.{Said, full, verdict, Result, copied, Opens, taken, started, Sends, bytes, drained, changed}
+use Rattle.copier.specs.Calls.{Said, full, verdict, Outcome, copied, Opens, taken, started, Sends, bytes, drained, changed}
 use Rattle.copier.specs.Calls as calls
 
 -- ---- the desk
@@ -51,7 +51,7 @@ pub data Act : Type 0 where
   stray : Stray → Act
 
 -- "After "full" come a drain and the chunk's rest, even an empty one, until a verdict." A refusal ends the chunk too.
-abbrev pub ended : Desk → List (List ℕ) → Result → Desk
+abbrev pub ended : Desk → List (List ℕ) → Outcome → Desk
 ended d cs r =
     record {
       copier = r.copier;
@@ -64,7 +64,7 @@ ended d cs r =
       drains = d.drains;
     }
 
-abbrev pub filled : Desk → List ℕ → List (List ℕ) → Result → Desk
+abbrev pub filled : Desk → List ℕ → List (List ℕ) → Outcome → Desk
 filled d c cs r =
     record {
       copier = r.copier;
@@ -77,7 +77,7 @@ filled d c cs r =
       drains = d.drains;
     }
 
-abbrev pub fed : Desk → List ℕ → List (List ℕ) → Said → Result → Desk
+abbrev pub fed : Desk → List ℕ → List (List ℕ) → Said → Outcome → Desk
 fed d c cs full r = filled d c cs r
 fed d c cs (verdict v) r = ended d cs r
 fed d c cs (calls.Said.number n) r = ended d cs r

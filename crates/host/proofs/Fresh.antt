@@ -27,7 +27,7 @@ use Rattle.copier.specs.declared.Copied as results
 use Rattle.copying.specs.Owed.{agrees, sound_owed}
 use Rattle.copying.specs.Refusals.{sound_with, refusing}
 use Rattle.copier.specs.Copier.{copy_of, sound_writer}
-use Rattle.copier.specs.Calls.{full, verdict, Result, said_of, said_in, result_in, fresh_over, started}
+use Rattle.copier.specs.Calls.{full, verdict, Outcome, said_of, said_in, result_in, fresh_over, started}
 use Rattle.copier.specs.Calls as calls
 use Rattle.turns.specs.contracts.Answer.{the_type}
 use Rattle.exports.specs.Exports.{result_of, filled}
@@ -42,7 +42,7 @@ start_copier size = go (leb size 0) refl
     go true e = ap (λ (r : Written). fresh_over r.stream) (open_refused size 0 true e)
     go false e = ap (λ (r : Written). fresh_over r.stream) (open_taken size 0 true (fits size 0 true (leb-false size 0 e)))
 
-record Fed (m b : List ℕ) (r : Result) : Type 0 where
+record Fed (m b : List ℕ) (r : Outcome) : Type 0 where
   fits : length m ≤ length b → (r.said ≡ verdict complete) × (r.copier.writer.offset ≡ length m) × (r.buf ≡ m ++ drop (length m) b)
   short : length b < length m → (r.said ≡ full) × (r.buf ≡ take (length b) m)
 

@@ -1,13 +1,11 @@
 -- What is owed is the same event of the layout's however it is held, and its bytes are those that are written.
 use Prim.Native.Nat.{ℕ, zero, suc, ◌+◌}
-use mathlib.Core.Path.{◌≡◌, refl, sym, ap, ◌∙◌}
+use mathlib.Core.Path.{◌≡◌, refl, sym, ap}
 use mathlib.Core.Bool.{Bool, true, false, ◌&&◌}
-use mathlib.Core.List.{[], ◌∷◌}
+use mathlib.Core.List.{[]}
 use native.Mathlib.Omega.{arith}
-use lib.ListN.{length, drop}
-use lib.Dec.{leb, ltb, eqb}
-use types.Run.{OneOf, miss}
-use denote.Enum.Declared.{tag_of}
+use lib.ListN.{drop}
+use lib.Dec.{leb, eqb}
 use Rattle.layout.specs.Limits.{base}
 use Rattle.layout.specs.Field.{fp32, fp64, string, blob, unsigneds, signeds, floats, bytes_of, float, raw}
 use Rattle.layout.specs.Event as layout
@@ -15,14 +13,12 @@ use Rattle.laws.specs.Events.{event_bytes}
 use Rattle.types.specs.declared.FloatType.TheVariants as Floats
 use Rattle.types.specs.declared.RawType.TheVariants as Raws
 use Rattle.types.specs.declared.ArrayKind.TheVariants as Kinds
-use Rattle.copying.specs.Owed as copying
 use Rattle.copying.specs.Owed.{rest, level, legal, agrees}
 use Rattle.output.specs.Output.{output_bytes}
 use Rattle.output.proofs.Laws.{drop-none}
 use Rattle.owed.specs.declared.Owed.{Owed}
 use Rattle.owed.specs.declared.Owed.TheVariants.{Nothing, Unsigned, Signed, Element, SignedElement, Fp32, Fp64, Float, Payload, Array, Begin, End}
 use Rattle.owed.specs.Owed.{owed_of, owe, owed_in, output_of, level_of, legal_of, place_is_in}
-use Rattle.owed.specs.contracts.Owed.{the_type}
 
 -- ---- there and back
 
@@ -100,78 +96,26 @@ spelled_event due layout.End h = refl
 
 -- ---- sound
 
-pub level_else : (r w : ℕ) (o : Owed) → OneOf (0 ∷ 1 ∷ 2 ∷ 3 ∷ 4 ∷ 5 ∷ 6 ∷ 7 ∷ 8 ∷ 9 ∷ []) (tag_of the_type o) → eqb r w ≡ level_of r w o
-level_else r w Nothing h = refl
-level_else r w (Unsigned id n) h = refl
-level_else r w (Signed id z) h = refl
-level_else r w (Element n) h = refl
-level_else r w (SignedElement z) h = refl
-level_else r w (Fp32 bits) h = refl
-level_else r w (Fp64 bits) h = refl
-level_else r w (Float id f) h = refl
-level_else r w (Payload id t total) h = refl
-level_else r w (Array id k n) h = refl
-level_else r w (Begin id) h = absurd (miss (0 ∷ 1 ∷ 2 ∷ 3 ∷ 4 ∷ 5 ∷ 6 ∷ 7 ∷ 8 ∷ 9 ∷ []) 10 tt h)
-level_else r w End h = absurd (miss (0 ∷ 1 ∷ 2 ∷ 3 ∷ 4 ∷ 5 ∷ 6 ∷ 7 ∷ 8 ∷ 9 ∷ []) 11 tt h)
-
-pub legal_else : (o : Owed) → OneOf (0 ∷ 3 ∷ 4 ∷ 5 ∷ 6 ∷ 11 ∷ []) (tag_of the_type o) → true ≡ legal_of o
-legal_else Nothing h = refl
-legal_else (Unsigned id n) h = absurd (miss (0 ∷ 3 ∷ 4 ∷ 5 ∷ 6 ∷ 11 ∷ []) 1 tt h)
-legal_else (Signed id z) h = absurd (miss (0 ∷ 3 ∷ 4 ∷ 5 ∷ 6 ∷ 11 ∷ []) 2 tt h)
-legal_else (Element n) h = refl
-legal_else (SignedElement z) h = refl
-legal_else (Fp32 bits) h = refl
-legal_else (Fp64 bits) h = refl
-legal_else (Float id f) h = absurd (miss (0 ∷ 3 ∷ 4 ∷ 5 ∷ 6 ∷ 11 ∷ []) 7 tt h)
-legal_else (Payload id t total) h = absurd (miss (0 ∷ 3 ∷ 4 ∷ 5 ∷ 6 ∷ 11 ∷ []) 8 tt h)
-legal_else (Array id k n) h = absurd (miss (0 ∷ 3 ∷ 4 ∷ 5 ∷ 6 ∷ 11 ∷ []) 9 tt h)
-legal_else (Begin id) h = absurd (miss (0 ∷ 3 ∷ 4 ∷ 5 ∷ 6 ∷ 11 ∷ []) 10 tt h)
-legal_else End h = refl
-
-pub place_else : (o : Owed) (place : ℕ) → OneOf (1 ∷ 2 ∷ 3 ∷ 4 ∷ 5 ∷ 6 ∷ 7 ∷ 8 ∷ 9 ∷ 10 ∷ 11 ∷ []) (tag_of the_type o) → ltb place (length (output_bytes (output_of o))) ≡ place_is_in o place
-place_else Nothing place h = absurd (miss (1 ∷ 2 ∷ 3 ∷ 4 ∷ 5 ∷ 6 ∷ 7 ∷ 8 ∷ 9 ∷ 10 ∷ 11 ∷ []) 0 tt h)
-place_else (Unsigned id n) place h = refl
-place_else (Signed id z) place h = refl
-place_else (Element n) place h = refl
-place_else (SignedElement z) place h = refl
-place_else (Fp32 bits) place h = refl
-place_else (Fp64 bits) place h = refl
-place_else (Float id f) place h = refl
-place_else (Payload id t total) place h = refl
-place_else (Array id k n) place h = refl
-place_else (Begin id) place h = refl
-place_else End place h = refl
-
 and_true : (x : Bool) → (x && true) ≡ x
 and_true true = refl
 and_true false = refl
 
 -- the three tests, one after another
-pub sound-parts : (r w : ℕ) (o : Owed) (place : ℕ) → agrees base r w (owed_of o place) ≡ (level_of r w o && (legal_of o && place_is_in o place))
+pub sound_parts : (r w : ℕ) (o : Owed) (place : ℕ) → agrees base r w (owed_of o place) ≡ (level_of r w o && (legal_of o && place_is_in o place))
 unfolding agrees level legal event_bytes
-sound-parts r w Nothing place = sym (and_true (eqb r w))
-sound-parts r w (Unsigned id n) place = refl
-sound-parts r w (Signed id z) place = refl
-sound-parts r w (Element n) place = refl
-sound-parts r w (SignedElement z) place = refl
-sound-parts r w (Fp32 bits) place = refl
-sound-parts r w (Fp64 bits) place = refl
-sound-parts r w (Float id Floats.Fp32) place = ap (λ (x : Bool). eqb r w && (x && place_is_in (Float id Floats.Fp32) place)) (and_true (leb id base.id))
-sound-parts r w (Float id Floats.Fp64) place = ap (λ (x : Bool). eqb r w && (x && place_is_in (Float id Floats.Fp64) place)) (and_true (leb id base.id))
-sound-parts r w (Payload id t total) place = refl
-sound-parts r w (Array id Kinds.Unsigned n) place = refl
-sound-parts r w (Array id Kinds.Signed n) place = refl
-sound-parts r w (Array id Kinds.Fp32 n) place = refl
-sound-parts r w (Array id Kinds.Fp64 n) place = refl
-sound-parts r w (Begin id) place = let e : suc w ≡ w + 1 = omega arith in ap (λ (x : ℕ). eqb r x && (leb id base.id && place_is_in (Begin id) place)) e
-sound-parts r w End place = let e : suc r ≡ r + 1 = omega arith in ap (λ (x : ℕ). eqb x w && place_is_in End place) e
-
-module _ (r w : ℕ) (o : Owed) (place : ℕ) where
-  pub not_level : level_of r w o ≡ false → false ≡ agrees base r w (owed_of o place)
-  not_level e = sym (sound-parts r w o place ∙ simp e)
-
-  pub not_legal : level_of r w o ≡ true → legal_of o ≡ false → false ≡ agrees base r w (owed_of o place)
-  not_legal e f = sym (sound-parts r w o place ∙ simp (e, f))
-
-  pub level_and_legal : level_of r w o ≡ true → legal_of o ≡ true → agrees base r w (owed_of o place) ≡ place_is_in o place
-  level_and_legal e f = sound-parts r w o place ∙ simp (e, f)
+sound_parts r w Nothing place = sym (and_true (eqb r w))
+sound_parts r w (Unsigned id n) place = refl
+sound_parts r w (Signed id z) place = refl
+sound_parts r w (Element n) place = refl
+sound_parts r w (SignedElement z) place = refl
+sound_parts r w (Fp32 bits) place = refl
+sound_parts r w (Fp64 bits) place = refl
+sound_parts r w (Float id Floats.Fp32) place = ap (λ (x : Bool). eqb r w && (x && place_is_in (Float id Floats.Fp32) place)) (and_true (leb id base.id))
+sound_parts r w (Float id Floats.Fp64) place = ap (λ (x : Bool). eqb r w && (x && place_is_in (Float id Floats.Fp64) place)) (and_true (leb id base.id))
+sound_parts r w (Payload id t total) place = refl
+sound_parts r w (Array id Kinds.Unsigned n) place = refl
+sound_parts r w (Array id Kinds.Signed n) place = refl
+sound_parts r w (Array id Kinds.Fp32 n) place = refl
+sound_parts r w (Array id Kinds.Fp64 n) place = refl
+sound_parts r w (Begin id) place = let e : suc w ≡ w + 1 = omega arith in ap (λ (x : ℕ). eqb r x && (leb id base.id && place_is_in (Begin id) place)) e
+sound_parts r w End place = let e : suc r ≡ r + 1 = omega arith in ap (λ (x : ℕ). eqb x w && place_is_in End place) e

@@ -2,8 +2,10 @@
 #![tactic(auto)]
 
 ghost use Rattle.std.specs.Prelude.{◌≡◌, ◌&&◌, leb, ◌+◌, ◌*◌};
+ghost use Rattle.layout.specs.Field.{bytes_of, float, subtype_number};
 ghost use Rattle.layout.specs.Limits.{base};
 ghost use Rattle.copying.specs.Owed.{agrees};
+ghost use Rattle.types.specs.Types.{width};
 ghost use Rattle.owed.specs.Owed.{owed_of, array_output, output_of, level_of, legal_of, place_is_in};
 
 use output::Output;
@@ -40,6 +42,13 @@ fn tagged(n: u32, tag: u8) -> u64
     (n as u64) * 8 + (tag as u64)
 }
 
+// A float's fixed-length word.
+fn word(w: FloatType) -> u64
+    ensures { result ≡ bytes_of (width w) * 8 + subtype_number (float (width w)) }
+{
+    tagged(w.bytes() as u32, w.fixlen().raw())
+}
+
 // An array's announcement; a float array's has a word.
 fn array_output(id: u32, kind: ArrayKind, count: u32) -> Output
     ensures { result ≡ array_output id kind count }
@@ -48,8 +57,8 @@ fn array_output(id: u32, kind: ArrayKind, count: u32) -> Output
     match kind {
         ArrayKind::Unsigned => Output::Two(tagged(id, T_VARINTARRAY_UNSIGNED), n),
         ArrayKind::Signed => Output::Two(tagged(id, T_VARINTARRAY_SIGNED), n),
-        ArrayKind::Fp32 => Output::Three(tagged(id, T_FIXLENARRAY), n, 32),
-        ArrayKind::Fp64 => Output::Three(tagged(id, T_FIXLENARRAY), n, 65),
+        ArrayKind::Fp32 => Output::Three(tagged(id, T_FIXLENARRAY), n, word(FloatType::Fp32)),
+        ArrayKind::Fp64 => Output::Three(tagged(id, T_FIXLENARRAY), n, word(FloatType::Fp64)),
     }
 }
 
@@ -57,10 +66,7 @@ fn array_output(id: u32, kind: ArrayKind, count: u32) -> Output
 fn within(id: u32, n: u32, most: u32) -> bool
     ensures { result ≡ (leb id base.id && leb n most) }
 {
-    if ID_MAX < id {
-        return false;
-    }
-    n <= most
+    id <= ID_MAX && n <= most
 }
 
 impl Owed {
@@ -76,10 +82,7 @@ impl Owed {
             Owed::SignedElement(v) => Output::One(zigzag_encode(v)),
             Owed::Fp32(bits) => Output::Four(bits),
             Owed::Fp64(bits) => Output::Eight(bits),
-            Owed::Float(id, w) => {
-                let word = tagged(w.bytes() as u32, w.fixlen().raw());
-                Output::Two(tagged(id, T_FIXLEN), word)
-            }
+            Owed::Float(id, w) => Output::Two(tagged(id, T_FIXLEN), word(w)),
             Owed::Payload(id, r, total) => {
                 Output::Two(tagged(id, T_FIXLEN), tagged(total, r.fixlen().raw()))
             }
@@ -107,12 +110,11 @@ impl Owed {
         ensures { result ≡ legal_of self }
     {
         match self {
-            Owed::Unsigned(id, _) => id <= ID_MAX,
-            Owed::Signed(id, _) => id <= ID_MAX,
-            Owed::Float(id, _) => id <= ID_MAX,
+            Owed::Unsigned(id, _) | Owed::Signed(id, _) | Owed::Float(id, _) | Owed::Begin(id) => {
+                id <= ID_MAX
+            }
             Owed::Payload(id, _, total) => within(id, total, FIXLEN_MAX),
             Owed::Array(id, _, count) => within(id, count, ARRAY_MAX),
-            Owed::Begin(id) => id <= ID_MAX,
             _ => true,
         }
     }
@@ -121,22 +123,14 @@ impl Owed {
     fn has_place(self, place: u8) -> bool
         ensures { result ≡ place_is_in self place }
     {
-        if let Owed::Nothing = self {
-            return true;
-        }
-        (place as usize) < self.output().len()
+        matches!(self, Owed::Nothing) || (place as usize) < self.output().len()
     }
 
     // Whether it can be owed with its output out to the place, by a reader and a writer at these depths.
+    #[tactic(auto, using(crate::proofs::Laws::sound_parts))]
     pub fn sound(self, place: u8, reader: u8, writer: u16) -> bool
         ensures { result ≡ agrees base reader writer (owed_of self place) }
     {
-        if !self.level(reader, writer) {
-            return false;
-        }
-        if !self.legal() {
-            return false;
-        }
-        self.has_place(place)
+        self.level(reader, writer) && self.legal() && self.has_place(place)
     }
 }

@@ -8,8 +8,6 @@ use native.Mathlib.Omega.{arith}
 use lib.Dec.{ltb, leb, eqb}
 use lib.ListN.{get_or}
 use borrow.Author.Tests.{eqb-true}
-use types.Run.{OneOf, miss}
-use denote.Enum.Declared.{tag_of}
 use Rattle.layout.specs.Limits.{Limits, base, pick}
 use Rattle.layout.specs.Varint.{Push, more, value, overrun, push}
 use Rattle.layout.specs.Field.{Wire, Raw, Subtyped, bytes_of, subtype_of, wire_of, known, unknown, float, raw}
@@ -20,13 +18,13 @@ use Rattle.machine.specs.Machine.{Stepped, on, bad, at_wire, at_header, at_paylo
 use Rattle.machine.specs.Calls.{State, reading, owing, broke, Said, event, verdict, invalid, Called, pace_of, byte, raised_state, scanned, scan, call}
 use Rattle.machine.specs.Run.{spot_of}
 use Rattle.machine.proofs.Calls.{FairSpot}
+use Rattle.types.specs.declared.RawType.{RawType}
 use Rattle.istream.specs.declared.IStream.{IStream}
 use Rattle.phase.specs.declared.Phase as code
 use Rattle.phase.specs.declared.Phase.TheVariants as phases
 use Rattle.phase.specs.Phases.{state_at}
 use Rattle.istream.specs.Stream.{state_of, stream_in, sound_stream}
 use Rattle.phase.specs.Sound.{SoundState, AtBytes, Kept}
-use Rattle.phase.specs.contracts.Phase.{the_type}
 use Rattle.phase.proofs.Keeps.{step_keeps}
 use Rattle.phase.proofs.Phases.{Live}
 use Rattle.phase.proofs.Scans.{scan_byte, scan_end}
@@ -147,12 +145,14 @@ call-level broke c h a = absurd a
 
 -- ---- the code's states
 
--- a reader that is not within a payload
+-- not within a payload
+abbrev NoPayload : code.Phase → Type 0
+NoPayload p = (id : ℕ) (r : RawType) (total o : ℕ) → p ≡ phases.Payload id r total o → ⊥
 
-pub steady : (s : IStream) → sound_stream base s ≡ true → Live (state_of s) → OneOf (0 ∷ 1 ∷ 2 ∷ 3 ∷ 4 ∷ 5 ∷ 6 ∷ 7 ∷ 8 ∷ 10 ∷ 11 ∷ []) (tag_of the_type s.phase) → Steady (state_of s)
+pub steady : (s : IStream) → sound_stream base s ≡ true → Live (state_of s) → NoPayload s.phase → Steady (state_of s)
 steady s t l h = go s.carried.depth s.phase (is_sound base s t) l h
   where
-    go : (d : ℕ) (p : code.Phase) → SoundState base (state_at d p) → Live (state_at d p) → OneOf (0 ∷ 1 ∷ 2 ∷ 3 ∷ 4 ∷ 5 ∷ 6 ∷ 7 ∷ 8 ∷ 10 ∷ 11 ∷ []) (tag_of the_type p) → Steady (state_at d p)
+    go : (d : ℕ) (p : code.Phase) → SoundState base (state_at d p) → Live (state_at d p) → NoPayload p → Steady (state_at d p)
     go d (phases.Header a) (n, s) l h = (n, (s, refl))
     go d (phases.Unsigned id left a) (n, s) l h = (n, (s, refl))
     go d (phases.Signed id left a) (n, s) l h = (n, (s, refl))
@@ -162,7 +162,7 @@ steady s t l h = go s.carried.depth s.phase (is_sound base s t) l h
     go d (phases.FloatCount id a) (n, s) l h = (n, (s, refl))
     go d (phases.ArrayWord id count a) (n, s) l h = (n, (s, refl))
     go d (phases.Float id w left k v) (n, s) l h = (n, (s, refl))
-    go d (phases.Payload id r total o) s l h = absurd (miss (0 ∷ 1 ∷ 2 ∷ 3 ∷ 4 ∷ 5 ∷ 6 ∷ 7 ∷ 8 ∷ 10 ∷ 11 ∷ []) 9 tt h)
+    go d (phases.Payload id r total o) s l h = absurd (h id r total o refl)
     go d (phases.Empty id r) s l h = tt
     go d phases.Broken s l h = absurd l
 

@@ -1,5 +1,5 @@
 -- What the loop's code goes by. Events: the reader's events. Turns: a turn that is an event, or a block as it came. Pieces: a turn within a
--- payload. Loop: turns one after another. Tests: what single functions answer.
+-- payload. Loop: what holds between turns. Tests: what single functions answer.
 pub mod Events
 pub mod Turns
 pub mod Pieces

@@ -9,6 +9,7 @@ use lib.Dec.{ltb}
 use lib.ListN.{length, take, drop, length-take, length-drop}
 use lib.Seq.{take-take}
 use borrow.Author.Tests.{ltb-true, ltb-false, lt-ltb, le-ltb}
+use Rattle.std.specs.Prelude.{Ok}
 use Rattle.layout.specs.Limits.{base, pick}
 use Rattle.layout.specs.Event.{Piece}
 use Rattle.layout.specs.Message.{incomplete}
@@ -60,7 +61,7 @@ module _ (d id : ℕ) (r : RawType) (total o pos : ℕ) (b : List ℕ) (h : pos 
   stands = reading d (in_payload id (raw_sort r) total o)
 
   -- "an empty chunk"
-  no_bytes : o < total → Turned at pos [] b (turns.Stop (pause d 0 (Status Incomplete) at pos)) b
+  no_bytes : o < total → Turned at pos [] b (turns.Stop (pause d 0 (Ok (Status Incomplete)) at pos)) b
   unfolding stuck heard call scan verdict_after ending
   no_bytes f =
       let k = standing at pos in
@@ -69,7 +70,7 @@ module _ (d id : ℕ) (r : RawType) (total o pos : ℕ) (b : List ℕ) (h : pos 
       let q = subst (λ (x : List ℕ). copy base k [] b ≡ heard k [] b (call base stands x) (λ e. copy base (gone k (call base stands x).state (owes (due_in stands) e 0)) (drop (call base stands x).read []) b)) i (copy-turn base k [] b f refl refl) in
       (ap ended_in q ∙ ap (λ (x : IStream). record { used = 0; said = Said.verdict incomplete; reader = x; depth = d; pos = pos; owed = Nothing; place = 0; buf = b }) (stream_back d (phases.Payload id r total o) tt), omega arith, refl)
 
-  no_room : (x : ℕ) (xs : List ℕ) → length b - pos ≡ 0 → Turned at pos (x ∷ xs) b (turns.Stop (pause d 0 Full at pos)) b
+  no_room : (x : ℕ) (xs : List ℕ) → length b - pos ≡ 0 → Turned at pos (x ∷ xs) b (turns.Stop (pause d 0 (Ok Full) at pos)) b
   unfolding stuck
   no_room x xs z =
       let e : stuck stands (length b - pos) (x ∷ xs) ≡ true = ap (λ (m : ℕ). stuck stands m (x ∷ xs)) z in
@@ -137,15 +138,15 @@ pub past_end : (id : ℕ) (r : RawType) (total o n : ℕ) (p : code.Phase) → p
 past_end id r total o n p e h = e ∙ sym (ap (λ (t : Bool). phase_in (pick t (in_payload id (raw_sort r) total (o + n)) idle)) (le-ltb (o + n) total h))
 
 -- an empty chunk, and a full buffer
-piece-none : (s : IStream) (id : ℕ) (r : RawType) (total o pos : ℕ) (b : List ℕ) → pos ≤ length b → InPayload s id r total o → Turned s pos [] b (turns.Stop (pause s.carried.depth 0 (Status Incomplete) s pos)) b
+piece-none : (s : IStream) (id : ℕ) (r : RawType) (total o pos : ℕ) (b : List ℕ) → pos ≤ length b → InPayload s id r total o → Turned s pos [] b (turns.Stop (pause s.carried.depth 0 (Ok (Status Incomplete)) s pos)) b
 piece-none s id r total o pos b h (t, u) =
     let i = is_payload s id r total o u in
     let st = subst (λ (x : IStream). SoundState base (state_of x)) i (is_sound base s t) in
-    subst (λ (x : IStream). Turned x pos [] b (turns.Stop (pause s.carried.depth 0 (Status Incomplete) x pos)) b) (sym i) (no_bytes s.carried.depth id r total o pos b h st.1.1.1)
+    subst (λ (x : IStream). Turned x pos [] b (turns.Stop (pause s.carried.depth 0 (Ok (Status Incomplete)) x pos)) b) (sym i) (no_bytes s.carried.depth id r total o pos b h st.1.1.1)
 
-piece_full : (s : IStream) (id : ℕ) (r : RawType) (total o pos x : ℕ) (xs b : List ℕ) → pos ≤ length b → InPayload s id r total o → length b - pos ≡ 0 → Turned s pos (x ∷ xs) b (turns.Stop (pause s.carried.depth 0 Full s pos)) b
+piece_full : (s : IStream) (id : ℕ) (r : RawType) (total o pos x : ℕ) (xs b : List ℕ) → pos ≤ length b → InPayload s id r total o → length b - pos ≡ 0 → Turned s pos (x ∷ xs) b (turns.Stop (pause s.carried.depth 0 (Ok Full) s pos)) b
 piece_full s id r total o pos x xs b h (t, u) z =
-    subst (λ (y : IStream). Turned y pos (x ∷ xs) b (turns.Stop (pause s.carried.depth 0 Full y pos)) b) (sym (is_payload s id r total o u)) (no_room s.carried.depth id r total o pos b h x xs z)
+    subst (λ (y : IStream). Turned y pos (x ∷ xs) b (turns.Stop (pause s.carried.depth 0 (Ok Full) y pos)) b) (sym (is_payload s id r total o u)) (no_room s.carried.depth id r total o pos b h x xs z)
 
 -- a payload's bytes are below its total, which has room in 32 bits
 pub piece_small : (s : IStream) (id : ℕ) (r : RawType) (total o : ℕ) → InPayload s id r total o → (o < total) × (total ≤ 2147483647)
@@ -177,10 +178,10 @@ piece_goes s id r total o pos (x ∷ xs) b h (t, u) k m w f i q g = go (length b
 
 -- no byte of the chunk is left, or no room: the call stops
 rests : (s : IStream) (id : ℕ) (r : RawType) (total o pos : ℕ) (c b : List ℕ) → pos ≤ length b → InPayload s id r total o → (0 < length c → length b - pos ≡ 0)
-    → Turned s pos c b (turns.Stop (pause s.carried.depth 0 (cut_off 0 (length c)) s pos)) b
+    → Turned s pos c b (turns.Stop (pause s.carried.depth 0 (Ok (cut_off 0 (length c))) s pos)) b
 rests s id r total o pos [] b h p f = piece-none s id r total o pos b h p
 rests s id r total o pos (x ∷ xs) b h p f =
-    subst (λ (t : Bool). Turned s pos (x ∷ xs) b (turns.Stop (pause s.carried.depth 0 (pick t Full (Status Incomplete)) s pos)) b) (sym (lt-ltb 0 (suc (length xs)) (omega arith)))
+    subst (λ (t : Bool). Turned s pos (x ∷ xs) b (turns.Stop (pause s.carried.depth 0 (Ok (pick t Full (Status Incomplete))) s pos)) b) (sym (lt-ltb 0 (suc (length xs)) (omega arith)))
     (piece_full s id r total o pos x xs b h p (f (omega arith)))
 
 -- a turn, and a stop at the next: one stop
@@ -262,7 +263,7 @@ module _ (s : IStream) (id : ℕ) (r : RawType) (total o pos : ℕ) (c b : List 
       onward = record { phase = phases.Payload id r total (o + n); carried = s.carried }
 
       abbrev Stopped : ℕ → Type 0
-      Stopped m = Turned s pos c b (turns.Stop (pause s.carried.depth m (cut_off n (length c)) onward end)) b'
+      Stopped m = Turned s pos c b (turns.Stop (pause s.carried.depth m (Ok (cut_off n (length c))) onward end)) b'
 
       -- with no byte out
       stays : n ≡ 0 → Stopped n
@@ -272,10 +273,10 @@ module _ (s : IStream) (id : ℕ) (r : RawType) (total o pos : ℕ) (c b : List 
           let u : end ≡ pos = g.0 ∙ reached_is b pos (take n c) ∙ none-at pos (length (take n c)) (length b - pos) y in
           let v : b' ≡ b = g.1 ∙ put-none b pos (take n c) y in
           let w = rests s id r total o pos c b h p (λ i. sym (no_more (length b - pos) (length c) k n (total - o) e f (beyond o n total l) (omega arith)) ∙ z) in
-          subst (λ (d : List ℕ). Turned s pos c b (turns.Stop (pause s.carried.depth n (cut_off n (length c)) onward end)) d) (sym v)
-          (subst (λ (m : ℕ). Turned s pos c b (turns.Stop (pause s.carried.depth n (cut_off n (length c)) onward m)) b) (sym u)
-          (subst (λ (m : ℕ). Turned s pos c b (turns.Stop (pause s.carried.depth m (cut_off m (length c)) onward pos)) b) (sym z)
-          (subst (λ (q : code.Phase). Turned s pos c b (turns.Stop (pause s.carried.depth 0 (cut_off 0 (length c)) (record { phase = q; carried = s.carried }) pos)) b) (p.1 ∙ ap (λ (m : ℕ). phases.Payload id r total m) x) w)))
+          subst (λ (d : List ℕ). Turned s pos c b (turns.Stop (pause s.carried.depth n (Ok (cut_off n (length c))) onward end)) d) (sym v)
+          (subst (λ (m : ℕ). Turned s pos c b (turns.Stop (pause s.carried.depth n (Ok (cut_off n (length c))) onward m)) b) (sym u)
+          (subst (λ (m : ℕ). Turned s pos c b (turns.Stop (pause s.carried.depth m (Ok (cut_off m (length c))) onward pos)) b) (sym z)
+          (subst (λ (q : code.Phase). Turned s pos c b (turns.Stop (pause s.carried.depth 0 (Ok (cut_off 0 (length c))) (record { phase = q; carried = s.carried }) pos)) b) (p.1 ∙ ap (λ (m : ℕ). phases.Payload id r total m) x) w)))
 
       -- and with some
       moves : 0 < n → Stopped n
@@ -285,10 +286,10 @@ module _ (s : IStream) (id : ℕ) (r : RawType) (total o pos : ℕ) (c b : List 
           ap (λ (m : ℕ). m - end) w.size
           ∙ spent_room (length b) pos end n (length (take n c)) (length c) h (no_more (length b - pos) (length c) k n (total - o) e f (beyond o n total l) u) (lt_le n (length c) u) (length-take n c) (g.0 ∙ reached_is b pos (take n c)) in
           let t = rests onward id r total (o + n) end (drop n c) b' (at_most (length b) (length b') end w.size w.within) (w.sound, refl) (λ u. full (more_left (length (drop n c)) (length c) n (length-drop n c) u)) in
-          let q = went_stops s pos c b onward n end b' (pause s.carried.depth 0 (cut_off 0 (length (drop n c))) onward end) b' w t in
+          let q = went_stops s pos c b onward n end b' (pause s.carried.depth 0 (Ok (cut_off 0 (length (drop n c)))) onward end) b' w t in
           let j : n + 0 ≡ n = omega arith in
           subst Stopped j
-          (subst (λ (x : Bool). Turned s pos c b (turns.Stop (pause s.carried.depth (n + 0) (pick x Full (Status Incomplete)) onward end)) b') (same_cut n (length c) (length (drop n c)) (length-drop n c)) q)
+          (subst (λ (x : Bool). Turned s pos c b (turns.Stop (pause s.carried.depth (n + 0) (Ok (pick x Full (Status Incomplete))) onward end)) b') (same_cut n (length c) (length (drop n c)) (length-drop n c)) q)
 
       pub piece_stops : Stopped n
       piece_stops = go n refl

@@ -9,6 +9,7 @@ use lib.Dec.{leb, eqb}
 use lib.ListN.{length, take, drop, length-take, take-append-drop}
 use lib.Seq.{take-take}
 use borrow.Author.Tests.{leb-true, leb-false}
+use Rattle.std.specs.Prelude.{Ok}
 use Rattle.layout.specs.Limits.{base, pick}
 use Rattle.layout.specs.Event.{Event}
 use Rattle.layout.specs.Message.{Verdict, complete, incomplete}
@@ -69,11 +70,11 @@ not_stuck broke room c a = absurd a
 
 -- ---- verdicts
 
-said-pick : (t : Bool) → Said.verdict (pick t complete incomplete) ≡ said_of (Status (status_in (pick t complete incomplete)))
+said-pick : (t : Bool) → Said.verdict (pick t complete incomplete) ≡ said_of (Ok (Status (status_in (pick t complete incomplete))))
 said-pick true = refl
 said-pick false = refl
 
-said_at : (d : ℕ) (p : Phase) → Said.verdict (verdict_at d p) ≡ said_of (Status (status_in (verdict_at d p)))
+said_at : (d : ℕ) (p : Phase) → Said.verdict (verdict_at d p) ≡ said_of (Ok (Status (status_in (verdict_at d p))))
 unfolding verdict_after ending
 said_at d (in_header zero v) = said-pick (eqb d 0)
 said_at d (in_header (suc k) v) = refl
@@ -87,8 +88,8 @@ said_at d (in_array_word id c k v) = refl
 said_at d (in_float id w left k v) = refl
 said_at d (in_payload id r total o) = refl
 
-said-judged : (st : State) (v : Verdict) → Judged st v → Said.verdict v ≡ said_of (Status (status_in v))
-said-judged (reading d p) v e = subst (λ (x : Verdict). Said.verdict x ≡ said_of (Status (status_in x))) (sym e) (said_at d p)
+said-judged : (st : State) (v : Verdict) → Judged st v → Said.verdict v ≡ said_of (Ok (Status (status_in v)))
+said-judged (reading d p) v e = subst (λ (x : Verdict). Said.verdict x ≡ said_of (Ok (Status (status_in x)))) (sym e) (said_at d p)
 said-judged (owing d id r) v e = absurd e
 said-judged broke v e = absurd e
 

@@ -1,8 +1,9 @@
 -- What a turn of the loop comes to, and the loop itself: cited by the copier's own code alone. `feed` has its equation in copier's `Calls`.
-use Rattle.std.specs.Prelude.{ℕ, ◌+◌, ◌-◌, ◌*◌, ◌<◌, ◌≤◌, ◌≡◌, true, List, [], leb, ltb, length, drop}
+use Rattle.std.specs.Prelude.{ℕ, ◌+◌, ◌-◌, ◌*◌, ◌<◌, ◌≤◌, ◌≡◌, true, List, [], leb, ltb, length, drop, Result, Ok, Err}
 use Rattle.layout.specs.Limits.{base, pick}
 use Rattle.machine.specs.Machine.{in_payload, idle}
 use Rattle.machine.proofs.Calls.{weight}
+use Rattle.types.specs.declared.Error.{Error}
 use Rattle.types.specs.declared.RawType.{RawType}
 use Rattle.types.specs.Types.{raw_sort}
 use Rattle.event.specs.Event.{event_of}
@@ -25,7 +26,7 @@ use Rattle.owed.specs.declared.Owed.TheVariants.{Nothing}
 use Rattle.owed.specs.Owed.{owe, owed_in, place_in, output_of}
 use Rattle.output.specs.Output.{output_bytes}
 use Rattle.turns.specs.declared.Answer.{Answer}
-use Rattle.turns.specs.declared.Answer.TheVariants.{Full, Status, Refused}
+use Rattle.turns.specs.declared.Answer.TheVariants.{Full, Status}
 use Rattle.turns.specs.declared.Stop.{Stop}
 use Rattle.turns.specs.declared.Turn.{Turn}
 use Rattle.turns.specs.declared.Turn.TheVariants as turns
@@ -73,7 +74,7 @@ abbrev pub later : ℕ → Stop → Stop
 later n s = record { used = n + s.used; answer = s.answer; reader = s.reader; depth = s.depth; pos = s.pos; owed = s.owed; place = s.place }
 
 -- a stop with nothing owed
-abbrev pub pause : ℕ → ℕ → Answer → IStream → ℕ → Stop
+abbrev pub pause : ℕ → ℕ → Result Answer Error → IStream → ℕ → Stop
 pause d used a s pos = record { used = used; answer = a; reader = s; depth = d; pos = pos; owed = Nothing; place = 0 }
 
 -- ---- an event
@@ -81,7 +82,7 @@ pause d used a s pos = record { used = used; answer = a; reader = s; depth = d; 
 abbrev pub full_stop : ℕ → Owed → ℕ → IStream → ℕ → List ℕ → Stop
 full_stop d o n s pos b =
     let end = reached b pos (output_bytes (output_of o)) in
-    record { used = n; answer = Full; reader = s; depth = d; pos = end; owed = o; place = end - pos }
+    record { used = n; answer = Ok Full; reader = s; depth = d; pos = end; owed = o; place = end - pos }
 
 abbrev pub event_turn : ℕ → Owed → ℕ → IStream → ℕ → List ℕ → Turn
 event_turn d o n s pos b =
@@ -91,15 +92,15 @@ abbrev pub event_buf : Owed → ℕ → List ℕ → List ℕ
 event_buf o pos b = put b pos (output_bytes (output_of o))
 
 -- by what the reader answers
-abbrev pub turn_by : ℕ → ℕ → heard.Answer → ℕ → IStream → ℕ → List ℕ → Turn
-turn_by d left (answers.Event e) n s pos b = event_turn d (owe left (event_of [] e)) n s pos b
-turn_by d left (answers.Status v) n s pos b = turns.Stop (pause d n (Status v) s pos)
-turn_by d left (answers.Refused e) n s pos b = turns.Stop (pause d n (Refused e) s pos)
+abbrev pub turn_by : ℕ → ℕ → Result heard.Answer Error → ℕ → IStream → ℕ → List ℕ → Turn
+turn_by d left (Ok (answers.Event e)) n s pos b = event_turn d (owe left (event_of [] e)) n s pos b
+turn_by d left (Ok (answers.Status v)) n s pos b = turns.Stop (pause d n (Ok (Status v)) s pos)
+turn_by d left (Err e) n s pos b = turns.Stop (pause d n (Err e) s pos)
 
-abbrev pub buf_by : ℕ → heard.Answer → ℕ → List ℕ → List ℕ
-buf_by left (answers.Event e) pos b = event_buf (owe left (event_of [] e)) pos b
-buf_by left (answers.Status v) pos b = b
-buf_by left (answers.Refused e) pos b = b
+abbrev pub buf_by : ℕ → Result heard.Answer Error → ℕ → List ℕ → List ℕ
+buf_by left (Ok (answers.Event e)) pos b = event_buf (owe left (event_of [] e)) pos b
+buf_by left (Ok (answers.Status v)) pos b = b
+buf_by left (Err e) pos b = b
 
 abbrev pub heard_turn : ℕ → ℕ → Fed → ℕ → List ℕ → Turn
 heard_turn d left f pos b = turn_by d left f.answer f.read f.stream pos b

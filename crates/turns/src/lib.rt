@@ -10,7 +10,7 @@ ghost use Rattle.phase.proofs.Phases.{Live};
 ghost use Rattle.turns.specs.Turns.{event_turn, event_buf, heard_turn, heard_buf, cut_off, pause, InPayload, Turned, Ran, later};
 
 use as_is::as_is;
-use emit::{least, put_rest};
+use emit::put_rest;
 use istream::{Fed, IStream, Status};
 use output::OUTPUT_MAX;
 use owed::Owed;
@@ -18,18 +18,18 @@ use owing::owe;
 use phase::{Phase, idle};
 use types::{Error, RawType};
 
+// What a call that isn't refused answers.
 #[derive(Clone, Copy)]
 pub enum Answer {
     Full,
     Status(Status),
-    Refused(Error),
 }
 
-// Where a call stops: the bytes used, what it answers, and the state, but for the writer's places.
+// Where a call stops: the bytes used, the answer or the refusal, and the state, but for the writer's places.
 #[derive(Clone, Copy)]
 pub struct Stop {
     pub used: usize,
-    pub answer: Answer,
+    pub answer: Result<Answer, Error>,
     pub reader: IStream,
     pub depth: u16,
     pub pos: usize,
@@ -46,14 +46,13 @@ enum Turn {
 }
 
 // How many elements of an array are due, the one under way included.
+#[tactic(auto, unfolding(copying::specs::Owed::due_in))]
 fn due(reader: IStream) -> u32
     ensures { result ≡ due_in (state_of reader) }
 {
-    let phase = reader.phase;
-    match phase {
-        Phase::Unsigned(_, left, _) => left,
-        Phase::Signed(_, left, _) => left,
-        Phase::Float(_, _, left, _, _) => left,
+    match reader.phase {
+        Phase::Unsigned(_, left, _) | Phase::Signed(_, left, _) | Phase::Float(_, _, left, _, _) =>
+            left,
         _ => 0,
     }
 }
@@ -74,7 +73,7 @@ fn written(depth: u8, owed: Owed, read: usize, reader: IStream, pos: usize, buf:
     if room < len {
         return Turn::Stop(Stop {
             used: read,
-            answer: Answer::Full,
+            answer: Ok(Answer::Full),
             reader,
             depth: depth as u16,
             pos: end,
@@ -86,7 +85,13 @@ fn written(depth: u8, owed: Owed, read: usize, reader: IStream, pos: usize, buf:
 }
 
 // The call stops with nothing owed.
-fn stopped(depth: u8, used: usize, answer: Answer, reader: IStream, pos: usize) -> Turn
+fn stopped(
+    depth: u8,
+    used: usize,
+    answer: Result<Answer, Error>,
+    reader: IStream,
+    pos: usize,
+) -> Turn
     ensures { result ≡ Turn.Stop (pause depth used answer reader pos) }
 {
     Turn::Stop(Stop {
@@ -106,12 +111,11 @@ fn heard(depth: u8, left: u32, fed: Fed, pos: usize, buf: &mut [u8]) -> Turn
     ensures { (result ≡ heard_turn depth left fed pos buf.old) × (buf.new ≡ heard_buf left fed pos buf.old) }
 {
     let read = fed.read;
-    let answer = fed.answer;
     let reader = fed.stream;
-    match answer {
-        istream::Answer::Event(e) => written(depth, owe(left, e), read, reader, pos, buf),
-        istream::Answer::Status(s) => stopped(depth, read, Answer::Status(s), reader, pos),
-        istream::Answer::Refused(e) => stopped(depth, read, Answer::Refused(e), reader, pos),
+    match fed.answer {
+        Ok(istream::Answer::Event(e)) => written(depth, owe(left, e), read, reader, pos, buf),
+        Ok(istream::Answer::Status(s)) => stopped(depth, read, Ok(Answer::Status(s)), reader, pos),
+        Err(e) => stopped(depth, read, Err(e), reader, pos),
     }
 }
 
@@ -140,7 +144,7 @@ fn piece(
     ensures { Turned reader pos rest.now buf.old result buf.new }
 {
     let len = rest.len();
-    let n = least(least(len, buf.len() - pos), (total - offset) as usize);
+    let n = len.min(buf.len() - pos).min((total - offset) as usize);
     let end = put_rest(buf, pos, &rest[..n], 0);
     let carried = reader.carried;
     let at = offset + n as u32;
@@ -149,7 +153,7 @@ fn piece(
             phase: Phase::Payload(id, r, total, at),
             carried,
         };
-        return stopped(carried.depth, n, cut(n, len), next, end);
+        return stopped(carried.depth, n, Ok(cut(n, len)), next, end);
     }
     let phase = idle();
     Turn::On(IStream { phase, carried }, n, end)
@@ -160,11 +164,10 @@ fn one_turn(reader: IStream, pos: usize, rest: &[u8], buf: &mut [u8]) -> Turn
     requires { (sound_stream base reader ≡ true) × (Live (state_of reader) × (pos ≤ length buf.old)) }
     ensures { Turned reader pos rest.now buf.old result buf.new }
 {
-    let phase = reader.phase;
-    if let Phase::Payload(id, r, total, offset) = phase {
+    if let Phase::Payload(id, r, total, offset) = reader.phase {
         return piece(reader, id, r, total, offset, pos, rest, buf);
     }
-    let m = least(rest.len(), buf.len() - pos);
+    let m = rest.len().min(buf.len() - pos);
     let block = as_is(reader, &rest[..m]);
     let n = block.len;
     if 0 < n {
@@ -187,17 +190,9 @@ impl Stop {
         requires { used + self.used < 18446744073709551616 }
         ensures { result ≡ later used self }
     {
-        let answer = self.answer;
-        let reader = self.reader;
-        let owed = self.owed;
         Stop {
             used: used + self.used,
-            answer,
-            reader,
-            depth: self.depth,
-            pos: self.pos,
-            owed,
-            place: self.place,
+            ..self
         }
     }
 }
@@ -211,8 +206,7 @@ pub fn run(reader: IStream, start: usize, chunk: &[u8], buf: &mut [u8]) -> Stop
     let mut pos = start;
     let mut used: usize = 0;
     loop {
-        let t = one_turn(at, pos, &chunk[used..], buf);
-        match t {
+        match one_turn(at, pos, &chunk[used..], buf) {
             Turn::On(next, n, end) => {
                 at = next;
                 pos = end;

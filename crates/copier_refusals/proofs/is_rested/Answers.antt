@@ -2,15 +2,9 @@
 use Prim.Native.Nat.{ℕ, ◌+◌}
 use mathlib.Core.Path.{◌≡◌, ap, ◌∙◌}
 use lib.ListN.{length, get_or}
-use Rattle.copier_refusals.proofs.Rested.{beyond_buffer, too_deep_lem, all_rested}
+use Rattle.copier_refusals.proofs.Rested.{all_rested}
 use borrow.Author.Rules.{rules}
 use Rattle.copier_refusals.proofs.is_rested.Goals as goal
-
-pub returns-then-size-offset : goal.returns-then-size-offset
-returns-then-size-offset c = beyond_buffer c.args.offset c.args.depth c.args.places c.args.size c.if-size-offset.true
-
-pub returns-then-depth-gt-MAX_DEPTH : goal.returns-then-depth-gt-MAX_DEPTH
-returns-then-depth-gt-MAX_DEPTH c = too_deep_lem c.args.offset c.args.depth c.args.places c.args.size c.if-size-offset.false c.if-depth-gt-MAX_DEPTH.true
 
 pub returns : goal.returns
 returns c =

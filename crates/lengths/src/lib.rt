@@ -53,8 +53,7 @@ fn long_len(t: &[u8], at: usize, len: usize) -> Extent
     requires { (at ≤ length t.now) × (len ≤ at) }
     ensures { Sizes t.now at (sized varint_length len (varint base (drop at t.now))) result }
 {
-    let end = long_number_at(t, at);
-    if 0 < end {
+    if let Some(end) = long_number_at(t, at) {
         return Extent::At(end, len + (end - at));
     }
     value_len(t, at, len)

@@ -55,7 +55,8 @@ fn scalar_at(t: &[u8], at: usize, h: u64) -> Option<usize>
     }
 }
 
-// A varint with its value, out of line.
+// A varint with its value.
+#[inline(never)]
 fn long_value_at(t: &[u8], at: usize) -> Option<(u64, usize)>
     ensures { IfSome result (λ r. Ends t.now at (λ bs. bs ≡ shortest r.0) r.1) }
 {
@@ -270,6 +271,7 @@ fn field_at(t: &[u8], at: usize, depth: u8) -> Option<Run>
 }
 
 // How far whole fields in their shortest form go, from this depth on; no further than 0 where the first isn't so, or isn't whole.
+#[inline(never)]
 pub fn fields(bytes: &[u8], depth: u8) -> Run
     ensures { (result.end ≤ length bytes.now) × OwnFields base depth (take result.end bytes.now) result.depth }
 {

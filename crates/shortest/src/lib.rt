@@ -8,6 +8,7 @@ ghost use Rattle.shortest.specs.Own.{Number, Ends, FloatWord};
 use varint::LAST_BYTE;
 
 // The place after a varint; none where it is longer than needed, or not whole.
+#[inline(never)]
 pub fn long_number_at(t: &[u8], at: usize) -> Option<usize>
     ensures { IfSome result (Ends t.now at Number) }
 {

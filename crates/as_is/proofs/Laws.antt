@@ -30,12 +30,11 @@ use Rattle.istream.specs.declared.IStream.{IStream}
 use Rattle.istream.specs.Stream.{state_of, stream_in, sound_stream}
 use Rattle.istream.proofs.Calls.{state_of_stream}
 use Rattle.istream.proofs.Laws.{is_sound, sound_is}
-use Rattle.copying_laws.proofs.OneEvent.{AsIs, none_as_is}
+use Rattle.copying_laws.proofs.OneEvent.{AsIs}
 use Rattle.copying_laws.proofs.AsIs.{fields_as_is, unsigneds_as_is, signeds_as_is, floats_as_is}
 use Rattle.shortest.specs.Own as own
 use Rattle.shortest.specs.Own.{Numbers}
 use Rattle.shortest.proofs.Spans.{all_bytes, bytes_front}
-use Rattle.own.proofs.Runs.{fields_none}
 use Rattle.as_is.specs.declared.Block.{Block}
 use Rattle.as_is.specs.Ahead.{Ahead}
 
@@ -51,24 +50,12 @@ ahead st st' c n few q ss l =
       live = subst Live (sym (state_of_stream st')) l;
     }
 
--- nothing goes ahead
-pub none_ahead : (s : IStream) (c : List ℕ) → sound_stream base s ≡ true → Live (state_of s) → Ahead s c 0 s
-none_ahead s c t l = record { few = omega arith; same = none_as_is base (state_of s) s.carried.depth; sound = t; live = l }
-
 -- whole fields
-fields_ahead : (d e n : ℕ) (c : List ℕ) → e ≤ base.depth → n ≤ length c → own.OwnFields base d (take n c) e → Ahead (stream_in (reading d idle)) c n (stream_in (reading e idle))
+pub fields_ahead : (d e n : ℕ) (c : List ℕ) → e ≤ base.depth → n ≤ length c → own.OwnFields base d (take n c) e → Ahead (stream_in (reading d idle)) c n (stream_in (reading e idle))
 fields_ahead d e n c h few a =
     ahead (reading d idle) (reading e idle) c n few
     (subst (λ (bs : List ℕ). AsIs base (reading d idle) d bs (reading e idle) e) (sym a.bytes) (λ pos r b f. fields_as_is base fit_base a.fields d e pos r b a.legal a.balanced f))
     (h, sound-start base) tt
-
-pub fields_behind : (d e n : ℕ) (c : List ℕ) (b : Block) → b ≡ record { len = n; reader = stream_in (reading e idle) } → e ≤ base.depth → n ≤ length c → own.OwnFields base d (take n c) e
-    → Ahead (stream_in (reading d idle)) c b.len b.reader
-fields_behind d e n c b k h few a = subst (λ (b : Block). Ahead (stream_in (reading d idle)) c b.len b.reader) (sym k) (fields_ahead d e n c h few a)
-
--- none of them
-pub none_behind : (d : ℕ) (c : List ℕ) (b : Block) → b ≡ record { len = 0; reader = stream_in (reading d idle) } → d ≤ base.depth → Ahead (stream_in (reading d idle)) c b.len b.reader
-none_behind d c b k h = fields_behind d d 0 c b k h (omega arith) (fields_none base d)
 
 -- ---- elements, of which P m is the phase with m left
 
@@ -154,9 +141,15 @@ at_float_lem s id w left k v t e z =
       λ i. record { phase = (e ∙ ap (λ (x : FloatType). phases.Float id x left k v) (sym (float_back w)) ∙ ap (λ (j : ℕ). phases.Float id (float_type (width w)) left j v) z ∙ ap (phases.Float id (float_type (width w)) left 0) u) i; carried = s.carried },
     )
 
--- a reader that the code makes of a phase and what is carried along
-pub by_phase : (s : IStream) (c : List ℕ) (n : ℕ) (k : Carried) (p q : code.Phase) → p ≡ q → Ahead s c n (record { phase = q; carried = k }) → Ahead s c n (record { phase = p; carried = k })
-by_phase s c n k p q e a = subst (λ (x : code.Phase). Ahead s c n (record { phase = x; carried = k })) (sym e) a
+-- a block of the bytes that go, with the reader that the code makes of a phase and what is carried along
+pub behind : {s : IStream} {c : List ℕ} {n : ℕ} {k : Carried} {p q : code.Phase} → p ≡ q → Ahead s c n (record { phase = q; carried = k }) →
+    (b : Block) → (0 < b.len) × (b.len ≡ n) × (b.reader ≡ record { phase = p; carried = k }) → (0 < b.len) × Ahead s c b.len b.reader
+behind {s} {c} {n} {k} e a b w =
+    (w.0, subst (λ (m : ℕ). Ahead s c m b.reader) (sym w.1) (subst (λ (r : IStream). Ahead s c n r) (sym (w.2 ∙ ap (λ (x : code.Phase). record { phase = x; carried = k }) e)) a))
+
+-- .. from a reader by its equation
+pub ahead_from : {s s₀ : IStream} {c : List ℕ} → s ≡ s₀ → (b : Block) → (0 < b.len) × Ahead s₀ c b.len b.reader → (0 < b.len) × Ahead s c b.len b.reader
+ahead_from {c = c} e b a = (a.0, subst (λ (x : IStream). Ahead x c b.len b.reader) (sym e) a.1)
 
 -- a float's bytes
 pub float_width : (w : FloatType) → (0 < bytes_of (width w)) × (bytes_of (width w) ≤ 8)
@@ -167,10 +160,3 @@ float_width Floats.Fp64 = (lit< tt, lit≤ tt)
 pub whole_floats : (w : FloatType) (len b r : ℕ) → b ≡ bytes_of (width w) → r ≤ len / b → r * bytes_of (width w) ≤ len
 whole_floats Floats.Fp32 len b r e h = let l : r ≤ len / 4 = subst (λ (x : ℕ). r ≤ len / x) e h in omega arith
 whole_floats Floats.Fp64 len b r e h = let l : r ≤ len / 8 = subst (λ (x : ℕ). r ≤ len / x) e h in omega arith
-
--- what each answer of the last function says
-pub ahead_from : (s s₀ : IStream) (c : List ℕ) (n : ℕ) (s' : IStream) → s ≡ s₀ → Ahead s₀ c n s' → Ahead s c n s'
-ahead_from s s₀ c n s' e a = subst (λ (x : IStream). Ahead x c n s') (sym e) a
-
-pub none_is : (s : IStream) (c : List ℕ) (r : Block) → sound_stream base s ≡ true → Live (state_of s) → r ≡ record { len = 0; reader = s } → Ahead s c r.len r.reader
-none_is s c r t l e = subst (λ (x : Block). Ahead s c x.len x.reader) (sym e) (none_ahead s c t l)

@@ -107,16 +107,15 @@ count_reads = checked_parses (varint_parses base) (λ n. leb n base.count)
 -- ---- a varint
 
 -- in its shortest form: it is as long as it stands
-own_value : {t : List ℕ} {at end : ℕ} → at ≤ length t → Ends t at Number end → 0 < end → (v : ℕ) × (varint base (drop at t) ≡ whole v (drop end t)) × (at + varint_length v ≡ end)
-own_value {t} {at} {end} h e g =
-    let s = e.found g in
-    let v : ℕ = s.good.0 in
-    let d : drop at t ≡ shortest v ++ drop end t = s.split ∙ ap (λ (bs : List ℕ). bs ++ drop end t) s.good.2 in
+own_value : {t : List ℕ} {at end : ℕ} → at ≤ length t → Ends t at Number end → (v : ℕ) × (varint base (drop at t) ≡ whole v (drop end t)) × (at + varint_length v ≡ end)
+own_value {t} {at} {end} h e =
+    let v : ℕ = e.good.0 in
+    let d : drop at t ≡ shortest v ++ drop end t = e.split ∙ ap (λ (bs : List ℕ). bs ++ drop end t) e.good.2 in
     let n : length (drop at t) ≡ varint_length v + length (drop end t) = ap length d ∙ length-append (shortest v) (drop end t) in
-    (v, ap (varint base) d ∙ (varint_parses base).forth v (drop end t) s.good.1, omega (arith, length-drop at t, length-drop end t, e.inside, length_some v))
+    (v, ap (varint base) d ∙ (varint_parses base).forth v (drop end t) e.good.1, omega (arith, length-drop at t, length-drop end t, e.inside, length_some v))
 
-pub own_past : {t : List ℕ} {at end : ℕ} → at ≤ length t → Ends t at Number end → 0 < end → (at ≤ end) × (end ≤ length t)
-own_past h e g = (omega (arith, (own_value h e g).2), e.inside)
+pub own_past : {t : List ℕ} {at end : ℕ} → at ≤ length t → Ends t at Number end → (at ≤ end) × (end ≤ length t)
+own_past h e = (omega (arith, (own_value h e).2), e.inside)
 
 module _ {t : List ℕ} {at len : ℕ} where
   -- by its value
@@ -129,11 +128,11 @@ module _ {t : List ℕ} {at len : ℕ} where
         past = (omega (arith, q.past.0), q.past.1, (behind a value_reads h q y).0);
       }
 
-  pub own_sizes : {end n : ℕ} → (at ≤ length t) × (len ≤ at) → Ends t at Number end → 0 < end → n ≡ end - at →
+  pub own_sizes : {end n : ℕ} → (at ≤ length t) × (len ≤ at) → Ends t at Number end → n ≡ end - at →
       Sizes t at (sized varint_length len (varint base (drop at t))) (Ok (extent end (len + n)))
   unfolding sized
-  own_sizes {end} {n} p e g y =
-      let o = own_value p.0 e g in
+  own_sizes {end} {n} p e y =
+      let o = own_value p.0 e in
       let m : varint_length o.0 ≡ n = omega (arith, o.2) in
       record {
         same = ap (sized varint_length len) o.1 ∙ ap (λ (n : ℕ). whole (len + n) (drop end t)) m;
@@ -142,11 +141,11 @@ module _ {t : List ℕ} {at len : ℕ} where
 
   -- of one byte, and of two
   pub one_sizes : (at ≤ length t) × (len ≤ at) → at < length t → get_or t at 0 < 128 → Sizes t at (sized varint_length len (varint base (drop at t))) (Ok (extent (at + 1) (len + 1)))
-  one_sizes p h l = own_sizes p (one_ends t at at refl h l) (omega arith) (omega arith)
+  one_sizes p h l = own_sizes p (one_ends t at h l) (omega arith)
 
   pub two_sizes : (at ≤ length t) × (len ≤ at) → Fits t → 128 ≤ get_or t at 0 → at + 1 < length t → 0 < get_or t (at + 1) 0 → get_or t (at + 1) 0 < 128 →
       Sizes t at (sized varint_length len (varint base (drop at t))) (Ok (extent (at + 2) (len + 2)))
-  two_sizes p a l h g k = own_sizes p (two_ends t at l (a at) h g k) (omega arith) (omega arith)
+  two_sizes p a l h g k = own_sizes p (two_ends t at l (a at) h g k) (omega arith)
 
   -- types 0 and 1
   pub as_scalars : (r : Result Extent Stop) → Sizes t at (sized varint_length len (varint base (drop at t))) r → BodySizes t at t_unsigned len r × BodySizes t at t_signed len r

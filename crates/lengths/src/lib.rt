@@ -37,8 +37,7 @@ fn long_len(t: &[u8], from: Extent) -> Result<Extent, Stop>
     requires { (from.at ≤ length t.now) × (from.len ≤ from.at) }
     ensures { Sizes t.now from.at (sized varint_length from.len (varint base (drop from.at t.now))) result }
 {
-    let end = long_number_at(t, from.at);
-    if 0 < end {
+    if let Some(end) = long_number_at(t, from.at) {
         return Ok(Extent { at: end, len: from.len + (end - from.at) });
     }
     value_len(t, from)

@@ -13,12 +13,12 @@ use Rattle.layout.specs.Limits.{base, last_byte, last_bound}
 use Rattle.layout.specs.Varint.{digit, shortest}
 use Rattle.varint.specs.declared.Acc.{Acc}
 use Rattle.varint.specs.declared.Push.TheVariants.{More, Value}
-use Rattle.varint.specs.Varint.{start, pushed}
+use Rattle.varint.specs.Varint.{pushed}
 use Rattle.varint.proofs.Digits.{joined}
 use Rattle.varint.proofs.Laws.{pushed-ends, pushed_on, pushed_last, pushed-over}
 use Rattle.shortest.specs.Own.{Ends}
-use Rattle.shortest.proofs.Spans.{reaches, stretch_as}
-use Rattle.shortest.proofs.Varints.{one, Under, under_start, under_more, under_value}
+use Rattle.shortest.proofs.Spans.{ends_as}
+use Rattle.shortest.proofs.Varints.{one, Under, under_more, under_value}
 
 record Last (a : Acc) (b v : ℕ) : Type 0 where
   below : b < 128
@@ -65,9 +65,6 @@ module _ (a : Acc) (b : ℕ) (k : a.taken ≤ last_byte base) (s : a.value < 128
 abbrev pub Coming : List ℕ → ℕ → ℕ → Acc → Type 0
 Coming t at i a = Under t at i a.taken a.value
 
-pub coming_start : (t : List ℕ) (at : ℕ) (a : Acc) → a ≡ start → Coming t at at a
-coming_start t at a e = subst (Coming t at at) (sym e) (under_start t at)
-
 module _ {t : List ℕ} {at i : ℕ} {a : Acc} (u : Coming t at i a) (h : i < length t) where
   pub coming_more : (n : Acc) → get_or t i 0 < 256 → pushed base a (get_or t i 0) ≡ More n → Coming t at (i + 1) n
   coming_more n g e =
@@ -78,7 +75,7 @@ module _ {t : List ℕ} {at i : ℕ} {a : Acc} (u : Coming t at i a) (h : i < le
   pub coming_value : (v : ℕ) → pushed base a (get_or t i 0) ≡ Value v → 0 < get_or t i 0 → Ends t at (λ bs. bs ≡ shortest v) (i + 1)
   coming_value v e g =
       let m = was_last a (get_or t i 0) u.few u.small v e in
-      reaches (omega arith) (stretch_as (under_value u h m.below g) (λ bs q. q ∙ ap shortest (sym m.is)))
+      ends_as (under_value u h m.below g) (λ bs q. q ∙ ap shortest (sym m.is))
 
   pub coming_one : (v : ℕ) → pushed base a (get_or t i 0) ≡ Value v → i ≡ at → Ends t at (λ bs. bs ≡ shortest v) (i + 1)
   coming_one v e g =
@@ -87,5 +84,4 @@ module _ {t : List ℕ} {at i : ℕ} {a : Acc} (u : Coming t at i a) (h : i < le
       let s : a.value < 128 ^ 0 = subst (λ (k : ℕ). a.value < 128 ^ k) z u.small in
       let d : digit a.taken (get_or t i 0) ≡ digit 0 (get_or t i 0) = ap (λ (k : ℕ). digit k (get_or t i 0)) z in
       let f : get_or t i 0 ≡ v = omega (arith, m.is, mod-eq_of_lt m.below) in
-      subst (λ (j : ℕ). Ends t j (λ bs. bs ≡ shortest v) (i + 1)) g
-      (reaches (omega arith) (stretch_as (one t i h m.below) (λ bs q. q ∙ ap shortest f)))
+      subst (λ (j : ℕ). Ends t j (λ bs. bs ≡ shortest v) (i + 1)) g (ends_as (one t i h m.below) (λ bs q. q ∙ ap shortest f))

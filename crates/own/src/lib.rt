@@ -1,79 +1,52 @@
 // How far a byte slice goes, from a field boundary on, in whole fields that stand in their shortest form already: each varint as short as
 // its value allows, each close 07. Such bytes are their own plain copy. Payloads and float arrays are jumped over.
 // The contracts say what holds of the bytes up to the place that was reached, and not that it is the last such place: a shorter run
-// would be slower and no less right. The private functions answer 0 for what is not so, or not whole.
+// would be slower and no less right. The private functions answer none for what is not so, or not whole.
 #![tactic(auto)]
 
-ghost use Rattle.std.specs.Prelude.{◌≡◌, ℕ, ◌+◌, ◌/◌, ◌≤◌, ◌<◌, ◌++◌, length, take};
+ghost use Rattle.std.specs.Prelude.{◌≡◌, ℕ, ◌+◌, ◌/◌, ◌%◌, ◌≤◌, ◌<◌, ◌++◌, length, take, true, IfSome};
 ghost use Rattle.layout.specs.Limits.{base};
 ghost use Rattle.layout.specs.Varint.{shortest};
 ghost use Rattle.layout.specs.Field.{t_fixlen, t_unsigneds, t_signeds, t_floats};
-ghost use Rattle.shortest.specs.Own.{OwnFields, Numbers, Number, Body, Stretch, Ends};
+ghost use Rattle.shortest.specs.Own.{OwnFields, Numbers, Number, Body, Ends};
 
-use shortest::{is_close, is_fp32_length, is_fp64_length, long_number_at};
-use types::{ARRAY_MAX, FIXLEN_MAX, ID_MAX, MAX_DEPTH};
+use shortest::{float_bytes, is_close, long_number_at};
+use types::{ARRAY_MAX, FIXLEN_MAX, ID_MAX};
 use varint::{Acc, Push};
 
-// Fields: how many bytes they have, and the depth after them.
+// Fields: the place after them, and the depth there.
 #[derive(Clone, Copy)]
 pub struct Run {
-    pub len: usize,
+    pub end: usize,
     pub depth: u8,
 }
 
-// Elements of an array: how many bytes they have, and how many they are.
+// Numbers in a row: the place after them, and how many they are.
 #[derive(Clone, Copy)]
-pub struct Counted {
-    pub len: usize,
+pub struct Row {
+    pub end: usize,
     pub count: u32,
-}
-
-// A varint's value and the place after it, or 0.
-#[derive(Clone, Copy)]
-struct Found {
-    value: u64,
-    end: usize,
-}
-
-// Varints in a row: the place after them, and how many they are.
-#[derive(Clone, Copy)]
-struct Row {
-    end: usize,
-    count: u32,
-}
-
-// The place after a field, or 0, and the depth there.
-#[derive(Clone, Copy)]
-struct Next {
-    at: usize,
-    depth: u8,
 }
 
 // ---- varints
 
 // Most elements are one byte or two.
-fn number_at(t: &[u8], at: usize) -> usize
-    ensures { Ends t.now at Number result }
+fn number_at(t: &[u8], at: usize) -> Option<usize>
+    ensures { IfSome result (Ends t.now at Number) }
 {
-    if at < t.len() {
-        if t[at] < 128 {
-            return at + 1;
-        }
-        if at + 1 < t.len() {
-            let b = t[at + 1];
-            if 0 < b {
-                if b < 128 {
-                    return at + 2;
-                }
-            }
-        }
+    let b = *t.get(at)?;
+    if b < 128 {
+        return Some(at + 1);
+    }
+    if let Some(1..128) = t.get(at + 1) {
+        return Some(at + 2);
     }
     long_number_at(t, at)
 }
 
 // The value behind the header h: behind a header of one byte or two most are short as well.
-fn scalar_at(t: &[u8], at: usize, h: u64) -> usize
-    ensures { Ends t.now at Number result }
+fn scalar_at(t: &[u8], at: usize, h: u64) -> Option<usize>
+    ensures { IfSome result (Ends t.now at Number) }
 {
     if h < 16384 {
         number_at(t, at)
@@ -82,369 +55,229 @@ fn scalar_at(t: &[u8], at: usize, h: u64) -> usize
     }
 }
 
-// A varint with its value, out of line.
-fn long_value_at(t: &[u8], at: usize) -> Found
-    ensures { Ends t.now at (λ bs. bs ≡ shortest result.value) result.end }
+// A varint with its value.
+#[inline(never)]
+fn long_value_at(t: &[u8], at: usize) -> Option<(u64, usize)>
+    ensures { IfSome result (λ r. Ends t.now at (λ bs. bs ≡ shortest r.0) r.1) }
 {
     let mut acc = Acc::new();
-    let mut i = at;
-    while i < t.len() {
-        let b = t[i];
-        let p = acc.push(b);
-        match p {
+    for i in at..t.len() {
+        match acc.push(t[i]) {
             Push::More(more) => {
                 acc = more;
-                i += 1;
             }
             Push::Value(v) => {
-                if i == at {
-                    return Found {
-                        value: v,
-                        end: i + 1,
-                    };
-                }
-                if 0 < b {
-                    return Found {
-                        value: v,
-                        end: i + 1,
-                    };
-                }
-                return Found { value: 0, end: 0 };
-            }
-            Push::Overlong => {
-                return Found { value: 0, end: 0 };
-            }
-        }
-    }
-    Found { value: 0, end: 0 }
-}
-
-// The value of one byte or two, and the place after it, or 0: most headers, words and counts are no longer. A value with no place says that
-// two bytes are longer than needed, so that nothing is left to look at.
-fn short_value_at(t: &[u8], at: usize) -> Found
-    ensures { Ends t.now at (λ bs. (result.value / 8 ≤ base.id) × (bs ≡ shortest result.value)) result.end }
-{
-    if at < t.len() {
-        let b = t[at];
-        if b < 128 {
-            return Found {
-                value: b as u64,
-                end: at + 1,
-            };
-        }
-        if at + 1 < t.len() {
-            let c = t[at + 1];
-            if c == 0 {
-                return Found { value: 1, end: 0 };
-            }
-            if c < 128 {
-                return Found {
-                    value: (b % 128) as u64 + c as u64 * 128,
-                    end: at + 2,
+                return if t[i] == 0 && at < i {
+                    None
+                } else {
+                    Some((v, i + 1))
                 };
             }
+            Push::Overlong => {
+                return None;
+            }
         }
     }
-    Found { value: 0, end: 0 }
+    None
 }
 
-fn value_at(t: &[u8], at: usize) -> Found
-    ensures { Ends t.now at (λ bs. bs ≡ shortest result.value) result.end }
+// The value of one byte or two: most headers, words and counts are no longer.
+fn short_value_at(t: &[u8], at: usize) -> Option<(u64, usize)>
+    ensures { IfSome result (λ r. Ends t.now at (λ bs. (r.0 / 8 ≤ base.id) × (bs ≡ shortest r.0)) r.1) }
 {
-    let short = short_value_at(t, at);
-    let i = short.end;
-    if 0 < i {
-        return short;
+    let b = *t.get(at)?;
+    if b < 128 {
+        return Some((u64::from(b), at + 1));
     }
-    long_value_at(t, at)
+    let c = *t.get(at + 1)?;
+    if 0 < c && c < 128 {
+        Some((u64::from(b % 128) + u64::from(c) * 128, at + 2))
+    } else {
+        None
+    }
+}
+
+fn value_at(t: &[u8], at: usize) -> Option<(u64, usize)>
+    ensures { IfSome result (λ r. Ends t.now at (λ bs. bs ≡ shortest r.0) r.1) }
+{
+    short_value_at(t, at).or_else(|| long_value_at(t, at))
 }
 
 // A header of one byte or two has a small id.
-fn header_at(t: &[u8], at: usize) -> Found
-    ensures { Ends t.now at (λ bs. (result.value / 8 ≤ base.id) × (bs ≡ shortest result.value)) result.end }
+fn header_at(t: &[u8], at: usize) -> Option<(u64, usize)>
+    ensures { IfSome result (λ r. Ends t.now at (λ bs. (r.0 / 8 ≤ base.id) × (bs ≡ shortest r.0)) r.1) }
 {
-    let short = short_value_at(t, at);
-    let i = short.end;
-    if 0 < i {
-        return short;
-    }
-    let v = short.value;
-    if 0 < v {
-        return short;
-    }
-    let found = long_value_at(t, at);
-    let h = found.value;
-    if h / 8 <= ID_MAX as u64 {
-        return found;
-    }
-    Found { value: 0, end: 0 }
+    short_value_at(t, at).or_else(|| long_value_at(t, at).filter(|(h, _)| *h / 8 <= ID_MAX as u64))
 }
 
-fn count_at(t: &[u8], at: usize) -> Found
-    ensures { Ends t.now at (λ bs. (result.value ≤ base.count) × (bs ≡ shortest result.value)) result.end }
+fn count_at(t: &[u8], at: usize) -> Option<(u32, usize)>
+    ensures { IfSome result (λ r. Ends t.now at (λ bs. (r.0 ≤ base.count) × (bs ≡ shortest r.0)) r.1) }
 {
-    let found = value_at(t, at);
-    let n = found.value;
+    let (n, i) = value_at(t, at)?;
     if n <= ARRAY_MAX as u64 {
-        return found;
+        Some((n as u32, i))
+    } else {
+        None
     }
-    Found { value: 0, end: 0 }
 }
 
 fn row_at(t: &[u8], at: usize, most: u32) -> Row
     requires { at ≤ length t.now }
-    ensures { (result.end ≤ length t.now) × (result.count ≤ most) × Stretch t.now at result.end (Numbers base result.count) }
+    ensures { (result.count ≤ most) × Ends t.now at (Numbers base result.count) result.end }
 {
-    let mut i = at;
-    let mut n: u32 = 0;
-    while n < most {
-        let j = number_at(t, i);
-        if j == 0 {
-            return Row { end: i, count: n };
-        }
-        i = j;
-        n += 1;
+    let mut end = at;
+    for count in 0..most {
+        let Some(next) = number_at(t, end) else {
+            return Row { end, count };
+        };
+        end = next;
     }
-    Row { end: i, count: n }
+    Row { end, count: most }
 }
 
-// How many of an array's elements stand whole and in their shortest form at the start, `most` at most.
-pub fn elements(bytes: &[u8], most: u32) -> Counted
-    ensures { (result.len ≤ length bytes.now) × (result.count ≤ most) × Numbers base result.count (take result.len bytes.now) }
+// The array's elements that stand whole and in their shortest form at the start, `most` at most.
+pub fn elements(bytes: &[u8], most: u32) -> Row
+    ensures { (result.end ≤ length bytes.now) × (result.count ≤ most) × Numbers base result.count (take result.end bytes.now) }
 {
-    let row = row_at(bytes, 0, most);
-    Counted {
-        len: row.end,
-        count: row.count,
-    }
+    row_at(bytes, 0, most)
 }
 
 // ---- what follows a header
 
-fn jump(t: &[u8], at: usize, n: u64) -> usize
+fn jump(t: &[u8], at: usize, n: u64) -> Option<usize>
     requires { at ≤ length t.now }
-    ensures { Ends t.now at (λ bs. length bs ≡ n) result }
+    ensures { IfSome result (Ends t.now at (λ bs. length bs ≡ n)) }
 {
     if n as usize <= t.len() - at {
-        at + n as usize
+        Some(at + n as usize)
     } else {
-        0
+        None
     }
 }
 
-fn fixlen_at(t: &[u8], at: usize) -> usize
-    ensures { Ends t.now at (Body t_fixlen) result }
+fn fixlen_at(t: &[u8], at: usize) -> Option<usize>
+    ensures { IfSome result (Ends t.now at (Body t_fixlen)) }
 {
-    let word = value_at(t, at);
-    let w = word.value;
-    let i = word.end;
-    if i == 0 {
-        return 0;
+    let (word, i) = value_at(t, at)?;
+    if let Some(n) = float_bytes(word) {
+        return jump(t, i, n);
     }
-    let n = w / 8;
-    match w % 8 {
-        0 => { if is_fp32_length(n) { jump(t, i, 4) } else { 0 } }
-        1 => { if is_fp64_length(n) { jump(t, i, 8) } else { 0 } }
-        2 | 3 => {
-            if n <= FIXLEN_MAX as u64 {
-                jump(t, i, n)
-            } else {
-                0
-            }
-        }
-        _ => 0,
+    let n = word / 8;
+    match word % 8 {
+        2 | 3 if n <= FIXLEN_MAX as u64 => jump(t, i, n),
+        _ => None,
     }
 }
 
 // Signed elements are in their shortest form where unsigned ones are.
-fn array_at(t: &[u8], at: usize) -> usize
-    ensures { Ends t.now at (λ bs. Body t_unsigneds bs × Body t_signeds bs) result }
+fn array_at(t: &[u8], at: usize) -> Option<usize>
+    ensures { IfSome result (Ends t.now at (λ bs. Body t_unsigneds bs × Body t_signeds bs)) }
 {
-    let count = count_at(t, at);
-    let n = count.value;
-    let i = count.end;
-    if i == 0 {
-        return 0;
-    }
-    let row = row_at(t, i, n as u32);
-    let k = row.count;
-    if k as u64 == n { row.end } else { 0 }
+    let (n, i) = count_at(t, at)?;
+    let row = row_at(t, i, n);
+    if row.count == n { Some(row.end) } else { None }
 }
 
-// The words of the two floats: length × 8 + subtype.
-const FP32_WORD: u64 = 32;
-
-const FP64_WORD: u64 = 65;
-
-fn float_array_at(t: &[u8], at: usize) -> usize
-    ensures { Ends t.now at (Body t_floats) result }
+fn float_array_at(t: &[u8], at: usize) -> Option<usize>
+    ensures { IfSome result (Ends t.now at (Body t_floats)) }
 {
-    let count = count_at(t, at);
-    let n = count.value;
-    let i = count.end;
-    if i == 0 {
-        return 0;
-    }
-    let word = value_at(t, i);
-    let w = word.value;
-    let j = word.end;
-    if j == 0 {
-        return 0;
-    }
-    if w == FP32_WORD {
-        return jump(t, j, n * 4);
-    }
-    if w == FP64_WORD {
-        return jump(t, j, n * 8);
-    }
-    0
+    let (n, i) = count_at(t, at)?;
+    let (word, j) = value_at(t, i)?;
+    jump(t, j, u64::from(n) * float_bytes(word)?)
 }
 
 // ---- fields
 
-// What follows the header h.
-fn body_at(t: &[u8], at: usize, h: u64, depth: u8) -> Next
+// What follows the header h. A depth above MAX_DEPTH has no place in a byte.
+fn body_at(t: &[u8], at: usize, h: u64, depth: u8) -> Option<Run>
     requires { (at ≤ length t.now) × (h / 8 ≤ base.id) }
-    ensures { Ends t.now at (λ bs. OwnFields base depth (shortest h ++ bs) result.depth) result.at }
+    ensures { IfSome result (λ r. Ends t.now at (λ bs. OwnFields base depth (shortest h ++ bs) r.depth) r.end) }
 {
     match h % 8 {
-        0 | 1 => Next {
-            at: scalar_at(t, at, h),
+        0 | 1 => Some(Run {
+            end: scalar_at(t, at, h)?,
             depth,
-        },
-        2 => Next {
-            at: fixlen_at(t, at),
+        }),
+        2 => Some(Run {
+            end: fixlen_at(t, at)?,
             depth,
-        },
-        3 | 4 => Next {
-            at: array_at(t, at),
+        }),
+        3 | 4 => Some(Run {
+            end: array_at(t, at)?,
             depth,
-        },
-        5 => Next {
-            at: float_array_at(t, at),
+        }),
+        5 => Some(Run {
+            end: float_array_at(t, at)?,
             depth,
-        },
-        6 => {
-            if depth < MAX_DEPTH as u8 {
-                Next {
-                    at,
-                    depth: depth + 1,
-                }
-            } else {
-                Next { at: 0, depth }
-            }
-        }
-        _ => {
-            if is_close(h) {
-                if 0 < depth {
-                    return Next {
-                        at,
-                        depth: depth - 1,
-                    };
-                }
-            }
-            Next { at: 0, depth }
-        }
+        }),
+        6 => Some(Run {
+            end: at,
+            depth: depth.checked_add(1)?,
+        }),
+        _ if is_close(h) => Some(Run {
+            end: at,
+            depth: depth.checked_sub(1)?,
+        }),
+        _ => None,
     }
 }
 
-// The place after a scalar of two bytes, or 0.
-fn small_at(t: &[u8], at: usize) -> usize
-    requires { at + 1 < length t.now }
-    ensures { Ends t.now at (λ bs. (d : ℕ) → OwnFields base d bs d) result }
-{
-    let h = t[at];
-    if h < 128 {
-        if h % 8 < 2 {
-            if t[at + 1] < 128 {
-                return at + 2;
-            }
-        }
-    }
-    0
-}
-
-// Such scalars in a row: the place after the last of them. Most fields are no longer, and their loop is short by itself.
+// The place after scalars of two bytes in a row. Most fields are no longer, and their loop is short by itself.
 fn smalls_at(t: &[u8], at: usize) -> usize
     requires { at ≤ length t.now }
-    ensures { (result ≤ length t.now) × Stretch t.now at result (λ bs. (d : ℕ) → OwnFields base d bs d) }
+    ensures { Ends t.now at (λ bs. (d : ℕ) → OwnFields base d bs d) result }
 {
-    let mut i = at;
-    while i + 1 < t.len() {
-        let j = small_at(t, i);
-        if j <= i {
-            return i;
-        }
-        i = j;
+    let mut end = at;
+    while end + 1 < t.len() && t[end] < 128 && t[end] % 8 < 2 && t[end + 1] < 128 {
+        end += 2;
     }
-    i
+    end
 }
 
 // An open of one byte, or a close.
-fn sequence_at(t: &[u8], at: usize, depth: u8) -> Next
-    ensures { Ends t.now at (λ bs. OwnFields base depth bs result.depth) result.at }
+fn sequence_at(t: &[u8], at: usize, depth: u8) -> Option<Run>
+    ensures { IfSome result (λ r. (at < r.end) × Ends t.now at (λ bs. OwnFields base depth bs r.depth) r.end) }
 {
-    if at < t.len() {
-        let h = t[at];
-        if h < 128 {
-            if h % 8 == 6 {
-                if depth < MAX_DEPTH as u8 {
-                    return Next {
-                        at: at + 1,
-                        depth: depth + 1,
-                    };
-                }
-            }
-            if is_close(h as u64) {
-                if 0 < depth {
-                    return Next {
-                        at: at + 1,
-                        depth: depth - 1,
-                    };
-                }
-            }
-        }
+    let h = *t.get(at)?;
+    if h < 128 && h % 8 == 6 {
+        return Some(Run {
+            end: at + 1,
+            depth: depth.checked_add(1)?,
+        });
     }
-    Next { at: 0, depth }
+    if is_close(u64::from(h)) {
+        return Some(Run {
+            end: at + 1,
+            depth: depth.checked_sub(1)?,
+        });
+    }
+    None
 }
 
 // One field, or more where they are small.
-fn field_at(t: &[u8], at: usize, depth: u8) -> Next
+fn field_at(t: &[u8], at: usize, depth: u8) -> Option<Run>
     requires { at ≤ length t.now }
-    ensures { Ends t.now at (λ bs. OwnFields base depth bs result.depth) result.at }
+    ensures { IfSome result (λ r. (at < r.end) × Ends t.now at (λ bs. OwnFields base depth bs r.depth) r.end) }
 {
-    let small = smalls_at(t, at);
-    if at < small {
-        return Next { at: small, depth };
+    let end = smalls_at(t, at);
+    if at < end {
+        return Some(Run { end, depth });
     }
-    let sequence = sequence_at(t, at, depth);
-    let next = sequence.at;
-    if 0 < next {
-        return sequence;
+    if let Some(run) = sequence_at(t, at, depth) {
+        return Some(run);
     }
-    let header = header_at(t, at);
-    let h = header.value;
-    let i = header.end;
-    if i == 0 {
-        return Next { at: 0, depth };
-    }
+    let (h, i) = header_at(t, at)?;
     body_at(t, i, h, depth)
 }
 
-// How far whole fields in their shortest form go, from this depth on; none where the first isn't so, or isn't whole.
+// How far whole fields in their shortest form go, from this depth on; no further than 0 where the first isn't so, or isn't whole.
+#[inline(never)]
 pub fn fields(bytes: &[u8], depth: u8) -> Run
-    ensures { (result.len ≤ length bytes.now) × OwnFields base depth (take result.len bytes.now) result.depth }
+    ensures { (result.end ≤ length bytes.now) × OwnFields base depth (take result.end bytes.now) result.depth }
 {
-    let mut at = 0;
-    let mut d = depth;
-    while at < bytes.len() {
-        let next = field_at(bytes, at, d);
-        let i = next.at;
-        if i <= at {
-            return Run { len: at, depth: d };
-        }
-        at = i;
-        d = next.depth;
+    let mut run = Run { end: 0, depth };
+    while let Some(next) = field_at(bytes, run.end, run.depth) {
+        run = next;
     }
-    Run { len: at, depth: d }
+    run
 }

@@ -11,7 +11,5 @@ pub fn is_own(ticket: &[u8]) -> bool
     ensures { result ≡ true → (verdict_of base ticket.now ≡ complete) × (plain_copy base ticket.now ≡ ticket.now) }
 {
     let run = own::fields(ticket, 0);
-    let n = run.len;
-    let d = run.depth;
-    if n == ticket.len() { d == 0 } else { false }
+    run.end == ticket.len() && run.depth == 0
 }

@@ -11,23 +11,16 @@ use Rattle.layout.specs.Varint.{digit, shortest}
 use Rattle.varint.proofs.Shortest.{shortest_one, shortest-more}
 use Rattle.varint.proofs.Step.{grown, within, within_last}
 use Rattle.laws.proofs.Varint.{next_power}
-use Rattle.shortest.specs.Own.{Number, Stretch, Ends}
-use Rattle.shortest.proofs.Spans.{one_byte, byte_at, reaches, stretch_as}
+use Rattle.shortest.specs.Own.{Number, Ends}
+use Rattle.shortest.proofs.Spans.{one_byte, byte_at, ends_as}
 
 -- ---- one byte
 
-pub one : (t : List ℕ) (at : ℕ) → at < length t → get_or t at 0 < 128 → Stretch t at (at + 1) (λ bs. bs ≡ shortest (get_or t at 0))
+pub one : (t : List ℕ) (at : ℕ) → at < length t → get_or t at 0 < 128 → Ends t at (λ bs. bs ≡ shortest (get_or t at 0)) (at + 1)
 one t at h l = byte_at at h (sym (shortest_one (get_or t at 0) l))
 
--- where the id of a header is asked for, it is small
-pub one_value : (t : List ℕ) (at : ℕ) → at < length t → get_or t at 0 < 128 → Ends t at (λ bs. (get_or t at 0 / 8 ≤ base.id) × (bs ≡ shortest (get_or t at 0))) (at + 1)
-one_value t at h l = reaches (omega arith) (stretch_as (one t at h l) (λ bs q. (omega arith, q)))
-
--- its value is a number
-pub one_ends : (t : List ℕ) (at i : ℕ) → i ≡ at → i < length t → get_or t i 0 < 128 → Ends t at Number (i + 1)
-one_ends t at i e h l =
-    subst (λ (j : ℕ). Ends t j Number (i + 1)) e
-    (reaches (omega arith) (stretch_as (one t i h l) (λ bs q. (get_or t i 0, omega arith, q))))
+pub one_ends : (t : List ℕ) (at : ℕ) → at < length t → get_or t at 0 < 128 → Ends t at Number (at + 1)
+one_ends t at h l = ends_as (one t at h l) (λ bs q. (get_or t at 0, omega arith, q))
 
 -- ---- more than one: k bytes from `at` to i came to v, and the varint of any number above 0 may follow
 
@@ -59,20 +52,18 @@ goes_on b w l h p =
 
 -- two bytes
 module _ (t : List ℕ) (at : ℕ) (l : 128 ≤ get_or t at 0) (b : get_or t at 0 < 256) (h : at + 1 < length t) (g : 0 < get_or t (at + 1) 0) (k : get_or t (at + 1) 0 < 128) where
-  two : Stretch t at (at + 2) (λ bs. bs ≡ shortest (get_or t at 0 % 128 + get_or t (at + 1) 0 * 128))
+  pub two : Ends t at (λ bs. bs ≡ shortest (get_or t at 0 % 128 + get_or t (at + 1) 0 * 128)) (at + 2)
   two =
       let e : at + 1 + 1 ≡ at + 2 = omega arith in
       record {
+        inside = omega arith;
         bytes = get_or t at 0 ∷ get_or t (at + 1) 0 ∷ [];
         split = one_byte t at (omega arith) ∙ ap (λ (x : List ℕ). get_or t at 0 ∷ x) (one_byte t (at + 1) h) ∙ ap (λ (i : ℕ). get_or t at 0 ∷ get_or t (at + 1) 0 ∷ drop i t) e;
         good = ap (λ (x : List ℕ). get_or t at 0 ∷ x) (sym (shortest_one (get_or t (at + 1) 0) k)) ∙ goes_on (get_or t at 0) (get_or t (at + 1) 0) l b g;
       }
 
   pub two_ends : Ends t at Number (at + 2)
-  two_ends = reaches (omega arith) (stretch_as two (λ bs q. (get_or t at 0 % 128 + get_or t (at + 1) 0 * 128, omega arith, q)))
-
-  pub two_value : Ends t at (λ bs. ((get_or t at 0 % 128 + get_or t (at + 1) 0 * 128) / 8 ≤ base.id) × (bs ≡ shortest (get_or t at 0 % 128 + get_or t (at + 1) 0 * 128))) (at + 2)
-  two_value = reaches (omega arith) (stretch_as two (λ bs q. (omega arith, q)))
+  two_ends = ends_as two (λ bs q. (get_or t at 0 % 128 + get_or t (at + 1) 0 * 128, omega arith, q))
 
 spread : (v d w p : ℕ) → v + (d + w * 128) * p ≡ v + d * p + w * (p * 128)
 spread v d w p = omega arith
@@ -100,9 +91,10 @@ module _ {t : List ℕ} {at i k v : ℕ} (u : Under t at i k v) (h : i < length 
           ∙ ap shortest (spread v (get_or t i 0 % 128) w (128 ^ k) ∙ ap (λ (x : ℕ). v + digit k (get_or t i 0) + w * x) (sym (next_power k)))
 
   -- a last byte
-  pub under_value : get_or t i 0 < 128 → 0 < get_or t i 0 → Stretch t at (i + 1) (λ bs. bs ≡ shortest (v + digit k (get_or t i 0)))
+  pub under_value : get_or t i 0 < 128 → 0 < get_or t i 0 → Ends t at (λ bs. bs ≡ shortest (v + digit k (get_or t i 0))) (i + 1)
   under_value l g =
       record {
+        inside = omega arith;
         bytes = u.bytes ++ (get_or t i 0 ∷ []);
         split = longer;
         good =
@@ -118,24 +110,22 @@ pub record Going (t : List ℕ) (at i : ℕ) : Type 0 where
   pub value : ℕ
   pub under : Under t at i taken value
 
-pub going_start : (t : List ℕ) (at : ℕ) → Going t at at
-going_start t at = record { taken = 0; value = 0; under = under_start t at }
-
 module _ {t : List ℕ} {at i : ℕ} (s : Going t at i) where
-  pub going_from : at ≤ i
-  going_from = omega (arith, s.under.place)
-
-  pub going_more : i < length t → 128 ≤ get_or t i 0 → get_or t i 0 < 256 → i - at < last_byte base → Going t at (i + 1)
+  pub going_more : i < length t → 128 ≤ get_or t i 0 → get_or t i 0 < 256 → (i - at ≡ last_byte base → ⊥) → Going t at (i + 1)
   going_more h l g f =
-      record { taken = s.taken + 1; value = s.value + digit s.taken (get_or t i 0); under = under_more s.under h (omega (arith, s.under.place)) l g }
+      record { taken = s.taken + 1; value = s.value + digit s.taken (get_or t i 0); under = under_more s.under h (omega (arith, s.under.place, s.under.few)) l g }
 
   ending : (h : i < length t) → get_or t i 0 < 128 → 0 < get_or t i 0 → s.value + digit s.taken (get_or t i 0) < 2 ^ base.bits → Ends t at Number (i + 1)
-  ending h l g w = reaches (omega arith) (stretch_as (under_value s.under h l g) (λ bs q. (s.value + digit s.taken (get_or t i 0), w, q)))
+  ending h l g w = ends_as (under_value s.under h l g) (λ bs q. (s.value + digit s.taken (get_or t i 0), w, q))
 
-  pub going_ends : i < length t → get_or t i 0 < 128 → (get_or t i 0 ≡ 0 → ⊥) → i - at < last_byte base → Ends t at Number (i + 1)
-  going_ends h l g f = ending h l (omega arith) (within base s.taken s.value (get_or t i 0) s.under.small (omega (arith, s.under.place)))
+  -- 0 is the last byte of nothing but the varint of 0
+  pub going_ends : i < length t → get_or t i 0 < 128 → (i - at ≡ last_byte base → ⊥) → (get_or t i 0 ≡ 0 → ⊥) → Ends t at Number (i + 1)
+  going_ends h l f g = ending h l (omega arith) (within base s.taken s.value (get_or t i 0) s.under.small (omega (arith, s.under.place, s.under.few)))
 
-  pub going_last : i < length t → get_or t i 0 ≡ 1 → last_byte base ≤ i - at → Ends t at Number (i + 1)
+  pub going_one : i < length t → get_or t i 0 < 128 → i ≤ at → Ends t at Number (i + 1)
+  going_one h l g = let e : i ≡ at = omega (arith, s.under.place) in subst (λ (j : ℕ). Ends t j Number (i + 1)) e (one_ends t i h l)
+
+  pub going_last : i < length t → get_or t i 0 ≡ 1 → i - at ≡ last_byte base → Ends t at Number (i + 1)
   going_last h e f =
       ending h (omega arith) (omega arith)
-      (within_last base s.taken s.value (get_or t i 0) s.under.small (omega (arith, s.under.place, s.under.few)) (omega arith))
+      (within_last base s.taken s.value (get_or t i 0) s.under.small (omega (arith, s.under.place)) (omega arith))

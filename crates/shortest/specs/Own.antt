@@ -1,9 +1,8 @@
--- Bytes that are whole fields, or an array's elements, in their shortest form; and what an answer says of the bytes before the place that
--- it names.
-use Rattle.std.specs.Prelude.{ℕ, ◌^◌, ◌≤◌, ◌<◌, ◌≡◌, List, ◌++◌, length, drop}
+-- Bytes that are whole fields, or an array's elements, in their shortest form; and what a place says of the bytes before it.
+use Rattle.std.specs.Prelude.{ℕ, ◌+◌, ◌*◌, ◌^◌, ◌≤◌, ◌<◌, ◌≡◌, List, ◌++◌, length, drop}
 use Rattle.layout.specs.Limits.{Limits, base}
 use Rattle.layout.specs.Varint.{shortest}
-use Rattle.layout.specs.Field.{Wire, Field, header, each}
+use Rattle.layout.specs.Field.{Width, Wire, Field, bytes_of, float, subtype_number, header, each}
 use Rattle.layout.specs.Copy.{encode}
 use Rattle.layout.specs.Message.{All}
 use Rattle.laws.specs.Legal.{Legal, Balanced}
@@ -30,13 +29,15 @@ Number bs = (v : ℕ) × (v < 2 ^ base.bits) × (bs ≡ shortest v)
 abbrev pub Body : Wire → List ℕ → Type 0
 Body w bs = (id d : ℕ) → id ≤ base.id → OwnFields base d (header id w ++ bs) d
 
--- the bytes of t from one place to another are such
-pub record Stretch (t : List ℕ) (at i : ℕ) (P : List ℕ → Type 0) : Type 0 where
+-- the bytes of t from one place up to another in it are such
+pub record Ends (t : List ℕ) (at : ℕ) (P : List ℕ → Type 0) (i : ℕ) : Type 0 where
+  pub inside : i ≤ length t
   pub bytes : List ℕ
   pub split : drop at t ≡ bytes ++ drop i t
   pub good : P bytes
 
--- an answer: the place after such bytes, or 0
-pub record Ends (t : List ℕ) (at : ℕ) (P : List ℕ → Type 0) (r : ℕ) : Type 0 where
-  pub inside : r ≤ length t
-  pub found : 0 < r → Stretch t at r P
+-- the word of a float of n bytes
+pub record FloatWord (word n : ℕ) : Type 0 where
+  pub width : Width
+  pub long : n ≡ bytes_of width
+  pub says : word ≡ bytes_of width * 8 + subtype_number (float width)

@@ -168,12 +168,9 @@ fn one_turn(reader: IStream, pos: usize, rest: &[u8], buf: &mut [u8]) -> Turn
         return piece(reader, id, r, total, offset, pos, rest, buf);
     }
     let m = rest.len().min(buf.len() - pos);
-    let block = as_is(reader, &rest[..m]);
-    let n = block.len;
-    if 0 < n {
-        let next = block.reader;
-        let end = put_rest(buf, pos, &rest[..n], 0);
-        return Turn::On(next, n, end);
+    if let Some(block) = as_is(reader, &rest[..m]) {
+        let end = put_rest(buf, pos, &rest[..block.len], 0);
+        return Turn::On(block.reader, block.len, end);
     }
     heard(
         reader.carried.depth,

@@ -3,8 +3,6 @@
 #![tactic(auto)]
 
 ghost use Rattle.std.specs.Prelude.{◌≡◌, ◌+◌, ◌*◌, ◌%◌, ◌<◌, ◌≤◌, length};
-ghost use Rattle.std.specs.Int.{w64};
-ghost use Rattle.std.proofs.Common.{of_z};
 ghost use Rattle.layout.specs.Limits.{base};
 ghost use Rattle.layout.specs.Varint.{digit, shortest};
 ghost use Rattle.layout.specs.Zigzag.{zigzag, unzigzag};
@@ -35,7 +33,7 @@ fn payload_at(b: u8, k: u8) -> u64
     requires { k ≤ 8 }
     ensures { result ≡ digit k b }
 {
-    ((b & 0x7f) as u64) << (k * 7)
+    u64::from(b & 0x7f) << (k * 7)
 }
 
 impl Acc {
@@ -49,12 +47,7 @@ impl Acc {
     pub fn sound(self) -> bool
         ensures { result ≡ sound_acc base self }
     {
-        let taken = self.taken;
-        let value = self.value;
-        if LAST_BYTE < taken {
-            return false;
-        }
-        value >> (taken * 7) == 0
+        self.taken <= LAST_BYTE && self.value >> (self.taken * 7) == 0
     }
 
     // Every way past 64 bits lies at the tenth byte: bit 7 set, or a payload above 1. No state is tested: one that no bytes can have made
@@ -62,10 +55,9 @@ impl Acc {
     pub fn push(self, b: u8) -> Push
         ensures { result ≡ pushed base self b }
     {
-        let taken = self.taken;
-        let held = self.value;
+        let Acc { value, taken } = self;
         if taken < LAST_BYTE {
-            let value = held | payload_at(b, taken);
+            let value = value | payload_at(b, taken);
             if b < 128 {
                 Push::Value(value)
             } else {
@@ -74,36 +66,26 @@ impl Acc {
                     taken: taken + 1,
                 })
             }
+        } else if 1 < b {
+            Push::Overlong
         } else {
-            if 1 < b {
-                Push::Overlong
-            } else {
-                Push::Value(held | ((b as u64) << 63))
-            }
+            Push::Value(value | u64::from(b) << 63)
         }
     }
-}
-
-// The two's complement bits of v.
-fn bits(v: i64) -> u64
-    ensures { result ≡ of_z w64 v }
-{
-    if v < 0 { !((!v) as u64) } else { v as u64 }
 }
 
 // Doubling wraps, so that the lowest value is no special case; below 0 every bit is flipped.
 pub fn zigzag_encode(v: i64) -> u64
     ensures { result ≡ zigzag v }
 {
-    let b = bits(v);
-    let doubled = std::num::wrapping_add_u64(b, b);
+    let doubled = v.cast_unsigned().wrapping_mul(2);
     if v < 0 { !doubled } else { doubled }
 }
 
 pub fn zigzag_decode(u: u64) -> i64
     ensures { result ≡ unzigzag u }
 {
-    let half = (u >> 1) as i64;
+    let half = (u >> 1).cast_signed();
     if u % 2 == 0 { half } else { !half }
 }
 
@@ -111,7 +93,7 @@ pub fn zigzag_decode(u: u64) -> i64
 pub fn varint_len(v: u64) -> usize
     ensures { result ≡ length (shortest v) }
 {
-    let zeros = u64::leading_zeros(v | 1);
+    let zeros = (v | 1).leading_zeros();
     ((70 - zeros) / 7) as usize
 }
 
@@ -119,11 +101,9 @@ pub fn varint_len(v: u64) -> usize
 pub fn width(v: u64) -> usize
     ensures { result ≡ length (shortest v) }
 {
-    if v < 128 {
-        return 1;
+    match v {
+        0..128 => 1,
+        128..16384 => 2,
+        _ => varint_len(v),
     }
-    if v < 16384 {
-        return 2;
-    }
-    varint_len(v)
 }

@@ -1,14 +1,9 @@
--- `event::fp32_bits` meets its contract: a float that differs from itself is a NaN.
-use mathlib.Core.Path.{sym, ap, subst}
-use lib.Dec.{T}
+-- `event::fp32_bits` meets its contract: every NaN has the same bits.
+use mathlib.Core.Path.{sym, ◌∙◌}
 use lib.Ieee.{binary32, to_bits}
-use lib.Ieee.Compare.{differs_from_itself}
-use Rattle.event.proofs.Bits.{equals_itself}
+use Rattle.event.proofs.Bits.{bits_of_nan}
 use Rattle.event.proofs.fp32_bits.Goals as goal
 
-pub float_to_bits-result : goal.float_to_bits-result
-float_to_bits-result c = equals_itself c.args.x c.if-x.false
-
-pub returns-then-x : goal.returns-then-x
+pub returns-then-is_nan : goal.returns-then-is_nan
 unfolding to_bits
-returns-then-x c = sym (ap (to_bits binary32) (differs_from_itself c.args.x (subst T (sym c.if-x.true) tt)))
+returns-then-is_nan c = bits_of_nan binary32 c.args.x (sym c.is_nan.ensures.value ∙ c.if-is_nan.true)

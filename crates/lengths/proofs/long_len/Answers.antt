@@ -5,10 +5,10 @@ use Rattle.lengths.proofs.Answers.{own_past, own_sizes}
 use Rattle.lengths.proofs.long_len.Goals as goal
 
 pub overflow_sub-result : goal.overflow_sub-result
-overflow_sub-result c = (own_past c.requires.0 c.long_number_at-end.ensures c.if-end-gt0.true).0
+overflow_sub-result c = (own_past c.requires.0 c.in-Some.ensures).0
 
 pub overflow_add-result : goal.overflow_add-result
-overflow_add-result c = omega (arith, c.requires.1, own_past c.requires.0 c.long_number_at-end.ensures c.if-end-gt0.true, c.well_formed.0.0)
+overflow_add-result c = omega (arith, c.requires.1, own_past c.requires.0 c.in-Some.ensures, c.well_formed.0.0)
 
-pub returns-then-end-gt0 : goal.returns-then-end-gt0
-returns-then-end-gt0 c = own_sizes c.requires c.long_number_at-end.ensures c.if-end-gt0.true refl
+pub returns-in-Some : goal.returns-in-Some
+returns-in-Some c = own_sizes c.requires c.in-Some.ensures refl

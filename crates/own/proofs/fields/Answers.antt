@@ -1,19 +1,13 @@
 -- `own::fields` meets its contract: whole fields in their shortest form stand from the start to the place reached.
-use Prim.Native.Nat.{◌-◌}
-use Rattle.shortest.proofs.Spans.{stretch_take}
-use Rattle.own.proofs.Parts.{ran_start, ran_next}
+use native.Mathlib.Omega.{arith}
+use Rattle.layout.specs.Limits.{base}
+use Rattle.shortest.proofs.Spans.{here}
+use Rattle.own.proofs.Runs.{fields_none}
+use Rattle.own.proofs.Parts.{ran_next}
 use Rattle.own.proofs.fields.Goals as goal
 
-pub loop-at-init : goal.loop-at-init
-loop-at-init c = ran_start _ _
+pub loop-next-init : goal.loop-next-init
+loop-next-init c = here 0 (omega arith) (fields_none base _)
 
-pub returns-then-i-at : goal.returns-then-i-at
-returns-then-i-at c =
-    (c.loop-at.invariant.0, stretch_take _ c.loop-at.invariant.1 c.loop-at.invariant.0)
-
-pub loop-at-preserved : goal.loop-at-preserved
-loop-at-preserved c = ran_next c.loop-at.invariant c.if-i-at.false c.field_at-next.ensures
-
-pub returns : goal.returns
-returns c =
-    (c.loop-at.invariant.0, stretch_take _ c.loop-at.invariant.1 c.loop-at.invariant.0)
+pub loop-next-preserved : goal.loop-next-preserved
+loop-next-preserved c = ran_next c.loop-next.invariant c.in-Some.ensures.1

@@ -1,30 +1,16 @@
 -- `own::long_value_at` meets its contract: the bytes so far go on, and any number above 0 may follow them.
-use Prim.Native.Nat.{◌-◌}
-use mathlib.Core.Path.{sym, ◌∙◌}
-use Rattle.shortest.proofs.Spans.{none}
-use Rattle.own.proofs.Values.{coming_start, coming_more, coming_value, coming_one}
+use mathlib.Core.Path.{sym}
+use native.Mathlib.Omega.{arith}
+use Rattle.own.proofs.Values.{coming_more, coming_value, coming_one}
 use Rattle.own.proofs.long_value_at.Goals as goal
-
-pub loop-i-init : goal.loop-i-init
-loop-i-init c = coming_start _ _ _ c.new-acc.ensures
+use Rattle.own.proofs.long_value_at.Goals.{else-t-i-eq0-via-then-t-i-eq0+else-at-i, else-t-i-eq0-via-else-t-i-eq0}
 
 pub loop-i-preserved : goal.loop-i-preserved
-loop-i-preserved c =
-    coming_more c.loop-i.invariant c.loop-i-test.true _ (c.shared_slice_known-in-loop-i-1.given _).fits (sym c.push-p.ensures ∙ c.in-More.is)
+loop-i-preserved c = coming_more c.loop-i.invariant c.loop-i-test.true _ (c.type_inv.t _).fits (sym c.in-More.ensures)
 
-pub returns-then-i-at : goal.returns-then-i-at
-returns-then-i-at c =
-    coming_one c.loop-i.invariant c.loop-i-test.true _ (sym c.push-p.ensures ∙ c.in-Value.is) c.if-i-at.true
-
-pub returns-then-b-gt0 : goal.returns-then-b-gt0
-returns-then-b-gt0 c =
-    coming_value c.loop-i.invariant c.loop-i-test.true _ (sym c.push-p.ensures ∙ c.in-Value.is) c.if-b-gt0.true
-
-pub returns-in-Value : goal.returns-in-Value
-returns-in-Value c = none
-
-pub returns-in-Overlong : goal.returns-in-Overlong
-returns-in-Overlong c = none
-
-pub returns : goal.returns
-returns c = none
+pub returns-else-t-i-eq0 : goal.returns-else-t-i-eq0
+returns-else-t-i-eq0 c =
+    elim c.else-t-i-eq0.branch [
+      | else-t-i-eq0-via-then-t-i-eq0+else-at-i w ↦ coming_one c.loop-i.invariant c.loop-i-test.true _ (sym c.in-Value.ensures) (omega arith)
+      | else-t-i-eq0-via-else-t-i-eq0 w ↦ coming_value c.loop-i.invariant c.loop-i-test.true _ (sym c.in-Value.ensures) (omega (arith, w.if-t-i-eq0.false))
+    ]

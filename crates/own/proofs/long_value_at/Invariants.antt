@@ -1,11 +1,6 @@
 -- `own::long_value_at` meets its contract: the bytes so far go on, and any number above 0 may follow them.
-use Prim.Native.Nat.{◌-◌}
-use lib.ListN.{length}
 use Rattle.own.proofs.Values.{Coming}
 use Rattle.own.proofs.long_value_at.Given as goal
 
 abbrev pub invariant-loop-i : goal.invariant-loop-i
 invariant-loop-i l = Coming l.t l.at l.i l.acc
-
-abbrev pub decreases-loop-i : goal.decreases-loop-i
-decreases-loop-i l = length l.t - l.i

@@ -1,11 +1,13 @@
 -- `own::number_at` meets its contract.
-use mathlib.Core.Path.{refl}
-use Rattle.shortest.proofs.Varints.{one_ends, two_ends}
+use native.Mathlib.Omega.{arith}
+use Rattle.shortest.proofs.Spans.{ends_as}
+use Rattle.own.proofs.Parts.{got_one, got_two}
 use Rattle.own.proofs.number_at.Goals as goal
 
-pub returns-then-t-at-lt128 : goal.returns-then-t-at-lt128
-returns-then-t-at-lt128 c = one_ends _ _ _ refl c.if-at-t.true c.if-t-at-lt128.true
-
 pub returns-then-b-lt128 : goal.returns-then-b-lt128
-returns-then-b-lt128 c =
-    two_ends _ _ c.if-t-at-lt128.false (c.shared_slice_known-then-at-t-1.given _).fits c.if-at-t-2.true c.if-b-gt0.true c.if-b-lt128.true
+returns-then-b-lt128 c = ends_as (got_one c.in_ok-b.ensures.lookup.3 c.if-b-lt128.true) (λ bs q. (_, omega arith, q))
+
+pub returns-in-Some-1-to-127 : goal.returns-in-Some-1-to-127
+returns-in-Some-1-to-127 c =
+    ends_as (got_two (λ k. (c.type_inv.t k).fits) c.in_ok-b.ensures.lookup.3 c.in-Some-1-to-127.ensures.lookup.3 c.if-b-lt128.false (omega arith) (omega arith))
+    (λ bs q. (_, omega arith, q))

@@ -1,16 +1,12 @@
 -- `own::smalls_at` meets its contract: small scalars stand from the start to the place reached.
-use Prim.Native.Nat.{◌-◌}
-use Rattle.own.proofs.Parts.{smalls_start, smalls_next}
+use Rattle.layout.specs.Limits.{base}
+use Rattle.shortest.proofs.Spans.{here}
+use Rattle.own.proofs.Runs.{fields_none}
+use Rattle.own.proofs.Parts.{smalls_next, small_ends}
 use Rattle.own.proofs.smalls_at.Goals as goal
 
-pub loop-i-init : goal.loop-i-init
-loop-i-init c = smalls_start _ _ c.requires
+pub loop-end-init : goal.loop-end-init
+loop-end-init c = here _ c.requires (λ d. fields_none base d)
 
-pub returns-then-j-i : goal.returns-then-j-i
-returns-then-j-i c = c.loop-i.invariant
-
-pub loop-i-preserved : goal.loop-i-preserved
-loop-i-preserved c = smalls_next c.loop-i.invariant c.if-j-i.false c.small_at-j.ensures
-
-pub returns : goal.returns
-returns c = c.loop-i.invariant
+pub loop-end-preserved : goal.loop-end-preserved
+loop-end-preserved c = smalls_next c.loop-end.invariant (small_ends _ _ c.loop-end-test.true c.if-t-end-lt128.true c.if-t-end-lt2.true c.if-t-end-lt128-2.true)

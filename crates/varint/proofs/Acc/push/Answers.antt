@@ -1,5 +1,5 @@
 -- `varint::Acc::push` meets its contract: its four ways out are the four cases of its definition.
-use Rattle.std.proofs.Common.{ℕ, ◌+◌, ap, ◌∙◌, arith}
+use Rattle.std.proofs.Common.{ℕ, ◌+◌, ◌*◌, ◌%◌, ◌^◌, ap, ◌∙◌, arith}
 use lib.Bits.{bit_or}
 use Rattle.layout.specs.Limits.{base}
 use Rattle.varint.specs.declared.Push.TheVariants.{More, Value}
@@ -22,5 +22,5 @@ returns-then-b-gt1 c =
 
 pub returns-else-b-gt1 : goal.returns-else-b-gt1
 returns-else-b-gt1 c =
-    ap (λ (d : ℕ). Value (bit_or c.args.self.value d)) (last_digit c.args.b (omega (arith, c.if-b-gt1.false)))
+    ap (λ (d : ℕ). Value (bit_or c.args.self.value d)) (ap (λ (x : ℕ). x * 2 ^ 63 % 2 ^ 64) c.from.ensures ∙ last_digit c.args.b (omega (arith, c.if-b-gt1.false)))
     ∙ pushed_last base c.args.self c.args.b c.if-taken-lt-LAST_BYTE.false (omega (arith, c.if-b-gt1.false))

@@ -6,7 +6,7 @@ ghost use Rattle.layout.specs.Field.{fp32, fp64};
 ghost use Rattle.ostream.specs.Emission.{result_of, written};
 ghost use Rattle.ostream.specs.Calls.{unsigned_array_call, signed_array_call, float_array_call};
 
-use crate::{Answer, OStream, Written};
+use crate::{OStream, Written};
 use write_at_once::{signeds_at_once, unsigneds_at_once};
 use write_slowly::{
     fp32_array, fp32_bits_array, fp64_array, fp64_bits_array, signed_array, unsigned_array,
@@ -23,28 +23,19 @@ impl OStream {
     ) -> Written
         ensures { result_of result buf.new ≡ written (unsigned_array_call self (length buf.old) id items.now) self buf.old place }
     {
-        if 0 < place {
-            return self
-                .rebuilt()
-                .write_array_unsigned_slowly(buf, id, items, place)
-                .rebuilt();
-        }
-        let places = self.pending;
-        let end = unsigneds_at_once(
-            buf,
-            self.offset,
-            self.depth,
-            self.npending,
-            places,
-            id,
-            items,
-        );
-        if self.offset < end {
-            self.offset = end;
-            return Written {
-                answer: Ok(Answer::Done),
-                stream: self,
-            };
+        if place == 0 {
+            let end = unsigneds_at_once(
+                buf,
+                self.offset,
+                self.depth,
+                self.npending,
+                self.pending,
+                id,
+                items,
+            );
+            if self.offset < end {
+                return self.done(end);
+            }
         }
         self.rebuilt()
             .write_array_unsigned_slowly(buf, id, items, place)
@@ -52,6 +43,7 @@ impl OStream {
     }
 
     // The slow form of `write_array_unsigned`, from any state and place.
+    #[inline(never)]
     fn write_array_unsigned_slowly(
         self,
         buf: &mut [u8],
@@ -86,28 +78,19 @@ impl OStream {
     ) -> Written
         ensures { result_of result buf.new ≡ written (signed_array_call self (length buf.old) id items.now) self buf.old place }
     {
-        if 0 < place {
-            return self
-                .rebuilt()
-                .write_array_signed_slowly(buf, id, items, place)
-                .rebuilt();
-        }
-        let places = self.pending;
-        let end = signeds_at_once(
-            buf,
-            self.offset,
-            self.depth,
-            self.npending,
-            places,
-            id,
-            items,
-        );
-        if self.offset < end {
-            self.offset = end;
-            return Written {
-                answer: Ok(Answer::Done),
-                stream: self,
-            };
+        if place == 0 {
+            let end = signeds_at_once(
+                buf,
+                self.offset,
+                self.depth,
+                self.npending,
+                self.pending,
+                id,
+                items,
+            );
+            if self.offset < end {
+                return self.done(end);
+            }
         }
         self.rebuilt()
             .write_array_signed_slowly(buf, id, items, place)
@@ -115,6 +98,7 @@ impl OStream {
     }
 
     // The slow form of `write_array_signed`, from any state and place.
+    #[inline(never)]
     fn write_array_signed_slowly(
         self,
         buf: &mut [u8],

@@ -57,9 +57,20 @@ impl Written {
     fn rebuilt(self) -> Written
         ensures { result ≡ self }
     {
-        Written {
-            answer: self.answer,
-            stream: self.stream.rebuilt(),
+        let stream = self.stream.rebuilt();
+        match self.answer {
+            Ok(Answer::Done) => Written {
+                answer: Ok(Answer::Done),
+                stream,
+            },
+            Ok(Answer::Full(out)) => Written {
+                answer: Ok(Answer::Full(out)),
+                stream,
+            },
+            Err(e) => Written {
+                answer: Err(e),
+                stream,
+            },
         }
     }
 }

@@ -17,6 +17,7 @@ use Rattle.ostream.specs.declared.OStream.{OStream}
 use Rattle.ostream.specs.declared.Answer.TheVariants.{Done}
 use Rattle.ostream.specs.declared.Written.{Written}
 use Rattle.ostream.specs.Stream.{every, sound_stream, lazy_depth, held_bytes, at}
+use Rattle.ostream.specs.Private.{through_to}
 use Rattle.ostream.specs.Calls.{unsound, id_too_large, array_too_long, field_tests}
 use Rattle.ostream.specs.Emission.{Call, accepted, judged, result_of, written}
 use Rattle.ostream.proofs.Calls.{both, none_held, settles}
@@ -102,11 +103,11 @@ abbrev pub Serves : Bool → Call → List ℕ → OStream → Type 0
 Serves t k o next = t ≡ true → (judged k.tests ≡ accepted) × (o ≡ k.output) × (next ≡ k.done)
 
 -- a call whose output goes at once
-pub goes_at_once : (k : Call) (s : OStream) (b o : List ℕ) (place end : ℕ) (b' : List ℕ) (next : OStream) (t : Bool) → PutsWhole t b s.offset o b' end → s.offset < end → place ≡ 0 → Serves t k o next → result_of (record { answer = Ok Done; stream = at next end }) b' ≡ written k s b place
-goes_at_once k s b o place end b' next t w h z serves =
+pub goes_at_once : (k : Call) (s : OStream) (b o : List ℕ) (place end : ℕ) (b' : List ℕ) (next : OStream) (t : Bool) (r : Written) → PutsWhole t b s.offset o b' end → s.offset < end → place ≡ 0 → Serves t k o next → r ≡ through_to next end → result_of r b' ≡ written k s b place
+goes_at_once k s b o place end b' next t r w h z serves e =
     let g = went t b s.offset o b' end w h in
     let q = serves g.0 in
-    settles k s b place _ o next _ b' q.1 q.2 q.0 (at_once s.offset b o place end b' z g.2 g.1) refl
+    settles k s b place _ o next _ b' q.1 q.2 q.0 (at_once s.offset b o place end b' z g.2 g.1) e
 
 -- a call that is left to another of the same statement, with the state rebuilt and the buffer unaltered
 pub by_slow_form : (k : OStream → ℕ → Call) (s s' : OStream) (b b0 : List ℕ) (place : ℕ) (r r' : Written) (b' : List ℕ) → s' ≡ s → b0 ≡ b → r' ≡ r

@@ -19,9 +19,13 @@ Clears s (Ok (Through end)) = s.npending ≤ lazy_depth
 Clears s (Ok (Full out)) = Unit {0}
 Clears s (Err e) = Unit {0}
 
+-- the answer and the state where all is out, up to a position
+abbrev pub through_to : OStream → ℕ → Written
+through_to next end = record { answer = Ok Answers.Done; stream = at next end }
+
 -- the answer and the state by what a call comes to, where `next` is the state once all is out
 abbrev pub settled : OStream → ℕ → OStream → Result Reach Error → Written
-settled s size next (Ok (Through end)) = record { answer = Ok Answers.Done; stream = at next end }
+settled s size next (Ok (Through end)) = through_to next end
 settled s size next (Ok (Full out)) = record { answer = Ok (Answers.Full out); stream = at s size }
 settled s size next (Err e) = refused s e
 

@@ -7,7 +7,7 @@ ghost use Rattle.layout.specs.Copy.{field_bytes};
 ghost use Rattle.ostream.specs.Emission.{result_of, written};
 ghost use Rattle.ostream.specs.Calls.{array_call, unsigned_array_call, signed_array_call, float_array_call};
 
-use crate::{Answer, OStream, Written};
+use crate::{OStream, Written};
 use elements::Integer;
 use floats::Float;
 use write_at_once::integers_at_once;
@@ -76,7 +76,7 @@ impl OStream {
 
     // An array of integers.
     fn write_integers<T: Integer>(
-        mut self,
+        self,
         buf: &mut [u8],
         id: u32,
         items: &[T],
@@ -84,28 +84,19 @@ impl OStream {
     ) -> Written
         ensures { result_of result buf.new ≡ written (array_call self (length buf.old) id (length items.now) (field_bytes (T.array id items.now))) self buf.old place }
     {
-        if 0 < place {
-            return self
-                .rebuilt()
-                .write_integers_slowly(buf, id, items, place)
-                .rebuilt();
-        }
-        let places = self.pending;
-        let end = integers_at_once(
-            buf,
-            self.offset,
-            self.depth,
-            self.npending,
-            places,
-            id,
-            items,
-        );
-        if self.offset < end {
-            self.offset = end;
-            return Written {
-                answer: Ok(Answer::Done),
-                stream: self,
-            };
+        if place == 0 {
+            let end = integers_at_once(
+                buf,
+                self.offset,
+                self.depth,
+                self.npending,
+                self.pending,
+                id,
+                items,
+            );
+            if self.offset < end {
+                return self.done(end);
+            }
         }
         self.rebuilt()
             .write_integers_slowly(buf, id, items, place)
@@ -113,6 +104,7 @@ impl OStream {
     }
 
     // The slow form of `write_integers`, from any state and place.
+    #[inline(never)]
     fn write_integers_slowly<T: Integer>(
         self,
         buf: &mut [u8],

@@ -6,7 +6,7 @@ ghost use Rattle.layout.specs.Field.{fp32, fp64, string, blob};
 ghost use Rattle.ostream.specs.Emission.{result_of, written};
 ghost use Rattle.ostream.specs.Calls.{raw_call, fixlen_call, float_call, payload_call};
 
-use crate::{Answer, OStream, Written};
+use crate::{OStream, Written};
 use checks::check_fixlen;
 use event::{fp32_bits, fp64_bits};
 use fields::{le32, le64};
@@ -26,29 +26,20 @@ impl OStream {
     ) -> Written
         ensures { result_of result buf.new ≡ written (raw_call self (length buf.old) id bytes.now subtype) self buf.old place }
     {
-        if 0 < place {
-            return self
-                .rebuilt()
-                .write_fixlen_slowly(buf, id, bytes, subtype, place)
-                .rebuilt();
-        }
-        let places = self.pending;
-        let end = field_at_once(
-            buf,
-            self.offset,
-            self.depth,
-            self.npending,
-            places,
-            id,
-            subtype,
-            bytes,
-        );
-        if self.offset < end {
-            self.offset = end;
-            return Written {
-                answer: Ok(Answer::Done),
-                stream: self,
-            };
+        if place == 0 {
+            let end = field_at_once(
+                buf,
+                self.offset,
+                self.depth,
+                self.npending,
+                self.pending,
+                id,
+                subtype,
+                bytes,
+            );
+            if self.offset < end {
+                return self.done(end);
+            }
         }
         self.rebuilt()
             .write_fixlen_slowly(buf, id, bytes, subtype, place)
@@ -56,6 +47,7 @@ impl OStream {
     }
 
     // The slow form of `write_fixlen_raw`, from any state and place.
+    #[inline(never)]
     fn write_fixlen_slowly(
         self,
         buf: &mut [u8],
@@ -66,13 +58,19 @@ impl OStream {
     ) -> Written
         ensures { result_of result buf.new ≡ written (raw_call self (length buf.old) id bytes.now subtype) self buf.old place }
     {
-        let s = self.rebuilt();
         let size = buf.len();
-        let places = s.pending;
         let outcome = fixlen_field(
-            buf, s.offset, s.depth, s.npending, places, id, bytes, subtype, place,
+            buf,
+            self.offset,
+            self.depth,
+            self.npending,
+            self.pending,
+            id,
+            bytes,
+            subtype,
+            place,
         );
-        s.settle(size, outcome, s.depth)
+        self.settle(size, outcome, self.depth)
     }
 
     // A fixed-length field of any subtype but a string's, which has a call of its own.

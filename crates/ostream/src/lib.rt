@@ -11,7 +11,7 @@ mod sequence;
 
 ghost use Rattle.std.specs.Prelude.{◌≡◌, ◌≤◌, true, false, length};
 ghost use Rattle.ostream.specs.Stream.{lazy_depth, sound_stream, committed, opened};
-ghost use Rattle.ostream.specs.Private.{Clears, settled, unwritten, counted_at};
+ghost use Rattle.ostream.specs.Private.{Clears, through_to, settled, unwritten, counted_at};
 ghost use Rattle.ostream.specs.Emission.{refused};
 ghost use Rattle.ostream.specs.Buffer.{opening, draining, changing};
 
@@ -53,15 +53,24 @@ pub struct Counted {
 }
 
 impl Written {
-    // What a call comes to, rebuilt from its fields (docs/PERFORMANCE.md).
+    // What a call comes to, rebuilt from its fields: handed on whole it would stay in memory.
     fn rebuilt(self) -> Written
         ensures { result ≡ self }
     {
-        let answer = self.answer;
-        let stream = self.stream;
-        Written {
-            answer,
-            stream: stream.rebuilt(),
+        let stream = self.stream.rebuilt();
+        match self.answer {
+            Ok(Answer::Done) => Written {
+                answer: Ok(Answer::Done),
+                stream,
+            },
+            Ok(Answer::Full(out)) => Written {
+                answer: Ok(Answer::Full(out)),
+                stream,
+            },
+            Err(e) => Written {
+                answer: Err(e),
+                stream,
+            },
         }
     }
 }
@@ -69,7 +78,7 @@ impl Written {
 impl OStream {
     // ---- states and answers
 
-    // The state, rebuilt from its fields, likewise.
+    // The state, rebuilt from its fields, likewise (docs/PERFORMANCE.md).
     fn rebuilt(self) -> OStream
         ensures { result ≡ self }
     {
@@ -132,12 +141,8 @@ impl OStream {
     {
         match outcome {
             Ok(Reach::Through(end)) => {
-                let mut next = self.commit(depth);
-                next.offset = end;
-                Written {
-                    answer: Ok(Answer::Done),
-                    stream: next,
-                }
+                let next = self.commit(depth);
+                next.done(end)
             }
             Ok(Reach::Full(out)) => {
                 self.offset = size;
@@ -147,6 +152,17 @@ impl OStream {
                 }
             }
             Err(e) => self.refuse(e),
+        }
+    }
+
+    // The answer of a call whose bytes are all out, up to a position, and that holds nothing.
+    fn done(mut self, end: usize) -> Written
+        ensures { result ≡ through_to self end }
+    {
+        self.offset = end;
+        Written {
+            answer: Ok(Answer::Done),
+            stream: self,
         }
     }
 

@@ -85,23 +85,26 @@ impl OStream {
     pub fn write_sequence_end(mut self, buf: &mut [u8], place: usize) -> Written
         ensures { result_of result buf.new ≡ written (end_call self (length buf.old)) self buf.old place }
     {
-        if 0 < place {
-            return self.rebuilt().end_slowly(buf, place).rebuilt();
+        if place == 0 {
+            let end = close_at_once(
+                buf,
+                self.offset,
+                self.depth,
+                self.npending,
+                self.pending,
+            );
+            if self.offset < end {
+                self.depth = self.depth - 1;
+                return self.done(end);
+            }
         }
-        let places = self.pending;
-        let end = close_at_once(buf, self.offset, self.depth, self.npending, places);
-        if self.offset < end {
-            self.offset = end;
-            self.depth = self.depth - 1;
-            return Written {
-                answer: Ok(Answer::Done),
-                stream: self,
-            };
-        }
-        self.rebuilt().end_slowly(buf, place).rebuilt()
+        self.rebuilt()
+            .end_slowly(buf, place)
+            .rebuilt()
     }
 
     // The slow form of `write_sequence_end`, from any state and place.
+    #[inline(never)]
     fn end_slowly(self, buf: &mut [u8], place: usize) -> Written
         ensures { result_of result buf.new ≡ written (end_call self (length buf.old)) self buf.old place }
     {

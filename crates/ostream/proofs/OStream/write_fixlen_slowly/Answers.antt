@@ -6,15 +6,13 @@ use Rattle.types.specs.Types.{subtype}
 use Rattle.ostream.specs.Stream.{held_bytes}
 use Rattle.ostream.specs.Calls.{payload_too_long, raw_call, fixlen_bytes}
 use Rattle.ostream.proofs.Calls.{field_clears, goes}
-use Rattle.ostream.proofs.AtOnce.{by_slow_form}
 use Rattle.ostream.proofs.OStream.write_fixlen_slowly.Goals as goal
 
 pub settle-requires : goal.settle-requires
 settle-requires c =
-    field_clears (c.rebuilt-s.result) c.args.buf.now c.args.id (payload_too_long (length c.args.bytes.now) ∷ []) (fixlen_bytes c.args.id (subtype c.args.subtype) c.args.bytes.now) c.args.place _ _ c.fixlen_field-outcome.ensures
+    field_clears c.args.self c.args.buf.now c.args.id (payload_too_long (length c.args.bytes.now) ∷ []) (fixlen_bytes c.args.id (subtype c.args.subtype) c.args.bytes.now) c.args.place _ _ c.fixlen_field-outcome.ensures
 
 pub returns : goal.returns
 unfolding held_bytes
 returns c =
-    by_slow_form (λ s n. raw_call s n c.args.id c.args.bytes.now c.args.subtype) c.args.self (c.rebuilt-s.result) c.args.buf.now c.args.buf.now c.args.place _ _ _ c.rebuilt-s.ensures refl refl
-    (goes (c.rebuilt-s.result) c.args.buf.now c.args.id (payload_too_long (length c.args.bytes.now) ∷ []) (fixlen_bytes c.args.id (subtype c.args.subtype) c.args.bytes.now) c.args.place _ _ c.fixlen_field-outcome.ensures _ _ refl refl refl c.settle.ensures)
+    goes c.args.self c.args.buf.now c.args.id (payload_too_long (length c.args.bytes.now) ∷ []) (fixlen_bytes c.args.id (subtype c.args.subtype) c.args.bytes.now) c.args.place _ _ c.fixlen_field-outcome.ensures _ _ refl refl refl c.settle.ensures

@@ -1,6 +1,6 @@
 -- `ostream::OStream::write_sequence_end`: at once from a state that holds nothing, and otherwise left to the slow form.
 use Prim.Native.Nat.{◌-◌, ◌<◌}
-use mathlib.Core.Path.{◌≡◌, refl, sym}
+use mathlib.Core.Path.{◌∙◌, ◌≡◌, refl, sym}
 use mathlib.Core.List.{[], ◌∷◌}
 use mathlib.Core.Bool.{true}
 use borrow.Author.Tests.{eq-eqb, ne_eqb, ltb-true}
@@ -14,10 +14,7 @@ use Rattle.ostream.specs.Calls.{end_call}
 use Rattle.ostream.proofs.Calls.{both, committed-none}
 use Rattle.ostream.proofs.AtOnce.{closes_easy, quiet, goes_at_once, by_slow_form}
 use Rattle.ostream.proofs.OStream.write_sequence_end.Goals as goal
-
-pub returns-then-place-gt0 : goal.returns-then-place-gt0
-returns-then-place-gt0 c =
-    by_slow_form (λ s n. end_call s n) c.args.self _ c.args.buf.now c.args.buf.now c.args.place _ _ _ c.rebuilt.ensures refl c.rebuilt-then-place-gt0.ensures c.end_slowly.ensures
+use Rattle.ostream.proofs.OStream.write_sequence_end.Goals.{then-place-eq0+else-self-end, else-place-eq0}
 
 pub overflow_sub-self : goal.overflow_sub-self
 overflow_sub-self c =
@@ -28,7 +25,7 @@ overflow_sub-self c =
 pub returns-then-self-end : goal.returns-then-self-end
 unfolding field_bytes
 returns-then-self-end c =
-    goes_at_once (end_call c.args.self (length c.args.buf.now)) c.args.self c.args.buf.now (7 ∷ []) c.args.place _ _ (record { offset = c.args.self.offset; depth = c.args.self.depth - 1; pending = c.args.self.pending; npending = c.args.self.npending }) _ c.close_at_once-end.ensures c.if-self-end.true (omega arith)
+    goes_at_once (end_call c.args.self (length c.args.buf.now)) c.args.self c.args.buf.now (7 ∷ []) c.args.place _ _ (record { offset = c.args.self.offset; depth = c.args.self.depth - 1; pending = c.args.self.pending; npending = c.args.self.npending }) _ _ c.close_at_once-end.ensures c.if-self-end.true (omega arith)
     (λ t.
     let e = both _ _ t in
     let q = closes_easy c.args.self e.0 in
@@ -38,7 +35,10 @@ returns-then-self-end c =
     let i : c.args.self.offset < length c.args.buf.now = ltb-true _ _ r.0 in
     let u : sound_stream c.args.self (length c.args.buf.now) ≡ true = quiet c.args.self (length c.args.buf.now) (omega arith) y.none y.shallow r.1 in
     (simp (u, ne_eqb c.args.self.depth 0 (λ x. omega arith)), simp (eq-eqb _ _ y.none) (sym (shortest_one 7 (omega arith))), simp (eq-eqb _ _ y.none) (committed-none c.args.self (c.args.self.depth - 1) y.none)))
+    c.done.ensures
 
 pub returns : goal.returns
 returns c =
-    by_slow_form (λ s n. end_call s n) c.args.self _ c.args.buf.now _ c.args.place _ _ _ c.rebuilt-2.ensures (stayed _ c.args.buf.now c.args.self.offset (7 ∷ []) _ _ c.close_at_once-end.ensures c.if-self-end.false) c.rebuilt-3.ensures c.end_slowly-2.ensures
+    by_slow_form (λ s n. end_call s n) c.args.self _ c.args.buf.now _ c.args.place _ _ _ c.rebuilt.ensures
+    (elim c.if-place-eq0.branch [ then-place-eq0+else-self-end w ↦ w.buf-is ∙ stayed _ c.args.buf.now c.args.self.offset (7 ∷ []) _ _ w.close_at_once-end.ensures w.if-self-end.false | else-place-eq0 w ↦ w.buf-is ])
+    c.rebuilt-2.ensures c.end_slowly.ensures

@@ -34,6 +34,7 @@ pub struct CallEnd {
 }
 
 // A call's end.
+#[inline(always)]
 pub fn ended(read: usize, answer: Result<Answer, Error>, phase: Phase, carried: Carried) -> CallEnd
     ensures { result ≡ end_at read answer phase carried }
 {
@@ -63,6 +64,7 @@ pub fn verdict(phase: Phase, carried: Carried) -> Status
 }
 
 // Where a byte leaves a call that has read n.
+#[inline(always)]
 pub fn stop(n: usize, s: Option<Stepped>) -> CallEnd
     ensures { result ≡ stopped n s }
 {

@@ -12,7 +12,7 @@ ghost use Rattle.istream.specs.Private.{fed_at, fed_by};
 
 pub use call_end::{Answer, Status};
 use call_end::{CallEnd, verdict};
-use phase::{Carried, Phase, idle, rebuilt, sound, sound_payload};
+use phase::{Carried, Phase, idle, sound, sound_payload};
 use read_at_once::{Once, at_once};
 use read_slowly::{payload, slowly};
 use types::Error;
@@ -54,6 +54,7 @@ pub struct Taken {
 }
 
 // A call's end. Every call that alters the reader makes it here.
+#[inline(always)]
 fn answered(read: usize, answer: Result<Answer, Error>, phase: Phase, carried: Carried) -> Fed
     ensures { result ≡ fed_at read answer phase carried }
 {
@@ -65,6 +66,7 @@ fn answered(read: usize, answer: Result<Answer, Error>, phase: Phase, carried: C
 }
 
 // The same, from what a call comes to in a crate below.
+#[inline(always)]
 fn fed_by(w: CallEnd) -> Fed
     ensures { result ≡ fed_by w }
 {
@@ -73,37 +75,13 @@ fn fed_by(w: CallEnd) -> Fed
     answered(w.read, answer, phase, w.carried)
 }
 
-// The slow form: from any state, byte by byte.
+// The slow form, out of line: from any state, byte by byte.
+#[inline(never)]
 fn feed_slowly(stream: IStream, chunk: &[u8]) -> Fed
     ensures { result ≡ fed_of base stream chunk.now }
 {
     let phase = stream.phase;
     fed_by(slowly(phase, stream.carried, chunk))
-}
-
-fn fed_rebuilt(f: Fed) -> Fed
-    ensures { result ≡ f }
-{
-    let answer = f.answer;
-    let stream = f.stream;
-    let phase = stream.phase;
-    answered(f.read, answer, rebuilt(phase), stream.carried)
-}
-
-// The slow form, out of line.
-fn feed_out_of_line(stream: IStream, chunk: &[u8]) -> Fed
-    ensures { result ≡ fed_of base stream chunk.now }
-{
-    let phase = stream.phase;
-    let carried = stream.carried;
-    let copy = IStream {
-        phase: rebuilt(phase),
-        carried,
-    };
-    if carried.depth == 0 {
-        return fed_rebuilt(feed_slowly(copy, chunk));
-    }
-    fed_rebuilt(feed_slowly(copy, chunk))
 }
 
 impl IStream {
@@ -163,9 +141,9 @@ impl IStream {
             Some(Once::Done(p, k, e, n)) => answered(n, Ok(Answer::Event(e)), p, k),
             Some(Once::Spent) => {
                 let status = verdict(other, carried);
-                answered(0, Ok(Answer::Status(status)), rebuilt(other), carried)
+                answered(0, Ok(Answer::Status(status)), other, carried)
             }
-            None => feed_out_of_line(self, chunk),
+            None => feed_slowly(self, chunk),
         }
     }
 }

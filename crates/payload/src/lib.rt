@@ -76,6 +76,7 @@ impl PayloadAcc {
     }
 
     // The next bytes of the payload held, and no more than it owes.
+    #[inline(always)]
     fn append(mut self, buf: &mut [u8], total: usize, chunk: &[u8]) -> Fed
         requires { (self.len ≤ length buf.old) × (total ≤ length buf.old) × (self.complete ≡ false) }
         ensures { result_of result buf.new ≡ copied (state_of self) buf.old total chunk.now }
@@ -99,6 +100,7 @@ impl PayloadAcc {
     }
 
     // The order of the tests is 01's: a payload already whole, number 4, whole in the chunk, another offset than the length held.
+    #[inline(always)]
     fn accept(mut self, buf: &mut [u8], total: usize, offset: usize, chunk: &[u8]) -> Fed
         requires { self.len ≤ length buf.old }
         ensures { result_of result buf.new ≡ accepted (state_of self) buf.old total offset chunk.now }
@@ -169,7 +171,12 @@ impl PayloadAcc {
 }
 
 // The payload that an answer of `feed` calls whole, given the state and the slices that this call left: a part of one of them.
-pub fn payload<'a>(answer: Result<Answer, Error>, acc: PayloadAcc, buf: &'a [u8], chunk: &'a [u8]) -> &'a [u8]
+pub fn payload<'a>(
+    answer: Result<Answer, Error>,
+    acc: PayloadAcc,
+    buf: &'a [u8],
+    chunk: &'a [u8],
+) -> &'a [u8]
     ensures { result.now ≡ part_of (said_of answer) (state_of acc) buf.now chunk.now }
 {
     if buf.len() < acc.len {

@@ -46,6 +46,7 @@ pub enum Stepped {
 }
 
 // Between fields.
+#[inline(always)]
 pub fn idle() -> Phase
     ensures { result ≡ phase_in idle }
 {
@@ -53,6 +54,7 @@ pub fn idle() -> Phase
 }
 
 // The elements left of an array come next; or, where none is left, the next field.
+#[inline(always)]
 pub fn unsigneds(id: u32, left: u32) -> Phase
     ensures { result ≡ phase_in (first_or left (λ m. in_unsigned id m 0 0)) }
 {
@@ -63,6 +65,7 @@ pub fn unsigneds(id: u32, left: u32) -> Phase
     }
 }
 
+#[inline(always)]
 pub fn signeds(id: u32, left: u32) -> Phase
     ensures { result ≡ phase_in (first_or left (λ m. in_signed id m 0 0)) }
 {
@@ -73,6 +76,7 @@ pub fn signeds(id: u32, left: u32) -> Phase
     }
 }
 
+#[inline(always)]
 pub fn floats(id: u32, w: FloatType, left: u32) -> Phase
     ensures { result ≡ phase_in (first_or left (λ m. in_float id (width w) m 0 0)) }
 {
@@ -84,6 +88,7 @@ pub fn floats(id: u32, w: FloatType, left: u32) -> Phase
 }
 
 // One element fewer; a scalar has 0.
+#[inline(always)]
 pub fn less(left: u32) -> u32
     ensures { result ≡ left - 1 }
 {
@@ -148,35 +153,5 @@ pub fn sound(phase: Phase) -> bool
         Phase::Payload(id, r, total, offset) => sound_payload(id, r, total, offset),
         Phase::Empty(id, _) => id <= ID_MAX,
         Phase::Broken => true,
-    }
-}
-
-// A varint under way, rebuilt from its numbers.
-fn acc_rebuilt(a: Acc) -> Acc
-    ensures { result ≡ a }
-{
-    Acc {
-        value: a.value,
-        taken: a.taken,
-    }
-}
-
-// A phase, rebuilt from its numbers: docs/PERFORMANCE.md says why.
-pub fn rebuilt(phase: Phase) -> Phase
-    ensures { result ≡ phase }
-{
-    match phase {
-        Phase::Header(a) => Phase::Header(acc_rebuilt(a)),
-        Phase::Unsigned(id, left, a) => Phase::Unsigned(id, left, acc_rebuilt(a)),
-        Phase::Signed(id, left, a) => Phase::Signed(id, left, acc_rebuilt(a)),
-        Phase::Word(id, a) => Phase::Word(id, acc_rebuilt(a)),
-        Phase::UnsignedCount(id, a) => Phase::UnsignedCount(id, acc_rebuilt(a)),
-        Phase::SignedCount(id, a) => Phase::SignedCount(id, acc_rebuilt(a)),
-        Phase::FloatCount(id, a) => Phase::FloatCount(id, acc_rebuilt(a)),
-        Phase::ArrayWord(id, count, a) => Phase::ArrayWord(id, count, acc_rebuilt(a)),
-        Phase::Float(id, w, left, k, v) => Phase::Float(id, w, left, k, v),
-        Phase::Payload(id, r, total, offset) => Phase::Payload(id, r, total, offset),
-        Phase::Empty(id, r) => Phase::Empty(id, r),
-        Phase::Broken => Phase::Broken,
     }
 }

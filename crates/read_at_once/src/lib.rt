@@ -26,6 +26,7 @@ pub enum Once {
 }
 
 // Any varint: its value and the place after it, if it stands whole in the chunk and isn't broken.
+#[inline(never)]
 fn long_varint(chunk: &[u8], at: usize) -> Option<(u64, usize)>
     ensures { IfSome result (λ r. Reads base chunk.now at r.0 r.1) }
 {
@@ -41,6 +42,7 @@ fn long_varint(chunk: &[u8], at: usize) -> Option<(u64, usize)>
 }
 
 // Most varints are one byte or two; the longer ones are read out of line.
+#[inline(always)]
 fn varint(chunk: &[u8], at: usize) -> Option<(u64, usize)>
     ensures { IfSome result (λ r. Reads base chunk.now at r.0 r.1) }
 {
@@ -55,7 +57,7 @@ fn varint(chunk: &[u8], at: usize) -> Option<(u64, usize)>
         return None;
     };
     if chunk.len() <= at + 1 {
-        return long_varint(chunk, at);
+        return None;
     }
     let q = a.push(chunk[at + 1]);
     if let Push::Value(v) = q {
@@ -65,6 +67,7 @@ fn varint(chunk: &[u8], at: usize) -> Option<(u64, usize)>
 }
 
 // A call that reads n bytes and stops at an event.
+#[inline(always)]
 fn done(n: usize, e: Event, phase: Phase, carried: Carried) -> Option<Once>
     ensures { result ≡ raised_of n (Some (Stepped.Raised e phase carried)) }
 {
@@ -82,6 +85,7 @@ fn raised(n: usize, s: Option<Stepped>) -> Option<Once>
 }
 
 // An element, or the scalar after a header.
+#[inline(always)]
 fn unsigned_at(carried: Carried, id: u32, left: u32, chunk: &[u8]) -> Option<Once>
     ensures { Right result (call base (reading carried.depth (in_unsigned id left 0 0)) chunk.now) }
 {
@@ -94,6 +98,7 @@ fn unsigned_at(carried: Carried, id: u32, left: u32, chunk: &[u8]) -> Option<Onc
     )
 }
 
+#[inline(always)]
 fn signed_at(carried: Carried, id: u32, left: u32, chunk: &[u8]) -> Option<Once>
     ensures { Right result (call base (reading carried.depth (in_signed id left 0 0)) chunk.now) }
 {
@@ -144,38 +149,23 @@ pub fn at_once(carried: Carried, phase: Phase, chunk: &[u8]) -> Option<Once>
     ensures { RightFrom base carried.depth phase result chunk.now }
 {
     match phase {
-        Phase::Header(a) => {
-            if a.taken == 0 {
-                if a.sound() {
-                    if chunk.len() == 0 {
-                        return Some(Once::Spent);
-                    }
-                    return field_at(carried, chunk);
-                }
+        Phase::Header(a) if a.taken == 0 && a.sound() => {
+            if chunk.is_empty() {
+                return Some(Once::Spent);
             }
-            None
+            field_at(carried, chunk)
         }
-        Phase::Unsigned(id, left, a) => {
-            if a.taken == 0 {
-                if sound_varint(id, left, a) {
-                    if chunk.len() == 0 {
-                        return Some(Once::Spent);
-                    }
-                    return unsigned_at(carried, id, left, chunk);
-                }
+        Phase::Unsigned(id, left, a) if a.taken == 0 && sound_varint(id, left, a) => {
+            if chunk.is_empty() {
+                return Some(Once::Spent);
             }
-            None
+            unsigned_at(carried, id, left, chunk)
         }
-        Phase::Signed(id, left, a) => {
-            if a.taken == 0 {
-                if sound_varint(id, left, a) {
-                    if chunk.len() == 0 {
-                        return Some(Once::Spent);
-                    }
-                    return signed_at(carried, id, left, chunk);
-                }
+        Phase::Signed(id, left, a) if a.taken == 0 && sound_varint(id, left, a) => {
+            if chunk.is_empty() {
+                return Some(Once::Spent);
             }
-            None
+            signed_at(carried, id, left, chunk)
         }
         _ => None,
     }

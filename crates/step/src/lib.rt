@@ -20,6 +20,7 @@ use varint::{Acc, Push, zigzag_decode};
 use words::{element, fixlen};
 
 // A varint's byte. More are to come, and what is under way has the longer varint; or the value is whole; or the varint is overlong.
+#[inline(always)]
 fn varint<P: FnOnce(Acc) -> Phase, V: FnOnce(u64) -> Option<Stepped>>(
     carried: Carried,
     a: Acc,
@@ -122,6 +123,7 @@ fn array_word(carried: Carried, id: u32, count: u32, w: u64) -> Option<Stepped>
 }
 
 // A float's byte, low byte first.
+#[inline(always)]
 fn float(
     carried: Carried,
     id: u32,
@@ -144,6 +146,7 @@ fn float(
 }
 
 // One byte, in a sound phase that is read byte by byte. Only the reader calls this, which has tested the phase.
+#[inline(always)]
 pub fn step(carried: Carried, phase: Phase, b: u8) -> Option<Stepped>
     requires { AtBytes base (state_at carried.depth phase) }
     ensures { result ≡ stepped (step_on base (state_at carried.depth phase) b) }

@@ -3,17 +3,14 @@ use Prim.Native.Nat.{ℕ, ◌<◌, ◌≤◌}
 use native.Mathlib.Omega.{arith}
 use mathlib.Core.Path.{◌≡◌, refl, sym, ap, ◌∙◌, subst}
 use mathlib.Core.Bool.{Bool, true, false}
-use mathlib.Core.List.{List, [], ◌∷◌, ◌++◌}
+use mathlib.Core.List.{List, ◌++◌}
 use lib.Dec.{leb}
 use lib.IntN.{ℤ, pos, negsuc}
 use lib.ListN.{length, take, drop}
-use types.Run.{OneOf, miss}
-use denote.Enum.Declared.{tag_of}
 use borrow.Author.Tests.{leb-true, leb-false}
 use Rattle.layout.specs.Limits.{base}
 use Rattle.layout.specs.Message.{Bytes, complete, verdict_of}
 use Rattle.layout.specs.Copy.{plain_copy}
-use Rattle.call_end.specs.declared.Status.TheVariants.{Complete, Incomplete}
 use Rattle.ostream.specs.declared.Written.{Written}
 use Rattle.ostream.specs.Stream.{opened}
 use Rattle.ostream.proofs.Buffers.{fits, open_taken, open_refused, opened-sound}
@@ -21,15 +18,12 @@ use Rattle.istream.proofs.Laws.{fresh-sound}
 use Rattle.copying.specs.Copy.{copy}
 use Rattle.copying_laws.proofs.Whole.{copy-whole}
 use Rattle.copier.specs.declared.Copier.{Copier}
-use Rattle.turns.specs.declared.Answer.{Answer}
-use Rattle.turns.specs.declared.Answer.TheVariants.{Full, Status, Refused}
 use Rattle.copier.specs.declared.Copied as results
 use Rattle.copying.specs.Owed.{agrees, sound_owed}
 use Rattle.copying.specs.Refusals.{sound_with, refusing}
 use Rattle.copier.specs.Copier.{copy_of, sound_writer}
 use Rattle.copier.specs.Calls.{full, verdict, Outcome, said_of, said_in, result_in, fresh_over, started}
 use Rattle.copier.specs.Calls as calls
-use Rattle.turns.specs.contracts.Answer.{the_type}
 use Rattle.exports.specs.Exports.{result_of, filled}
 use Rattle.host.proofs.Filled.{fitting, too_short}
 
@@ -60,12 +54,9 @@ fed-whole T b a v =
 
 -- ---- what the call says
 
--- any answer but "full"
-not_full : (x : Answer) → OneOf (1 ∷ 2 ∷ []) (tag_of the_type x) → said_of x ≡ full → ⊥
-not_full Full h e = miss (1 ∷ 2 ∷ []) 0 tt h
-not_full (Status Complete) h e = let z : ◌≡◌ {A = ℕ} 0 1 = cc in omega arith
-not_full (Status Incomplete) h e = let z : ◌≡◌ {A = ℕ} 0 1 = cc in omega arith
-not_full (Refused x) h e = let z : ◌≡◌ {A = ℕ} 0 1 = cc in omega arith
+-- a test that fails
+pub apart : {P : Type 0} (x : Bool) → (P → x ≡ true) → x ≡ false → P → ⊥
+apart x f e p = let q = f p in let z : ◌≡◌ {A = ℕ} 0 1 = cc in omega arith
 
 full_is : full ≡ verdict complete → ⊥
 full_is e = let z : ◌≡◌ {A = ℕ} 0 1 = cc in omega arith
@@ -90,16 +81,16 @@ module _ (T b : List ℕ) (a : Bytes T) (v : verdict_of base T ≡ complete) (s 
           let l : length b < length m = leb-false (length m) (length b) t in
           (λ i. result_of (two l i) ((fed.short l).1 i)) ∙ sym (too_short m b s l)
 
-  pub answers_full : r.answer ≡ Full → result_of (negsuc 100) b' ≡ filled m b
-  answers_full h = by_room (negsuc 100) (λ l. absurd (full_is (sym (ap said_of h) ∙ (fed.fits l).0))) (λ l. refl)
+  pub answers_full : said_of r.answer ≡ full → result_of (negsuc 100) b' ≡ filled m b
+  answers_full h = by_room (negsuc 100) (λ l. absurd (full_is (sym h ∙ (fed.fits l).0))) (λ l. refl)
 
-  pub answers_length : OneOf (1 ∷ 2 ∷ []) (tag_of the_type r.answer) → result_of (pos r.copier.writer.offset) b' ≡ filled m b
-  answers_length h = by_room (pos r.copier.writer.offset) (λ l. ap pos (fed.fits l).1) (λ l. absurd (not_full r.answer h (fed.short l).0))
+  pub answers_length : (said_of r.answer ≡ full → ⊥) → result_of (pos r.copier.writer.offset) b' ≡ filled m b
+  answers_length h = by_room (pos r.copier.writer.offset) (λ l. ap pos (fed.fits l).1) (λ l. absurd (h (fed.short l).0))
 
   -- a length is one that an answer can name
-  pub offset_small : OneOf (1 ∷ 2 ∷ []) (tag_of the_type r.answer) → r.copier.writer.offset < 9223372036854775808
+  pub offset_small : (said_of r.answer ≡ full → ⊥) → r.copier.writer.offset < 9223372036854775808
   offset_small h = go (leb (length m) (length b)) refl
     where
       go : (t : Bool) → leb (length m) (length b) ≡ t → r.copier.writer.offset < 9223372036854775808
       go true t = omega (arith, (fed.fits (leb-true (length m) (length b) t)).1, leb-true (length m) (length b) t)
-      go false t = absurd (not_full r.answer h (fed.short (leb-false (length m) (length b) t)).0)
+      go false t = absurd (h (fed.short (leb-false (length m) (length b) t)).0)

@@ -19,7 +19,6 @@ use Rattle.reading.proofs.Feeds.{feeds_last}
 use Rattle.copies.specs.Demand.{Whole, Run, output}
 use Rattle.copies.proofs.Demand.{demand}
 use Rattle.exports.specs.Exports.{room, filled, copied, measured}
-use Rattle.exports.specs.Exports as exports
 use Rattle.copy_len.specs.declared.Length.{Length}
 use Rattle.copy_len.specs.declared.Length.TheVariants as answers
 use Rattle.copy_len.specs.CopyLen.{length_in, length_of}

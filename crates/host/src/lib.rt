@@ -2,18 +2,27 @@
 // `include/sofab.h` declares them for C.
 #![tactic(auto)]
 
-ghost use Rattle.std.specs.Prelude.{◌≡◌, length};
+ghost use Rattle.std.specs.Prelude.{◌≡◌, ◌↔◌, true, length};
 ghost use Rattle.layout.specs.Limits.{base};
 ghost use Rattle.layout.specs.Message.{complete, verdict_of};
 ghost use Rattle.layout.specs.Copy.{plain_copy};
+ghost use Rattle.turns.specs.Said.{said_of, full};
 ghost use Rattle.exports.specs.Exports.{number, result_of, filled, copied, measured, drained};
 
 use copier::{Answer, Copier};
+use types::Error;
 
 pub fn sofab_verdict(ticket: &[u8]) -> i64
     ensures { result ≡ number (verdict_of base ticket.now) }
 {
     codes::number(whole::verdict_of(ticket))
+}
+
+// Whether a copier's call ended at its buffer's end.
+fn is_full(answer: Result<Answer, Error>) -> bool
+    ensures { (result ≡ true) ↔ (said_of answer ≡ full) }
+{
+    matches!(answer, Ok(Answer::Full))
 }
 
 // The copy of a complete message: one call of a fresh copier, the output being its buffer. Where the output has no byte the opening is
@@ -23,10 +32,8 @@ fn copy(ticket: &[u8], out: &mut [u8]) -> i64
     ensures { result_of result out.new ≡ filled (plain_copy base ticket.now) out.old }
 {
     let opened = Copier::new(out, 0);
-    let fresh = opened.copier;
-    let done = fresh.feed(ticket, out);
-    let answer = done.answer;
-    if let Answer::Full = answer {
+    let done = opened.copier.feed(ticket, out);
+    if is_full(done.answer) {
         return -101;
     }
     done.copier.writer.offset as i64

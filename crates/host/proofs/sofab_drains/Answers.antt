@@ -10,7 +10,7 @@ use Rattle.host.proofs.sofab_drains.Goals as goal
 
 pub drains-requires : goal.drains-requires
 drains-requires c =
-    drains_small c.args.ticket.now (all_bytes c.args.ticket.now (λ i. (c.shared_slice_known-1.given i).fits)) (omega (arith, c.well_formed.0.1)) _ _ c.drains_of.ensures
+    drains_small c.args.ticket.now (all_bytes c.args.ticket.now (λ i. (c.type_inv.ticket i).fits)) (omega (arith, c.well_formed.0.1)) _ _ c.drains_of.ensures
 
 pub returns : goal.returns
 returns c = let f : to_z w64 (of_z w64 c.drains.result) ≡ c.drains.result = search rules in f ∙ c.drains.ensures _ _ _ c.drains_of.ensures

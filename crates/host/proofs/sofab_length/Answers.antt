@@ -9,7 +9,7 @@ use borrow.Author.Rules.{rules}
 use Rattle.host.proofs.sofab_length.Goals as goal
 
 pub length-requires : goal.length-requires
-length-requires c = length_small c.args.ticket.now (all_bytes c.args.ticket.now (λ i. (c.shared_slice_known-1.given i).fits)) (omega (arith, c.well_formed.0.1)) _ c.length_of.ensures
+length-requires c = length_small c.args.ticket.now (all_bytes c.args.ticket.now (λ i. (c.type_inv.ticket i).fits)) (omega (arith, c.well_formed.0.1)) _ c.length_of.ensures
 
 pub returns : goal.returns
 returns c = let f : to_z w64 (of_z w64 c.length.result) ≡ c.length.result = search rules in f ∙ c.length.ensures _ _ c.length_of.ensures

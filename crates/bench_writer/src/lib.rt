@@ -186,7 +186,12 @@ fn alike(m: Message<'_>, r: Run, n: usize, buf: &mut [u8]) -> Run {
         }),
         Kind::Strings => {
             let text = text(m.kind, m.data);
-            calls(r, n, buf, |s, i, buf| s.write_str(buf, number(i), text, 0))
+            calls(
+                r,
+                n,
+                buf,
+                move |s, i, buf| s.write_str(buf, number(i), text, 0),
+            )
         }
         Kind::Pages => {
             let mut id = (r.i % 34) as u32;

@@ -67,7 +67,14 @@ fn numbers(p: Phase) -> [u64; 6] {
         Phase::FloatCount(id, a) => within(6, id, 0, a),
         Phase::ArrayWord(id, n, a) => within(7, id, n, a),
         Phase::Float(id, t, left, k, v) => {
-            [8, t.fixlen().raw() as u64, id as u64, left as u64, k as u64, v]
+            [
+                8,
+                t.fixlen().raw() as u64,
+                id as u64,
+                left as u64,
+                k as u64,
+                v,
+            ]
         }
         Phase::Payload(id, r, n, o) => {
             [9, r.fixlen().raw() as u64, id as u64, n as u64, 0, o as u64]

@@ -19,7 +19,7 @@ pub fn lay(desk: &mut [u64], at: usize, words: &[u64]) {
     }
 }
 
-// A word's low bits: three functions, for `as` that drops bits is none here, and a trait would hold the same three.
+// A word's low bits, a function for each width: `as` drops none, and a generic one would need a trait with these three bodies.
 pub fn narrow(n: u64) -> u32 {
     (n & 0xffff_ffff) as u32
 }

@@ -38,5 +38,8 @@ fn nibble(b: u8) -> Option<u8> {
 pub fn unhex(alloc: Global, word: &[u8]) -> Result<Vec<u8>, AllocError> {
     let digits: Vec<u8> = word.iter().filter_map(|b| nibble(*b)).collect(alloc)?;
     let (pairs, _) = digits.as_chunks::<2>();
-    pairs.iter().map(|[high, low]| high << 4 | low).collect(alloc)
+    pairs
+        .iter()
+        .map(|[high, low]| high << 4 | low)
+        .collect(alloc)
 }

@@ -4,7 +4,7 @@ use desk::{byte, lay, narrow, word};
 use event::{Bounds, Event, fp32_bits, fp64_bits};
 use istream::{Answer, Fed, IStream, Status};
 use phase::{Carried, Phase};
-use types::{FloatType, RawType};
+use types::{FixlenType, FloatType, RawType};
 use varint::Acc;
 
 pub fn float_type(n: u64) -> FloatType {
@@ -67,7 +67,14 @@ fn numbers(p: Phase) -> [u64; 6] {
         Phase::FloatCount(id, a) => within(6, id, 0, a),
         Phase::ArrayWord(id, n, a) => within(7, id, n, a),
         Phase::Float(id, t, left, k, v) => {
-            [8, t.fixlen().raw() as u64, id as u64, left as u64, k as u64, v]
+            [
+                8,
+                t.fixlen().raw() as u64,
+                id as u64,
+                left as u64,
+                k as u64,
+                v,
+            ]
         }
         Phase::Payload(id, r, n, o) => {
             [9, r.fixlen().raw() as u64, id as u64, n as u64, 0, o as u64]
@@ -109,10 +116,10 @@ fn told(tag: u64, id: u32, kind: u8, value: u64) -> Tale {
     }
 }
 
-fn piece(id: u32, kind: u8, piece: Bounds) -> Tale {
+fn piece(id: u32, kind: FixlenType, piece: Bounds) -> Tale {
     Tale {
         piece,
-        ..told(7, id, kind, piece.total as u64)
+        ..told(7, id, kind.raw(), piece.total as u64)
     }
 }
 
@@ -126,8 +133,8 @@ fn event(e: Event) -> Tale {
         Event::Fp64Nan(id, n) => told(4, id, 0, n),
         Event::Array(id, k, n) => told(5, id, k.raw(), n as u64),
         Event::Fixlen(id, t, n) => told(6, id, t.raw(), n as u64),
-        Event::Str(id, b) => piece(id, 2, b),
-        Event::Blob(id, b) => piece(id, 3, b),
+        Event::Str(id, b) => piece(id, FixlenType::Str, b),
+        Event::Blob(id, b) => piece(id, FixlenType::Blob, b),
         Event::Begin(id) => told(8, id, 0, 0),
         Event::End => told(9, 0, 0, 0),
     }
@@ -159,8 +166,9 @@ fn tell(t: Tale, read: usize, desk: &mut [u64]) {
 }
 
 // By value or, where word 31 isn't 0, by the thin feed.
-fn fed(stream: IStream, how: u64, chunk: &[u8]) -> Fed {
-    if how == 0 {
+fn fed(desk: &[u64], chunk: &[u8]) -> Fed {
+    let stream = reader(desk);
+    if word(desk, 31) == 0 {
         return stream.feed(chunk);
     }
     let taken = istream::lent(stream, chunk);
@@ -172,7 +180,7 @@ fn fed(stream: IStream, how: u64, chunk: &[u8]) -> Fed {
 }
 
 pub fn trace_read(desk: &mut [u64], chunk: &[u8]) {
-    let f = fed(reader(desk), word(desk, 31), chunk);
+    let f = fed(desk, chunk);
     store(f.stream, desk);
     tell(answer(f.answer), f.read, desk);
 }

@@ -4,54 +4,42 @@
 
 pub mod writer;
 
-use ostream::Written;
-use writer::{Call, asked, told};
+use ostream::{OStream, Written};
+use writer::{asked, told};
 
-// The write is made with the desk's numbers, and told there.
-fn written<F: FnOnce(Call) -> Written>(desk: &mut [u64], write: F)
+// The array is written with the desk's numbers, and the answer told there.
+fn array<T, F: FnOnce(OStream, &mut [u8], u32, &[T], usize) -> Written>(
+    desk: &mut [u64],
+    items: &[T],
+    buf: &mut [u8],
+    write: F,
+)
     requires { F.IsAlwaysCallable write }
 {
-    told(write(asked(desk)), desk);
+    let c = asked(desk);
+    told(write(c.writer, buf, c.id, items, c.place), desk);
 }
 
 pub fn trace_unsigneds(desk: &mut [u64], items: &[u64], buf: &mut [u8]) {
-    written(
-        desk,
-        |c| c.writer.write_array_unsigned(buf, c.id, items, c.place),
-    );
+    array(desk, items, buf, OStream::write_array_unsigned);
 }
 
 pub fn trace_signeds(desk: &mut [u64], items: &[i64], buf: &mut [u8]) {
-    written(
-        desk,
-        |c| c.writer.write_array_signed(buf, c.id, items, c.place),
-    );
+    array(desk, items, buf, OStream::write_array_signed);
 }
 
 pub fn trace_fp32s(desk: &mut [u64], items: &[f32], buf: &mut [u8]) {
-    written(
-        desk,
-        |c| c.writer.write_array_fp32(buf, c.id, items, c.place),
-    );
+    array(desk, items, buf, OStream::write_array_fp32);
 }
 
 pub fn trace_fp64s(desk: &mut [u64], items: &[f64], buf: &mut [u8]) {
-    written(
-        desk,
-        |c| c.writer.write_array_fp64(buf, c.id, items, c.place),
-    );
+    array(desk, items, buf, OStream::write_array_fp64);
 }
 
 pub fn trace_fp32_bits(desk: &mut [u64], items: &[u32], buf: &mut [u8]) {
-    written(
-        desk,
-        |c| c.writer.write_array_fp32_bits(buf, c.id, items, c.place),
-    );
+    array(desk, items, buf, OStream::write_array_fp32_bits);
 }
 
 pub fn trace_fp64_bits(desk: &mut [u64], items: &[u64], buf: &mut [u8]) {
-    written(
-        desk,
-        |c| c.writer.write_array_fp64_bits(buf, c.id, items, c.place),
-    );
+    array(desk, items, buf, OStream::write_array_fp64_bits);
 }

@@ -58,6 +58,17 @@ struct Run {
     place: usize,
 }
 
+// A state made anew from its fields: handed on as it is, strings took 1.26 times as long.
+fn rebuilt(s: OStream) -> OStream {
+    let pending = s.pending;
+    OStream {
+        offset: s.offset,
+        pending,
+        depth: s.depth,
+        npending: s.npending,
+    }
+}
+
 fn number(i: usize) -> u32 {
     (i % 16) as u32
 }
@@ -112,7 +123,7 @@ fn text(kind: Kind, data: &[u8]) -> &[u8] {
 
 // The ith call of a message, from a place in its output on.
 fn made(m: Message<'_>, r: Run, buf: &mut [u8]) -> Written {
-    let s = r.stream;
+    let s = rebuilt(r.stream);
     match nth(m.kind, r.i) {
         Call::Unsigned(id) => s.write_unsigned(buf, id, value(m.kind, r.i), r.place),
         Call::Str(id) => s.write_str(buf, id, text(m.kind, m.data), r.place),
@@ -127,7 +138,7 @@ fn made(m: Message<'_>, r: Run, buf: &mut [u8]) -> Written {
 // The next call, and what is next after it: the same one where it meets the buffer's end.
 fn again(m: Message<'_>, r: Run, buf: &mut [u8]) -> Run {
     let w = made(m, r, buf);
-    let stream = w.stream;
+    let stream = rebuilt(w.stream);
     match w.answer {
         Answer::Full(place) => Run {
             stream,
@@ -156,11 +167,15 @@ fn calls<F: FnMut(OStream, usize, &mut [u8]) -> Written>(
         let w = call(stream, i, buf);
         stream = w.stream;
         if let Answer::Full(place) = w.answer {
-            return Run { stream, i, place };
+            return Run {
+                stream: rebuilt(stream),
+                i,
+                place,
+            };
         }
     }
     Run {
-        stream,
+        stream: rebuilt(stream),
         i: r.i.max(n),
         place: r.place,
     }
@@ -256,7 +271,7 @@ pub fn bench_write(kind: u32, n: usize, data: &[u8], buf: &mut [u8], out: &mut [
             out,
             sent,
         );
-        r.stream = r.stream.flush(buf).stream;
+        r.stream = rebuilt(rebuilt(r.stream).flush(buf).stream);
     }
     sent as u64
 }

@@ -250,10 +250,11 @@ fn copy(bytes: &[u8], out: &mut [u8], at: usize) -> usize {
 // Writes n fields of a kind through the buffer, drains it into `out`, and answers how many bytes went there. (No call takes as many turns as
 // are counted.)
 pub fn bench_write(kind: u32, n: usize, data: &[u8], buf: &mut [u8], out: &mut [u8]) -> u64 {
+    let elements = [300u64; 64];
     let m = Message {
         kind: Kind::from(kind),
         data,
-        elements: &[300; 64],
+        elements: &elements,
     };
     let mut r = Run {
         stream: OStream::new(buf),

@@ -122,7 +122,7 @@ fn text(kind: Kind, data: &[u8]) -> &[u8] {
 }
 
 // The ith call of a message, from a place in its output on.
-fn made(m: Message<'_>, r: Run, buf: &mut [u8]) -> Written {
+fn made(m: &Message<'_>, r: Run, buf: &mut [u8]) -> Written {
     let s = rebuilt(r.stream);
     match nth(m.kind, r.i) {
         Call::Unsigned(id) => s.write_unsigned(buf, id, value(m.kind, r.i), r.place),
@@ -136,7 +136,7 @@ fn made(m: Message<'_>, r: Run, buf: &mut [u8]) -> Written {
 }
 
 // The next call, and what is next after it: the same one where it meets the buffer's end.
-fn again(m: Message<'_>, r: Run, buf: &mut [u8]) -> Run {
+fn again(m: &Message<'_>, r: Run, buf: &mut [u8]) -> Run {
     let w = made(m, r, buf);
     let stream = rebuilt(w.stream);
     match w.answer {
@@ -191,7 +191,7 @@ fn last(i: usize, n: usize) -> usize {
 }
 
 // Numbers and strings, and a page's settings, whose id is counted along, which takes less time than a remainder for each.
-fn alike(m: Message<'_>, r: Run, n: usize, buf: &mut [u8]) -> Run {
+fn alike(m: &Message<'_>, r: Run, n: usize, buf: &mut [u8]) -> Run {
     match m.kind {
         Kind::Smalls => calls(r, n, buf, |s, i, buf| {
             s.write_unsigned(buf, number(i), (i % 100) as u64, 0)
@@ -221,7 +221,7 @@ fn alike(m: Message<'_>, r: Run, n: usize, buf: &mut [u8]) -> Run {
 }
 
 // The calls up to the first that meets the buffer's end, or up to the nth: none are made alike after "full".
-fn leg(m: Message<'_>, from: Run, n: usize, buf: &mut [u8]) -> Run {
+fn leg(m: &Message<'_>, from: Run, n: usize, buf: &mut [u8]) -> Run {
     let mut r = from;
     for _ in 0..u64::MAX {
         if n <= r.i || buf.len() <= r.stream.bytes_used() {
@@ -266,7 +266,7 @@ pub fn bench_write(kind: u32, n: usize, data: &[u8], buf: &mut [u8], out: &mut [
         if n <= r.i {
             break;
         }
-        r = leg(m, r, n, buf);
+        r = leg(&m, r, n, buf);
         sent = copy(
             buf.get(..r.stream.bytes_used()).unwrap_or_default(),
             out,

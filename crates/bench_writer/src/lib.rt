@@ -58,6 +58,17 @@ struct Run {
     place: usize,
 }
 
+// A state made anew from its fields: handed on as it is, strings took 1.26 times as long.
+fn rebuilt(s: OStream) -> OStream {
+    let pending = s.pending;
+    OStream {
+        offset: s.offset,
+        pending,
+        depth: s.depth,
+        npending: s.npending,
+    }
+}
+
 fn number(i: usize) -> u32 {
     (i % 16) as u32
 }
@@ -111,8 +122,8 @@ fn text(kind: Kind, data: &[u8]) -> &[u8] {
 }
 
 // The ith call of a message, from a place in its output on.
-fn made(m: Message<'_>, r: Run, buf: &mut [u8]) -> Written {
-    let s = r.stream;
+fn made(m: &Message<'_>, r: Run, buf: &mut [u8]) -> Written {
+    let s = rebuilt(r.stream);
     match nth(m.kind, r.i) {
         Call::Unsigned(id) => s.write_unsigned(buf, id, value(m.kind, r.i), r.place),
         Call::Str(id) => s.write_str(buf, id, text(m.kind, m.data), r.place),
@@ -125,9 +136,9 @@ fn made(m: Message<'_>, r: Run, buf: &mut [u8]) -> Written {
 }
 
 // The next call, and what is next after it: the same one where it meets the buffer's end.
-fn again(m: Message<'_>, r: Run, buf: &mut [u8]) -> Run {
+fn again(m: &Message<'_>, r: Run, buf: &mut [u8]) -> Run {
     let w = made(m, r, buf);
-    let stream = w.stream;
+    let stream = rebuilt(w.stream);
     match w.answer {
         Answer::Full(place) => Run {
             stream,
@@ -156,11 +167,15 @@ fn calls<F: FnMut(OStream, usize, &mut [u8]) -> Written>(
         let w = call(stream, i, buf);
         stream = w.stream;
         if let Answer::Full(place) = w.answer {
-            return Run { stream, i, place };
+            return Run {
+                stream: rebuilt(stream),
+                i,
+                place,
+            };
         }
     }
     Run {
-        stream,
+        stream: rebuilt(stream),
         i: r.i.max(n),
         place: r.place,
     }
@@ -176,7 +191,7 @@ fn last(i: usize, n: usize) -> usize {
 }
 
 // Numbers and strings, and a page's settings, whose id is counted along, which takes less time than a remainder for each.
-fn alike(m: Message<'_>, r: Run, n: usize, buf: &mut [u8]) -> Run {
+fn alike(m: &Message<'_>, r: Run, n: usize, buf: &mut [u8]) -> Run {
     match m.kind {
         Kind::Smalls => calls(r, n, buf, |s, i, buf| {
             s.write_unsigned(buf, number(i), (i % 100) as u64, 0)
@@ -206,7 +221,7 @@ fn alike(m: Message<'_>, r: Run, n: usize, buf: &mut [u8]) -> Run {
 }
 
 // The calls up to the first that meets the buffer's end, or up to the nth: none are made alike after "full".
-fn leg(m: Message<'_>, from: Run, n: usize, buf: &mut [u8]) -> Run {
+fn leg(m: &Message<'_>, from: Run, n: usize, buf: &mut [u8]) -> Run {
     let mut r = from;
     for _ in 0..u64::MAX {
         if n <= r.i || buf.len() <= r.stream.bytes_used() {
@@ -235,10 +250,11 @@ fn copy(bytes: &[u8], out: &mut [u8], at: usize) -> usize {
 // Writes n fields of a kind through the buffer, drains it into `out`, and answers how many bytes went there. (No call takes as many turns as
 // are counted.)
 pub fn bench_write(kind: u32, n: usize, data: &[u8], buf: &mut [u8], out: &mut [u8]) -> u64 {
+    let elements = [300u64; 64];
     let m = Message {
         kind: Kind::from(kind),
         data,
-        elements: &[300; 64],
+        elements: &elements,
     };
     let mut r = Run {
         stream: OStream::new(buf),
@@ -250,13 +266,13 @@ pub fn bench_write(kind: u32, n: usize, data: &[u8], buf: &mut [u8], out: &mut [
         if n <= r.i {
             break;
         }
-        r = leg(m, r, n, buf);
+        r = leg(&m, r, n, buf);
         sent = copy(
             buf.get(..r.stream.bytes_used()).unwrap_or_default(),
             out,
             sent,
         );
-        r.stream = r.stream.flush(buf).stream;
+        r.stream = rebuilt(rebuilt(r.stream).flush(buf).stream);
     }
     sent as u64
 }

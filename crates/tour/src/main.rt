@@ -11,18 +11,16 @@ use std::io;
 // The events of a chunk. A call stops at each; the next one, on the chunk's rest, goes on behind it. (The turns only say that this ends.)
 fn read(rt: &impl Print, start: IStream, chunk: &[u8]) -> io::Result<IStream> {
     let mut reader = start;
-    let mut from: usize = 0;
+    let mut rest = chunk;
     for _ in 0..u64::MAX {
-        let rest = show::rest(chunk, from);
         let fed = reader.feed(rest);
-        let answer = fed.answer;
         reader = fed.stream;
-        from = std::num::wrapping_add_usize(from, fed.read);
-        let istream::Answer::Event(event) = answer else {
-            show::verdict(rt, answer)?;
+        let istream::Answer::Event(event) = fed.answer else {
+            show::verdict(rt, fed.answer)?;
             break;
         };
         show::event(rt, event, rest)?;
+        rest = rest.get(fed.read..).unwrap_or_default();
     }
     Ok(reader)
 }
@@ -39,9 +37,8 @@ fn write(
     let mut place: usize = 0;
     for _ in 0..u64::MAX {
         let written = writer.write_unsigned(buf, id, value, place);
-        let answer = written.answer;
         writer = written.stream;
-        let ostream::Answer::Full(out) = answer else {
+        let ostream::Answer::Full(out) = written.answer else {
             break;
         };
         writer = drain(rt, writer, buf)?;
@@ -53,8 +50,7 @@ fn write(
 // What stands in the buffer is sent, and writing starts at its first byte again.
 fn drain(rt: &impl Print, writer: OStream, buf: &[u8]) -> io::Result<OStream> {
     let drained = writer.flush(buf);
-    let answer = drained.answer;
-    if let Count::Bytes(n) = answer {
+    if let Count::Bytes(n) = drained.answer {
         show::bytes(rt, buf, n)?;
     }
     Ok(drained.stream)

@@ -1,16 +1,7 @@
-// What the tour prints, and the rest of a chunk.
+// What the tour prints.
 use event::Event;
 use istream::{Answer, Status};
 use std::io;
-
-// The chunk from there on; nothing beyond its end.
-pub fn rest(chunk: &[u8], from: usize) -> &[u8] {
-    if from <= chunk.len() {
-        &chunk[from..]
-    } else {
-        &chunk[0..0]
-    }
-}
 
 pub fn title(rt: &impl Print, word: &str) -> io::Result<()> {
     println!(rt; "\n{word}")
@@ -24,20 +15,14 @@ pub fn event(rt: &impl Print, event: Event, chunk: &[u8]) -> io::Result<()> {
 }
 
 pub fn verdict(rt: &impl Print, answer: Answer) -> io::Result<()> {
-    if let Answer::Status(s) = answer {
-        match s {
-            Status::Complete => println!(rt; "complete so far"),
-            Status::Incomplete => println!(rt; "incomplete so far"),
-        }
-    } else {
-        println!(rt; "broken")
+    match answer {
+        Answer::Status(Status::Complete) => println!(rt; "complete so far"),
+        Answer::Status(Status::Incomplete) => println!(rt; "incomplete so far"),
+        _ => println!(rt; "broken"),
     }
 }
 
 // The first n bytes of a buffer.
 pub fn bytes(rt: &impl Print, buf: &[u8], n: usize) -> io::Result<()> {
-    if buf.len() < n {
-        return Ok(());
-    }
-    rt.write_all(&buf[0..n])
+    rt.write_all(buf.get(..n).unwrap_or_default())
 }

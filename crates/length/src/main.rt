@@ -3,8 +3,8 @@
 // Where the message isn't complete, the buffer has no byte, or a read or a write fails, a line on standard error says so.
 #![tactic(auto)]
 
-use copy_len::Length;
 use drains::rounded_up;
+use passing::Stop;
 use piping::{
     Copy, State, broken, complain, copy_all, drain, incomplete, start, unread, unwritten,
 };
@@ -37,9 +37,9 @@ fn tell(rt: &impl Print, err: &impl Print, n: u64, buffer: usize) -> io::Result<
 // A message that is here whole.
 fn measure(rt: &impl Print, err: &impl Print, message: &[u8], buffer: usize) -> io::Result<()> {
     match copy_len::length_of(message) {
-        Length::Bytes(n) => tell(rt, err, n as u64, buffer),
-        Length::Incomplete => incomplete(err, &NAME, message.len() as u64),
-        Length::Broken(n) => broken(err, &NAME, n as u64),
+        Ok(n) => tell(rt, err, n as u64, buffer),
+        Err(Stop::Short) => incomplete(err, &NAME, message.len() as u64),
+        Err(Stop::Broken(n)) => broken(err, &NAME, n as u64),
     }
 }
 

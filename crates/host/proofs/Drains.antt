@@ -22,28 +22,35 @@ use Rattle.copies.specs.Demand.{Whole, Run, after}
 use Rattle.copies.specs.Exact.{DrainedAtFull, flushed}
 use Rattle.copies.proofs.Exact.{run_exactly}
 use Rattle.exports.specs.Exports.{measured, drained}
-use Rattle.copy_len.specs.declared.Length.{Length}
-use Rattle.copy_len.specs.declared.Length.TheVariants as Lengths
+use Rattle.std.specs.Prelude.{Result, Ok, Err}
+use Rattle.passing.specs.declared.Stop.{Stop}
 use Rattle.copy_len.specs.CopyLen.{length_in, length_of}
 use Rattle.drain_count.specs.declared.Drains.{Drains}
-use Rattle.drain_count.specs.declared.Drains.TheVariants as answers
+use Rattle.drain_count.specs.declared.Uncounted.{Uncounted}
+use Rattle.drain_count.specs.declared.Uncounted.TheVariants.{Stopped}
 use Rattle.drain_count.specs.DrainCount.{counted, drains_in, drains_of}
 use Rattle.drain_count.proofs.Answers.{some_counted}
 use Rattle.host.proofs.Length.{length_small, length-heard}
 
+abbrev told : ℕ → ℕ → Result Drains Uncounted
+told k n = Ok (record { count = k; len = n })
+
+abbrev count_in : Result Drains Uncounted → ℕ
+count_in (Ok x) = x.count
+count_in (Err u) = 0
+
 -- No more drains than bytes, and a copy is no longer than its message.
-pub drains_small : (T : List ℕ) → Bytes T → length T < 9223372036854775808 → (b : ℕ) (d : Drains) → d ≡ drains_of T b → (k n : ℕ) → d ≡ answers.Count k n → k < 9223372036854775808
+pub drains_small : (T : List ℕ) → Bytes T → length T < 9223372036854775808 → (b : ℕ) (d : Result Drains Uncounted) → d ≡ drains_of T b → (n k : ℕ) → d ≡ Ok (record { count = k; len = n }) → k < 9223372036854775808
 unfolding drains_in
-drains_small T a h zero d e k n g = let q : drains_in zero (length_of T) ≡ answers.Count k n = sym e ∙ g in absurd (let z : ◌≡◌ {A = ℕ} 0 1 = cc in omega arith)
-drains_small T a h (suc b) d e k n g = go (length_of T) refl
+drains_small T a h zero d e n k g = let q : drains_in zero (length_of T) ≡ told k n = sym e ∙ g in absurd (let z : ◌≡◌ {A = ℕ} 0 1 = cc in omega arith)
+drains_small T a h (suc b) d e n k g = go (length_of T) refl
   where
-    go : (l : Length) → length_of T ≡ l → k < 9223372036854775808
-    go (Lengths.Bytes m) q =
-        let c : answers.Count (rounded_up m (suc b)) m ≡ answers.Count k n = ap (counted (suc b)) (sym q) ∙ sym e ∙ g in
-        let r : rounded_up m (suc b) ≡ k = cc in
+    go : (l : Result ℕ Stop) → length_of T ≡ l → k < 9223372036854775808
+    go (Ok m) q =
+        let c : told (rounded_up m (suc b)) m ≡ told k n = ap (counted (suc b)) (sym q) ∙ sym e ∙ g in
+        let r : rounded_up m (suc b) ≡ k = ap count_in c in
         omega (arith, r, rounded_most m (suc b) (omega arith), length_small T a h (length_of T) refl m q)
-    go Lengths.Incomplete q = let c : answers.Incomplete ≡ answers.Count k n = ap (counted (suc b)) (sym q) ∙ sym e ∙ g in absurd (let z : ◌≡◌ {A = ℕ} 0 1 = cc in omega arith)
-    go (Lengths.Broken m) q = let c : answers.Broken m ≡ answers.Count k n = ap (counted (suc b)) (sym q) ∙ sym e ∙ g in absurd (let z : ◌≡◌ {A = ℕ} 0 1 = cc in omega arith)
+    go (Err s) q = let c : Err (Stopped s) ≡ told k n = ap (counted (suc b)) (sym q) ∙ sym e ∙ g in absurd (let z : ◌≡◌ {A = ℕ} 0 1 = cc in omega arith)
 
 some_drained : (b n : ℕ) → 1 ≤ b → drained b complete n ≡ pos (rounded_up n b)
 unfolding drained measured
@@ -54,14 +61,14 @@ some_drained (suc b) n h = refl
 
 -- the drains of the run, next to the bytes that it has sent
 pub drains_sent : (T : List ℕ) → Whole T → (r : Run T) → DrainedAtFull r.schedule (start r.buf r.chunks)
-    → drains_of T (length r.buf) ≡ answers.Count (flushed (after r)).drains (length (flushed (after r)).sent)
+    → drains_of T (length r.buf) ≡ Ok (record { count = (flushed (after r)).drains; len = length (flushed (after r)).sent })
 drains_sent T w r q =
     let c = run_exactly T w r q in
-    let l : Length = Lengths.Bytes (length (plain_copy base T)) in
+    let l : Result ℕ Stop = Ok (length (plain_copy base T)) in
     ap (λ (v : Verdict). drains_in (length r.buf) (length_in v (length (plain_copy base T)))) ((complete_iff base T w.0).1 w.1)
-    ∙ sym (some_counted (length r.buf) (λ e. omega (arith, r.room)) l l l refl refl)
-    ∙ ap (λ (k : ℕ). answers.Count k (length (plain_copy base T))) (sym c.drains)
-    ∙ ap (λ (M : List ℕ). answers.Count (flushed (after r)).drains (length M)) (sym c.sent)
+    ∙ sym (some_counted (length r.buf) (λ e. omega (arith, r.room)) l)
+    ∙ ap (λ (k : ℕ). told k (length (plain_copy base T))) (sym c.drains)
+    ∙ ap (λ (M : List ℕ). told (flushed (after r)).drains (length M)) (sym c.sent)
 
 pub drains_streamed : (T : List ℕ) → Whole T → (r : Run T) → DrainedAtFull r.schedule (start r.buf r.chunks)
     → drained (length r.buf) (verdict_of base T) (length (plain_copy base T)) ≡ pos (flushed (after r)).drains

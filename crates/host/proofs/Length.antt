@@ -19,25 +19,26 @@ use Rattle.reading.proofs.Feeds.{feeds_last}
 use Rattle.copies.specs.Demand.{Whole, Run, output}
 use Rattle.copies.proofs.Demand.{demand}
 use Rattle.exports.specs.Exports.{room, filled, copied, measured}
-use Rattle.copy_len.specs.declared.Length.{Length}
-use Rattle.copy_len.specs.declared.Length.TheVariants as answers
+use Rattle.std.specs.Prelude.{Result, Ok, Err}
+use Rattle.passing.specs.declared.Stop.{Stop}
+use Rattle.passing.specs.declared.Stop.TheVariants.{Short, Broken}
 use Rattle.copy_len.specs.CopyLen.{length_in, length_of}
 
 -- No complete message with those events is shorter, the message itself neither: so a length is one that an answer can name.
-pub length_small : (T : List ℕ) → Bytes T → length T < 9223372036854775808 → (l : Length) → l ≡ length_of T → (n : ℕ) → l ≡ answers.Bytes n → n < 9223372036854775808
+pub length_small : (T : List ℕ) → Bytes T → length T < 9223372036854775808 → (l : Result ℕ Stop) → l ≡ length_of T → (n : ℕ) → l ≡ Ok n → n < 9223372036854775808
 length_small T a h l e n g = go (verdict_of base T) refl
   where
     go : (v : Verdict) → verdict_of base T ≡ v → n < 9223372036854775808
     go complete q =
         let m : length (plain_copy base T) ≤ length T = shortest-copy base T T a a q q refl in
-        let b : answers.Bytes (length (plain_copy base T)) ≡ answers.Bytes n = ap (λ (v : Verdict). length_in v (length (plain_copy base T))) (sym q) ∙ sym e ∙ g in
+        let b : ◌≡◌ {A = Result ℕ Stop} (Ok (length (plain_copy base T))) (Ok n) = ap (λ (v : Verdict). length_in v (length (plain_copy base T))) (sym q) ∙ sym e ∙ g in
         let k : length (plain_copy base T) ≡ n = cc in
         omega arith
     go incomplete q =
-        let b : answers.Incomplete ≡ answers.Bytes n = ap (λ (v : Verdict). length_in v (length (plain_copy base T))) (sym q) ∙ sym e ∙ g in
+        let b : ◌≡◌ {A = Result ℕ Stop} (Err Short) (Ok n) = ap (λ (v : Verdict). length_in v (length (plain_copy base T))) (sym q) ∙ sym e ∙ g in
         absurd (let z : ◌≡◌ {A = ℕ} 0 1 = cc in omega arith)
     go (broken_at k) q =
-        let b : answers.Broken k ≡ answers.Bytes n = ap (λ (v : Verdict). length_in v (length (plain_copy base T))) (sym q) ∙ sym e ∙ g in
+        let b : ◌≡◌ {A = Result ℕ Stop} (Err (Broken k)) (Ok n) = ap (λ (v : Verdict). length_in v (length (plain_copy base T))) (sym q) ∙ sym e ∙ g in
         absurd (let z : ◌≡◌ {A = ℕ} 0 1 = cc in omega arith)
 
 -- ---- beside the copy's call, for every message and output
@@ -55,9 +56,9 @@ length_least m out h = simp (lt-leb (length m) (room out) h)
 
 -- ---- beside the copier, for every complete message, cut, buffer and schedule
 
-pub length-sent : (T : List ℕ) → Whole T → (r : Run T) → length_of T ≡ answers.Bytes (length (output r))
+pub length-sent : (T : List ℕ) → Whole T → (r : Run T) → length_of T ≡ Ok (length (output r))
 length-sent T w r =
-    ap (λ (v : Verdict). length_in v (length (plain_copy base T))) ((complete_iff base T w.0).1 w.1) ∙ ap (λ (m : List ℕ). answers.Bytes (length m)) (sym (demand.copies T w r))
+    ap (λ (v : Verdict). length_in v (length (plain_copy base T))) ((complete_iff base T w.0).1 w.1) ∙ ap (λ (m : List ℕ). Ok (length m)) (sym (demand.copies T w r))
 
 pub length_streamed : (T : List ℕ) → Whole T → (r : Run T) → measured (verdict_of base T) (length (plain_copy base T)) ≡ pos (length (output r))
 unfolding measured

@@ -57,8 +57,7 @@ pub fn sofab_copy(ticket: &[u8], out: &mut [u8]) -> i64
     if own_copy::is_own(ticket) {
         return block(ticket, out);
     }
-    let n = codes::refusal(whole::verdict_of(ticket));
-    if n < 0 {
+    if let Some(n) = codes::refusal(whole::verdict_of(ticket)) {
         return n;
     }
     copy(ticket, out)

@@ -4,8 +4,8 @@
 #![tactic(auto)]
 
 use argument::{NoNumber, number_at};
-use copy_len::Length;
 use drains::rounded_up;
+use passing::Stop;
 use piping::{Failure, Trouble, complain, copy_all, unwritten};
 use std::io::{self, Read};
 use std::num::NonZeroUsize;
@@ -16,9 +16,9 @@ const NAME: [u8; 6] = *b"length";
 // A message that is here whole.
 fn measure(message: &[u8]) -> Result<u64, Trouble> {
     match copy_len::length_of(message) {
-        Length::Bytes(n) => Ok(n as u64),
-        Length::Incomplete => Err(Trouble::Incomplete(message.len() as u64)),
-        Length::Broken(n) => Err(Trouble::Broken(n as u64)),
+        Ok(n) => Ok(n as u64),
+        Err(Stop::Short) => Err(Trouble::Incomplete(message.len() as u64)),
+        Err(Stop::Broken(n)) => Err(Trouble::Broken(n as u64)),
     }
 }
 

@@ -89,6 +89,7 @@ pub fn count_at(t: &[u8], at: usize) -> Result<(u64, usize), Stop>
 // ---- varints whose values are not asked for: the place after them
 
 // A varint, out of line: its end, and the rule of the tenth byte.
+#[inline(never)]
 pub fn skip_at(t: &[u8], at: usize) -> Result<usize, Stop>
     requires { at ≤ length t.now }
     ensures { Passes t.now at (λ d. ends d (varint base (drop at t.now))) result }

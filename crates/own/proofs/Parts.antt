@@ -4,7 +4,6 @@ use mathlib.Core.Path.{◌≡◌, refl, sym, ap, ◌∙◌, subst}
 use mathlib.Core.List.{List, ◌++◌}
 use native.Mathlib.Omega.{arith}
 use lib.ListN.{length, get_or}
-use Rattle.std.specs.Prelude.{Option, Some, None, IfSome}
 use Rattle.layout.specs.Limits.{base}
 use Rattle.layout.specs.Varint.{shortest}
 use Rattle.varint.proofs.Shortest.{length_some}
@@ -14,11 +13,6 @@ use Rattle.shortest.proofs.Spans.{here, all_bytes, ends_as, ends_bytes, ends_the
 use Rattle.shortest.proofs.Varints.{one, two}
 use Rattle.own.proofs.Runs.{fields_append, numbers_one, numbers_append}
 use Rattle.own.proofs.Bodies.{unsigned_body, signed-body, float_body, raw_body, unsigneds_body, signeds_body, floats_body, with_header, opens, closes}
-
--- what an answer names, seen otherwise
-pub some_as : {A : Type 0} {P Q : A → Type 0} (o : Option A) → IfSome o P → ((x : A) → P x → Q x) → IfSome o Q
-some_as None h f = tt
-some_as (Some x) h f = f x h
 
 -- ---- one byte and two
 

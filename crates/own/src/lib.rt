@@ -56,7 +56,7 @@ fn scalar_at(t: &[u8], at: usize, h: u64) -> Option<usize>
 }
 
 // A varint with its value.
-#[inline(never)]
+#[inline(always)]
 fn long_value_at(t: &[u8], at: usize) -> Option<(u64, usize)>
     ensures { IfSome result (λ r. Ends t.now at (λ bs. bs ≡ shortest r.0) r.1) }
 {
@@ -239,7 +239,10 @@ fn sequence_at(t: &[u8], at: usize, depth: u8) -> Option<Run>
     ensures { IfSome result (λ r. (at < r.end) × Ends t.now at (λ bs. OwnFields base depth bs r.depth) r.end) }
 {
     let h = *t.get(at)?;
-    if h < 128 && h % 8 == 6 {
+    if 128 <= h {
+        return None;
+    }
+    if h % 8 == 6 {
         return Some(Run {
             end: at + 1,
             depth: depth.checked_add(1)?,

@@ -37,7 +37,7 @@ pub fn chunks(bytes: &[u8], size: usize) -> u64 {
         for _ in 0..u64::MAX {
             let f = stream.feed(left);
             stream = f.stream;
-            let Answer::Event(e) = f.answer else {
+            let Ok(Answer::Event(e)) = f.answer else {
                 break;
             };
             let Some(rest) = left.get(f.read..) else {

@@ -140,7 +140,7 @@ fn again(m: &Message<'_>, r: Run, buf: &mut [u8]) -> Run {
     let w = made(m, r, buf);
     let stream = rebuilt(w.stream);
     match w.answer {
-        Answer::Full(place) => Run {
+        Ok(Answer::Full(place)) => Run {
             stream,
             i: r.i,
             place,
@@ -166,7 +166,7 @@ fn calls<F: FnMut(OStream, usize, &mut [u8]) -> Written>(
     for i in r.i..n {
         let w = call(stream, i, buf);
         stream = w.stream;
-        if let Answer::Full(place) = w.answer {
+        if let Ok(Answer::Full(place)) = w.answer {
             return Run {
                 stream: rebuilt(stream),
                 i,

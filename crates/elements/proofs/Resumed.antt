@@ -81,9 +81,6 @@ module _ {A : Type 0} (f : A → List ℕ) (l : List A) where
         let t = w.few in
         record { within = w.within; sum = w.sum; short = λ y k. let a = from_here i x h in let b = from_here i y h in omega arith; few = λ k. omega arith }
 
-    pub out_end : length l ≤ i → OutAfter f l skip i left
-    out_end h = record { within = w.within; sum = w.sum; short = λ y k. absurd (omega arith); few = λ k. absurd (omega arith) }
-
   -- elements of n bytes each need no counting
   pub out_evenly : (n : ℕ) → n ≤ longest base → ((x : A) → length (f x) ≡ n) → (skip whole part : ℕ) → whole ≤ length l → whole * n + part ≡ skip → (whole < length l → part < n) → OutAfter f l skip whole part
   out_evenly n t k skip whole part h s g =
@@ -178,10 +175,6 @@ module _ {A : Type 0} (f : A → List ℕ) (l : List A) (c : Cursor) (b : List �
         let n = from_here f l i x h in
         let o : part - length (each f (drop i l)) ≡ c.skip - length (each f l) = w.rest in
         record { left = m; inside = t; short = λ u j. some (get_or l (i + 1) u); rest = omega arith }
-
-    -- fewer bytes of it are out than any element has
-    pub resumed_part : (n : ℕ) → ((x : A) → length (f x) ≡ n) → i < length l → part < n
-    resumed_part n e h = let x : A = some_of l i h in let k = w.short x h in let j = e (get_or l i x) in omega arith
 
     whole : Puts b c.pos (drop c.skip (each f l)) d at → (n : ℕ) → n ≡ c.skip - length (each f l) → Emitted c b (each f l) (record { pos = at; skip = n }) d
     whole (p, q) n e = some_left c b (each f l) _ at n d e refl p q

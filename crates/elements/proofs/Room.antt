@@ -19,9 +19,6 @@ pub record Roomy {A : Type 0} (f : A → List ℕ) (m : ℕ) (l : List A) (b : L
   pub sums : at + length (each f (drop i l)) ≡ pos + length (each f l)
 
 module _ {A : Type 0} (f : A → List ℕ) (m : ℕ) (l : List A) (b : List ℕ) (pos : ℕ) where
-  pub roomy_start : pos + m * length l ≤ length b → Roomy f m l b pos b pos 0
-  roomy_start h = let e : length l - 0 ≡ length l = omega arith in record { left = start b pos (each f l); room = subst (λ (k : ℕ). pos + m * k ≤ length b) (sym e) h; sums = refl }
-
   module _ (d : List ℕ) (at i : ℕ) (w : Roomy f m l b pos d at i) where
     -- the room for one more, and what it leaves to the others
     turn : i < length l → at + m + m * (length l - (i + 1)) ≤ length b

@@ -55,13 +55,13 @@ fn step(l: Listing, chunk: &[u8], out: &mut [u8]) -> Listing {
     let heard = told.heard;
     let mut at = l.at;
     let verdict = match heard.answer {
-        Answer::Event(e) => {
+        Ok(Answer::Event(e)) => {
             at = put_event(out, at, rest, e);
             None
         }
-        Answer::Status(Status::Complete) => Some(Verdict::Complete),
-        Answer::Status(Status::Incomplete) => Some(Verdict::Incomplete),
-        Answer::Refused(_) => Some(Verdict::Invalid),
+        Ok(Answer::Status(Status::Complete)) => Some(Verdict::Complete),
+        Ok(Answer::Status(Status::Incomplete)) => Some(Verdict::Incomplete),
+        Err(_) => Some(Verdict::Invalid),
     };
     Listing {
         stream: told.stream,

@@ -4,7 +4,6 @@
 
 use copier::{Answer, Copier};
 use istream::Status;
-use ostream::Count;
 use std::io::{self, ErrorKind, Read, Write};
 pub use streams::{Failure, unread, unwritten};
 
@@ -46,7 +45,7 @@ impl Copy {
     fn drain(&mut self, sink: &mut impl Write, out: &[u8]) -> Result<(), Failure> {
         let drained = self.copier.flush(out);
         self.copier = drained.copier;
-        let Count::Bytes(n) = drained.answer else {
+        let Ok(n) = drained.answer else {
             return Err(Failure::Unwritten(ErrorKind::WriteZero));
         };
         let Some(bytes) = out.get(..n) else {
@@ -71,9 +70,9 @@ impl Copy {
             self.bytes = self.bytes.wrapping_add(copied.used as u64);
             rest = rest.get(copied.used..).unwrap_or_default();
             match copied.answer {
-                Answer::Full => self.drain(sink, out)?,
-                Answer::Status(status) => return Ok(status),
-                Answer::Refused(_) => return Err(Trouble::Broken(self.bytes)),
+                Ok(Answer::Full) => self.drain(sink, out)?,
+                Ok(Answer::Status(status)) => return Ok(status),
+                Err(_) => return Err(Trouble::Broken(self.bytes)),
             }
         }
         Ok(Status::Incomplete)

@@ -1,14 +1,13 @@
 // One copy of a torn message, through a buffer that is drained at "full", at the end, and now and then between, beside the copy expected.
 use crate::draw::{Cuts, Turn};
 use copier::{Answer, Copier};
-use ostream::Count;
 use std::io::{self, Write};
 
 // The buffer's first bytes are sent: what is due of the copy expected after them, if they are its next ones.
 fn drained<'a>(copier: &mut Copier, buf: &[u8], due: &'a [u8]) -> Option<&'a [u8]> {
     let drained = copier.flush(buf);
     *copier = drained.copier;
-    let Count::Bytes(n) = drained.answer else {
+    let Ok(n) = drained.answer else {
         return None;
     };
     due.strip_prefix(buf.get(..n)?)
@@ -30,9 +29,9 @@ pub fn copies(
         copier = copied.copier;
         cuts.used(copied.used);
         let turn = match copied.answer {
-            Answer::Full => Turn::Drain,
-            Answer::Status(_) => cuts.turn(log)?,
-            Answer::Refused(_) => return Ok(false),
+            Ok(Answer::Full) => Turn::Drain,
+            Ok(Answer::Status(_)) => cuts.turn(log)?,
+            Err(_) => return Ok(false),
         };
         if turn != Turn::Chunk {
             let Some(rest) = drained(&mut copier, buf, due) else {

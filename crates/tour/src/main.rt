@@ -5,7 +5,7 @@
 mod show;
 
 use istream::IStream;
-use ostream::{Count, OStream};
+use ostream::OStream;
 use std::io;
 
 // The events of a chunk. A call stops at each; the next one, on the chunk's rest, goes on behind it. (The turns only say that this ends.)
@@ -15,7 +15,7 @@ fn read(rt: &impl Print, start: IStream, chunk: &[u8]) -> io::Result<IStream> {
     for _ in 0..u64::MAX {
         let fed = reader.feed(rest);
         reader = fed.stream;
-        let istream::Answer::Event(event) = fed.answer else {
+        let Ok(istream::Answer::Event(event)) = fed.answer else {
             show::verdict(rt, fed.answer)?;
             break;
         };
@@ -38,7 +38,7 @@ fn write(
     for _ in 0..u64::MAX {
         let written = writer.write_unsigned(buf, id, value, place);
         writer = written.stream;
-        let ostream::Answer::Full(out) = written.answer else {
+        let Ok(ostream::Answer::Full(out)) = written.answer else {
             break;
         };
         writer = drain(rt, writer, buf)?;
@@ -50,7 +50,7 @@ fn write(
 // What stands in the buffer is sent, and writing starts at its first byte again.
 fn drain(rt: &impl Print, writer: OStream, buf: &[u8]) -> io::Result<OStream> {
     let drained = writer.flush(buf);
-    if let Count::Bytes(n) = drained.answer {
+    if let Ok(n) = drained.answer {
         show::bytes(rt, buf, n)?;
     }
     Ok(drained.stream)

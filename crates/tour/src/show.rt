@@ -2,6 +2,7 @@
 use event::Event;
 use istream::{Answer, Status};
 use std::io;
+use types::Error;
 
 pub fn title(rt: &impl Print, word: &str) -> io::Result<()> {
     println!(rt; "\n{word}")
@@ -14,10 +15,10 @@ pub fn event(rt: &impl Print, event: Event, chunk: &[u8]) -> io::Result<()> {
     bytes(rt, &text, end)
 }
 
-pub fn verdict(rt: &impl Print, answer: Answer) -> io::Result<()> {
+pub fn verdict(rt: &impl Print, answer: Result<Answer, Error>) -> io::Result<()> {
     match answer {
-        Answer::Status(Status::Complete) => println!(rt; "complete so far"),
-        Answer::Status(Status::Incomplete) => println!(rt; "incomplete so far"),
+        Ok(Answer::Status(Status::Complete)) => println!(rt; "complete so far"),
+        Ok(Answer::Status(Status::Incomplete)) => println!(rt; "incomplete so far"),
         _ => println!(rt; "broken"),
     }
 }

@@ -12,22 +12,22 @@ fn acc(desk: &[u64]) -> PayloadAcc {
 }
 
 // What a call tells, the desk's words 23 and 24, and its way back.
-fn told(a: Answer) -> [u64; 2] {
+fn told(a: Result<Answer, Error>) -> [u64; 2] {
     match a {
-        Answer::Nothing => [0, 0],
-        Answer::InChunk(n) => [1, n as u64],
-        Answer::InBuffer(n) => [2, n as u64],
-        Answer::Refused(e) => [3, e.number() as u64],
+        Ok(Answer::Nothing) => [0, 0],
+        Ok(Answer::InChunk(n)) => [1, n as u64],
+        Ok(Answer::InBuffer(n)) => [2, n as u64],
+        Err(e) => [3, e.number() as u64],
     }
 }
 
-fn said(desk: &[u64]) -> Answer {
+fn said(desk: &[u64]) -> Result<Answer, Error> {
     let n = word(desk, 24) as usize;
     match word(desk, 23) {
-        1 => Answer::InChunk(n),
-        2 => Answer::InBuffer(n),
-        3 => Answer::Refused(Error::PayloadTooLong),
-        _ => Answer::Nothing,
+        1 => Ok(Answer::InChunk(n)),
+        2 => Ok(Answer::InBuffer(n)),
+        3 => Err(Error::PayloadTooLong),
+        _ => Ok(Answer::Nothing),
     }
 }
 

@@ -4,7 +4,7 @@ use desk::{byte, lay, narrow, word};
 use event::{Bounds, Event, fp32_bits, fp64_bits};
 use istream::{Answer, Fed, IStream, Status};
 use phase::{Carried, Phase};
-use types::{FixlenType, FloatType, RawType};
+use types::{Error, FixlenType, FloatType, RawType};
 use varint::Acc;
 
 pub fn float_type(n: u64) -> FloatType {
@@ -147,11 +147,11 @@ pub fn verdict(s: Status) -> u64 {
     }
 }
 
-fn answer(a: Answer) -> Tale {
+fn answer(a: Result<Answer, Error>) -> Tale {
     match a {
-        Answer::Event(e) => event(e),
-        Answer::Status(s) => told(verdict(s), 0, 0, 0),
-        Answer::Refused(e) => told(18, 0, 0, e.number() as u64),
+        Ok(Answer::Event(e)) => event(e),
+        Ok(Answer::Status(s)) => told(verdict(s), 0, 0, 0),
+        Err(e) => told(18, 0, 0, e.number() as u64),
     }
 }
 

@@ -23,7 +23,7 @@ pub fn bench_copy(ticket: &[u8], size: usize, buf: &mut [u8], out: &mut [u8]) ->
                 sent = send(k, buf, out, sent);
                 k = k.flush(buf).copier;
             }
-            if !matches!(f.answer, Answer::Full) {
+            if !matches!(f.answer, Ok(Answer::Full)) {
                 break;
             }
             rest = rest.get(f.used..).unwrap_or(b"");

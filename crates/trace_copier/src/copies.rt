@@ -1,7 +1,7 @@
 // One call of the copier. Its state are the reader's words and the writer's, then at 18 to 22 what is owed: its number, an id, a kind, a
 // value, and the place reached in it. A call finds its number at 24 and an offset at 28, tells its answer at 23, the bytes used or to be
 // sent at 24, and a refusal's number at 27 (of drain and change at 24).
-use copier::{Answer, Copied, Copier, Drained, Opened, Opening};
+use copier::{Answer, Copied, Copier, Drained, Opened};
 use desk::calls::CopierCall;
 use desk::{byte, lay, narrow, word};
 use owed::Owed;
@@ -79,8 +79,8 @@ fn store(k: Copier, desk: &mut [u64]) {
 
 fn opened(o: Opened, desk: &mut [u64]) {
     let told = match o.answer {
-        Opening::Open => [0u64; 5],
-        Opening::Refused(e) => [3, 0, 0, 0, e.number() as u64],
+        Ok(()) => [0u64; 5],
+        Err(e) => [3, 0, 0, 0, e.number() as u64],
     };
     store(o.copier, desk);
     lay(desk, 23, &told);
@@ -89,9 +89,9 @@ fn opened(o: Opened, desk: &mut [u64]) {
 fn copied(f: Copied, desk: &mut [u64]) {
     let used = f.used as u64;
     let told = match f.answer {
-        Answer::Full => [1, used, 0, 0, 0],
-        Answer::Status(s) => [verdict(s), used, 0, 0, 0],
-        Answer::Refused(e) => [18, used, 0, 0, e.number() as u64],
+        Ok(Answer::Full) => [1, used, 0, 0, 0],
+        Ok(Answer::Status(s)) => [verdict(s), used, 0, 0, 0],
+        Err(e) => [18, used, 0, 0, e.number() as u64],
     };
     store(f.copier, desk);
     lay(desk, 23, &told);

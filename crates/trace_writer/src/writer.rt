@@ -4,7 +4,7 @@
 use desk::calls::WriterCall;
 use desk::{lay, narrow, short, word};
 use event::Event;
-use ostream::{Answer, Count, Counted, OStream, Written};
+use ostream::{Answer, Counted, OStream, Written};
 use types::{Error, FixlenType};
 
 // The eight places.
@@ -62,19 +62,19 @@ fn refused(e: Error) -> [u64; 2] {
     [3, e.number() as u64]
 }
 
-pub fn counted(c: Count) -> [u64; 2] {
+pub fn counted(c: Result<usize, Error>) -> [u64; 2] {
     match c {
-        Count::Bytes(n) => [4, n as u64],
-        Count::Refused(e) => refused(e),
+        Ok(n) => [4, n as u64],
+        Err(e) => refused(e),
     }
 }
 
 // What a call leaves on the desk: the writer, and the answer.
 pub fn told(w: Written, desk: &mut [u64]) {
     let answer = match w.answer {
-        Answer::Done => [0, 0],
-        Answer::Full(n) => [1, n as u64],
-        Answer::Refused(e) => refused(e),
+        Ok(Answer::Done) => [0, 0],
+        Ok(Answer::Full(n)) => [1, n as u64],
+        Err(e) => refused(e),
     };
     store(w.stream, desk);
     lay(desk, 23, &answer);

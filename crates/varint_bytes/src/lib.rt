@@ -9,15 +9,13 @@ pub fn put_whole(buf: &mut [u8], pos: usize, v: u64) -> usize
     ensures { Puts buf.old pos (shortest v) buf.new result }
 {
     let mut rest = v;
-    let mut at = pos;
-    while at < buf.len() {
+    for at in pos..buf.len() {
         if rest < 128 {
             buf[at] = rest as u8;
             return at + 1;
         }
         buf[at] = (rest % 128 + 128) as u8;
-        rest = rest / 128;
-        at += 1;
+        rest /= 128;
     }
-    at
+    pos.max(buf.len())
 }

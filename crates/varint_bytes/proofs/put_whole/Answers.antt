@@ -1,49 +1,35 @@
 -- `varint_bytes::put_whole`: at each turn, the rest's varint is left to write.
-use Prim.Native.Nat.{◌-◌}
+use Prim.Native.Nat.{ℕ, ◌≤◌, ◌<◌, max}
+use mathlib.Core.Path.{◌≡◌, refl, subst}
 use native.Mathlib.Omega.{arith}
-use lib.ListN.{length-set}
+use mathlib.Core.Bool.{Bool, true, false}
+use lib.Dec.{leb}
+use borrow.Author.Tests.{leb-true, leb-false}
+use lib.ListN.{length, length-set}
+use Rattle.layout.specs.Varint.{shortest}
 use Rattle.varint.proofs.Shortest.{shortest_one, shortest-more}
 use Rattle.putting.proofs.Turns.{start, next, no_room, ended}
+use Rattle.putting.specs.Put.{Puts}
 use Rattle.varint_bytes.proofs.put_whole.Goals as goal
 
 pub loop-at-init : goal.loop-at-init
-loop-at-init c = start _ _ _
-
-pub shape_of-buf-then-rest-lt128 : goal.shape_of-buf-then-rest-lt128
-shape_of-buf-then-rest-lt128 c = simp length-set c.loop-at.invariant.size
+loop-at-init c = record { left = start _ _ _; none = λ h. refl }
 
 pub returns-then-rest-lt128 : goal.returns-then-rest-lt128
-returns-then-rest-lt128 c = ended _ _ _ _ _ _ c.loop-at.invariant _ (shortest_one _ c.if-rest-lt128.true) c.loop-at-test.true
+returns-then-rest-lt128 c = ended _ _ _ _ _ _ c.loop-at.invariant.left _ (shortest_one _ c.if-rest-lt128.true) (omega arith)
 
 pub loop-at-preserved : goal.loop-at-preserved
-loop-at-preserved c = next _ _ _ _ _ _ c.loop-at.invariant _ _ (shortest-more _ c.if-rest-lt128.false) c.loop-at-test.true
+loop-at-preserved c = record { left = next _ _ _ _ _ _ c.loop-at.invariant.left _ _ (shortest-more _ c.if-rest-lt128.false) (omega arith); none = λ h. omega arith }
 
-pub shape_of-buf : goal.shape_of-buf
-shape_of-buf c = c.loop-at.invariant.size
+-- beyond the buffer's end there is no turn
+stays : (at pos n m : ℕ) → pos ≤ at → n ≤ at → (pos ≤ n → at ≤ n) → (n < pos → at ≡ pos) → m ≡ max pos n → at ≡ m
+stays at pos n m h k within beyond e = go (leb pos n) refl
+  where
+    go : (t : Bool) → leb pos n ≡ t → at ≡ m
+    go true q = let i = within (leb-true _ _ q) in omega arith
+    go false q = let i = beyond (leb-false _ _ q) in let j : n < pos = leb-false _ _ q in omega arith
 
 pub returns : goal.returns
-returns c = no_room _ _ _ _ _ _ c.loop-at.invariant c.loop-at-test.false
-
-pub overflow_cast-buf : goal.overflow_cast-buf
-overflow_cast-buf c = omega arith
-
-pub bounds-buf-at : goal.bounds-buf-at
-bounds-buf-at c = omega arith
-
-pub overflow_add-result : goal.overflow_add-result
-overflow_add-result c = omega arith
-
-pub overflow_add-buf : goal.overflow_add-buf
-overflow_add-buf c = omega arith
-
-pub overflow_cast-buf-in-loop-at : goal.overflow_cast-buf-in-loop-at
-overflow_cast-buf-in-loop-at c = omega arith
-
-pub bounds-buf-at-in-loop-at : goal.bounds-buf-at-in-loop-at
-bounds-buf-at-in-loop-at c = omega arith
-
-pub overflow_add-at : goal.overflow_add-at
-overflow_add-at c = omega arith
-
-pub loop-at-smaller : goal.loop-at-smaller
-loop-at-smaller c = omega arith
+returns c =
+    let e = stays c.loop-at.at c.args.pos (length c.args.buf.now) c.max.result (omega arith) (omega arith) c.loop-at.auto.at-end c.loop-at.invariant.none (omega arith) in
+    subst (λ (k : ℕ). Puts c.args.buf.now c.args.pos (shortest c.args.v) c.loop-at.buf k) e (no_room _ _ _ _ _ _ c.loop-at.invariant.left (omega arith))

@@ -1,6 +1,6 @@
 -- A loop that writes a list's elements where there is room for all: m bytes for each that is still to write, so that no turn meets the
 -- buffer's end.
-use mathlib.Core.Path.{◌≡◌, refl, sym, ap, ◌∙◌, subst}
+use mathlib.Core.Path.{◌≡◌, sym, ap, ◌∙◌, subst}
 use mathlib.Core.List.{List, ◌++◌}
 use Prim.Native.Nat.{ℕ, suc, ◌+◌, ◌-◌, ◌*◌, ◌≤◌, ◌<◌, min}
 use native.Mathlib.Nat.{mul-suc}
@@ -8,7 +8,7 @@ use native.Mathlib.Omega.{arith}
 use lib.ListN.{length, drop, get_or, length-append}
 use Rattle.layout.specs.Field.{each}
 use Rattle.putting.proofs.Writes.{reached_is}
-use Rattle.putting.proofs.Turns.{Left, start, none_left, followed_by}
+use Rattle.putting.proofs.Turns.{Left, none_left, followed_by}
 use Rattle.putting.specs.Put.{Puts}
 use Rattle.emit.proofs.Elements.{each_at, each_end}
 

@@ -7,7 +7,7 @@ use borrow.Rule.Slice.PartMut.{put_mid}
 use lib.ListN.{length, take, drop, length-take}
 use lib.Seq.{drop-drop}
 use Rattle.std.proofs.lemmas.List.{take_min}
-use Rattle.putting.specs.Put.{over, put, Puts}
+use Rattle.putting.specs.Put.{over, Puts}
 use Rattle.putting.proofs.Writes.{put_is, reached_is}
 
 pub stored : (b : List ℕ) (pos : ℕ) (s d : List ℕ) (n k : ℕ) → pos ≤ length b → n ≡ min (length s) (length b - pos) → k ≡ n → d ≡ take n s

@@ -52,12 +52,7 @@ pub fn unfit(size: usize, offset: usize, drained: bool) -> bool
 }
 
 // The refusals of a buffer change: the new buffer, then the state.
-pub fn check_change(
-    sound: bool,
-    size: usize,
-    offset: usize,
-    drained: bool,
-) -> Result<(), Error>
+pub fn check_change(sound: bool, size: usize, offset: usize, drained: bool) -> Result<(), Error>
     ensures { result ≡ check_of (judged (change_tests sound size offset drained)) }
 {
     if unfit(size, offset, drained) {

@@ -86,21 +86,13 @@ impl OStream {
         ensures { result_of result buf.new ≡ written (end_call self (length buf.old)) self buf.old place }
     {
         if place == 0 {
-            let end = close_at_once(
-                buf,
-                self.offset,
-                self.depth,
-                self.npending,
-                self.pending,
-            );
+            let end = close_at_once(buf, self.offset, self.depth, self.npending, self.pending);
             if self.offset < end {
                 self.depth = self.depth - 1;
                 return self.done(end);
             }
         }
-        self.rebuilt()
-            .end_slowly(buf, place)
-            .rebuilt()
+        self.rebuilt().end_slowly(buf, place).rebuilt()
     }
 
     // The slow form of `write_sequence_end`, from any state and place.

@@ -132,13 +132,14 @@ spent_live L (owing d id r) c x = tt
 spent_live L broke c x = let f = ap (λ (y : Called). y.answer) x in let z : ◌≡◌ {A = ℕ} 0 1 = cc in absurd (omega arith)
 
 -- a chunk that is spent
-pub from_spent : (L : Limits) (s : IStream) (c : List ℕ) (v : Status) → s.carried.depth ≤ L.depth → v ≡ status_in (verdict_so (state_of s)) → RightFrom L s.carried.depth s.phase (Some Spent) c
-    → fed_at 0 (Ok (Answers.Status v)) s.phase s.carried ≡ fed_of L s c
+pub from_spent : (L : Limits) (s : IStream) (c : List ℕ) (v : Status) (p : Phase) → s.carried.depth ≤ L.depth → v ≡ status_in (verdict_so (state_of s)) → p ≡ s.phase → RightFrom L s.carried.depth s.phase (Some Spent) c
+    → fed_at 0 (Ok (Answers.Status v)) p s.carried ≡ fed_of L s c
 unfolding fed_in
-from_spent L s c v b e (t, x) =
+from_spent L s c v p b e f (t, x) =
     let l = spent_live L (state_of s) c x in
     let back = sym (stream_back s.carried.depth s.phase l) in
-    (λ i. record { read = 0; answer = Ok (Answers.Status (e i)); stream = back i })
+    ap (λ (q : Phase). fed_at 0 (Ok (Answers.Status v)) q s.carried) f
+    ∙ (λ i. record { read = 0; answer = Ok (Answers.Status (e i)); stream = back i })
     ∙ ap fed_in (sym x)
     ∙ fed-sound L s (state_of s) c refl l (sym (sound_in L s s.phase b refl) ∙ t)
 

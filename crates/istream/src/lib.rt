@@ -12,7 +12,7 @@ ghost use Rattle.istream.specs.Private.{fed_at, fed_by};
 
 pub use call_end::{Answer, Status};
 use call_end::{CallEnd, verdict};
-use phase::{Carried, Phase, idle, sound, sound_payload};
+use phase::{Carried, Phase, idle, rebuilt, sound, sound_payload};
 use read_at_once::{Once, at_once};
 use read_slowly::{payload, slowly};
 use types::Error;
@@ -84,6 +84,20 @@ fn feed_slowly(stream: IStream, chunk: &[u8]) -> Fed
     fed_by(slowly(phase, stream.carried, chunk))
 }
 
+// The same, handed the state and handing it back as made from its numbers (`phase::rebuilt`).
+#[inline(always)]
+fn feed_out_of_line(stream: IStream, chunk: &[u8]) -> Fed
+    ensures { result ≡ fed_of base stream chunk.now }
+{
+    let copy = IStream {
+        phase: rebuilt(stream.phase),
+        carried: stream.carried,
+    };
+    let f = feed_slowly(copy, chunk);
+    let after = f.stream;
+    answered(f.read, f.answer, rebuilt(after.phase), after.carried)
+}
+
 impl IStream {
     pub fn new() -> IStream
         ensures { result ≡ stream_in fresh }
@@ -141,9 +155,9 @@ impl IStream {
             Some(Once::Done(p, k, e, n)) => answered(n, Ok(Answer::Event(e)), p, k),
             Some(Once::Spent) => {
                 let status = verdict(other, carried);
-                answered(0, Ok(Answer::Status(status)), other, carried)
+                answered(0, Ok(Answer::Status(status)), rebuilt(other), carried)
             }
-            None => feed_slowly(self, chunk),
+            None => feed_out_of_line(self, chunk),
         }
     }
 }

@@ -48,13 +48,6 @@ sort_back blob = refl
 
 -- ---- elements
 
-pub some_left : (n : ℕ) (p : ℕ → machine.Phase) → (n ≡ 0 → ⊥) → first_or n p ≡ p n
-some_left zero p h = absurd (h refl)
-some_left (suc n) p h = refl
-
-pub none_left : (n : ℕ) (p : ℕ → machine.Phase) → n ≡ 0 → first_or n p ≡ idle
-none_left n p h = ap (λ (m : ℕ). first_or m p) h
-
 pub next_first : (n : ℕ) (p : ℕ → machine.Phase) → first_or (n - 1) p ≡ next_or n p
 next_first zero p = refl
 next_first (suc n) p = let e : suc n - 1 ≡ n = omega arith in ap (λ (m : ℕ). first_or m p) e

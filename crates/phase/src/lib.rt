@@ -99,41 +99,20 @@ pub fn less(left: u32) -> u32
 pub fn sound_varint(id: u32, left: u32, a: Acc) -> bool
     ensures { result ≡ (id_in base id && (count_in base left && sound_acc base a)) }
 {
-    if ID_MAX < id {
-        return false;
-    }
-    if ARRAY_MAX < left {
-        return false;
-    }
-    a.sound()
+    id <= ID_MAX && left <= ARRAY_MAX && a.sound()
 }
 
+#[tactic(auto, using(crate::proofs::Phases::below))]
 pub fn sound_float(id: u32, w: FloatType, left: u32, k: u8, v: u64) -> bool
     ensures { result ≡ sound_phase base (Phase.Float id w left k v) }
 {
-    if ID_MAX < id {
-        return false;
-    }
-    if ARRAY_MAX < left {
-        return false;
-    }
-    let width = w.bytes();
-    if width <= k {
-        return false;
-    }
-    v >> (k * 8) == 0
+    id <= ID_MAX && left <= ARRAY_MAX && k < w.bytes() && v >> (k * 8) == 0
 }
 
 pub fn sound_payload(id: u32, r: RawType, total: u32, offset: u32) -> bool
     ensures { result ≡ sound_phase base (Phase.Payload id r total offset) }
 {
-    if ID_MAX < id {
-        return false;
-    }
-    if FIXLEN_MAX < total {
-        return false;
-    }
-    offset < total
+    id <= ID_MAX && total <= FIXLEN_MAX && offset < total
 }
 
 // Whether a reader can be within this. Only numbers in force are tested.
@@ -153,5 +132,37 @@ pub fn sound(phase: Phase) -> bool
         Phase::Payload(id, r, total, offset) => sound_payload(id, r, total, offset),
         Phase::Empty(id, _) => id <= ID_MAX,
         Phase::Broken => true,
+    }
+}
+
+// A varint under way, rebuilt from its numbers.
+#[inline(always)]
+fn acc_rebuilt(a: Acc) -> Acc
+    ensures { result ≡ a }
+{
+    Acc {
+        value: a.value,
+        taken: a.taken,
+    }
+}
+
+// A phase, rebuilt from its numbers. (Where whole copies went to and from the slow form, reading took two to three times as long.)
+#[inline(always)]
+pub fn rebuilt(phase: Phase) -> Phase
+    ensures { result ≡ phase }
+{
+    match phase {
+        Phase::Header(a) => Phase::Header(acc_rebuilt(a)),
+        Phase::Unsigned(id, left, a) => Phase::Unsigned(id, left, acc_rebuilt(a)),
+        Phase::Signed(id, left, a) => Phase::Signed(id, left, acc_rebuilt(a)),
+        Phase::Word(id, a) => Phase::Word(id, acc_rebuilt(a)),
+        Phase::UnsignedCount(id, a) => Phase::UnsignedCount(id, acc_rebuilt(a)),
+        Phase::SignedCount(id, a) => Phase::SignedCount(id, acc_rebuilt(a)),
+        Phase::FloatCount(id, a) => Phase::FloatCount(id, acc_rebuilt(a)),
+        Phase::ArrayWord(id, count, a) => Phase::ArrayWord(id, count, acc_rebuilt(a)),
+        Phase::Float(id, w, left, k, v) => Phase::Float(id, w, left, k, v),
+        Phase::Payload(id, r, total, offset) => Phase::Payload(id, r, total, offset),
+        Phase::Empty(id, r) => Phase::Empty(id, r),
+        Phase::Broken => Phase::Broken,
     }
 }

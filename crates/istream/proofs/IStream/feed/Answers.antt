@@ -31,4 +31,4 @@ returns-in-Some-Spent c =
     let f : Fits w8 c.args.self.carried.depth = search rules in
     let r : RightFrom base c.args.self.carried.depth c.args.self.phase (Some Spent) c.args.chunk.now = search rules in
     c.answered-in-Some-Spent.ensures
-    ∙ from_spent base c.args.self c.args.chunk.now _ (omega (arith, f.fits)) c.verdict-status.ensures r
+    ∙ from_spent base c.args.self c.args.chunk.now _ _ (omega (arith, f.fits)) c.verdict-status.ensures c.rebuilt.ensures r

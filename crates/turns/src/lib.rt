@@ -10,7 +10,7 @@ ghost use Rattle.phase.proofs.Phases.{Live};
 ghost use Rattle.turns.specs.Turns.{event_turn, event_buf, heard_turn, heard_buf, cut_off, pause, InPayload, Turned, Ran, later};
 
 use as_is::as_is;
-use emit::{least, put_rest};
+use emit::put_rest;
 use istream::{Fed, IStream, Status};
 use output::OUTPUT_MAX;
 use owed::Owed;
@@ -140,7 +140,7 @@ fn piece(
     ensures { Turned reader pos rest.now buf.old result buf.new }
 {
     let len = rest.len();
-    let n = least(least(len, buf.len() - pos), (total - offset) as usize);
+    let n = len.min(buf.len() - pos).min((total - offset) as usize);
     let end = put_rest(buf, pos, &rest[..n], 0);
     let carried = reader.carried;
     let at = offset + n as u32;
@@ -164,7 +164,7 @@ fn one_turn(reader: IStream, pos: usize, rest: &[u8], buf: &mut [u8]) -> Turn
     if let Phase::Payload(id, r, total, offset) = phase {
         return piece(reader, id, r, total, offset, pos, rest, buf);
     }
-    let m = least(rest.len(), buf.len() - pos);
+    let m = rest.len().min(buf.len() - pos);
     let block = as_is(reader, &rest[..m]);
     let n = block.len;
     if 0 < n {

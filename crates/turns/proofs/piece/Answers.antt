@@ -13,7 +13,7 @@ pub slice_bounds-put_rest-end : goal.slice_bounds-put_rest-end
 slice_bounds-put_rest-end c = sym (length-take-le _ _ (omega arith))
 
 pub returns-then-at-total : goal.returns-then-at-total
-returns-then-at-total c = turned_stop _ _ _ _ _ _ _ _ _ _ _ _ c.stopped.ensures c.cut.ensures (piece_stops c.args.reader c.args.id c.args.r c.args.total c.args.offset c.args.pos c.args.rest.now c.args.buf.now c.requires.1 c.requires.0 c.least.result c.least-n.result c.least.ensures c.least-n.ensures c.put_rest-end.result _ c.put_rest-end.ensures c.if-at-total.true)
+returns-then-at-total c = turned_stop _ _ _ _ _ _ _ _ _ _ _ _ c.stopped.ensures c.cut.ensures (piece_stops c.args.reader c.args.id c.args.r c.args.total c.args.offset c.args.pos c.args.rest.now c.args.buf.now c.requires.1 c.requires.0 c.min.result c.min-n.result c.min.ensures c.min-n.ensures c.put_rest-end.result _ c.put_rest-end.ensures c.if-at-total.true)
 
 pub returns : goal.returns
-returns c = piece-ends c.args.reader c.args.id c.args.r c.args.total c.args.offset c.args.pos c.args.rest.now c.args.buf.now c.requires.1 c.requires.0 c.least.result c.least-n.result c.least.ensures c.least-n.ensures c.put_rest-end.result _ c.put_rest-end.ensures c.if-at-total.false _ c.idle-phase.ensures
+returns c = piece-ends c.args.reader c.args.id c.args.r c.args.total c.args.offset c.args.pos c.args.rest.now c.args.buf.now c.requires.1 c.requires.0 c.min.result c.min-n.result c.min.ensures c.min-n.ensures c.put_rest-end.result _ c.put_rest-end.ensures c.if-at-total.false _ c.idle-phase.ensures

@@ -16,7 +16,7 @@ use varint::varint_len;
 pub fn tagged(n: u32, tag: u8) -> u64
     ensures { result ≡ n * 8 + tag }
 {
-    (n as u64) * 8 + (tag as u64)
+    u64::from(n) * 8 + u64::from(tag)
 }
 
 // How many bytes the headers that are held back take. (Here and below, `fields` and `arrays` hand on what they require: the numbers of
@@ -25,13 +25,9 @@ pub fn held_len(places: [u32; LAZY_SEQ_DEPTH], held: u16) -> usize
     requires { held ≤ lazy_depth }
     ensures { (result ≡ length (headers_of held places)) × (result ≤ held_most) }
 {
-    let n = held as usize;
     let mut len: usize = 0;
-    let mut i: usize = 0;
-    while i < n {
-        let id = places[i];
+    for &id in &places[..held as usize] {
         len += varint_len(tagged(id, T_SEQUENCE_START));
-        i += 1;
     }
     len
 }
@@ -47,13 +43,9 @@ pub fn put_held(
     requires { (held ≤ lazy_depth) × (pos ≤ length buf.old) }
     ensures { Emitted (start_at pos place) buf.old (headers_of held places) result buf.new }
 {
-    let n = held as usize;
     let mut cursor = Cursor { pos, skip: place };
-    let mut i: usize = 0;
-    while i < n {
-        let id = places[i];
+    for &id in &places[..held as usize] {
         cursor = cursor.put_varint(buf, tagged(id, T_SEQUENCE_START));
-        i += 1;
     }
     cursor
 }

@@ -1,48 +1,43 @@
 -- The places of held ids: a test of each from a place on, clearing and dropping.
 use mathlib.Core.Path.{◌≡◌, refl, sym, ap, ◌∙◌}
-use mathlib.Core.List.{List, ◌++◌}
+use mathlib.Core.List.{List, [], ◌∷◌, ◌++◌}
 use mathlib.Core.Bool.{Bool, true, false, ◌&&◌}
 use Prim.Native.Nat.{ℕ, suc, ◌+◌, ◌-◌, ◌≤◌, ◌<◌}
 use native.Mathlib.Numerals.{add-one}
 use native.Mathlib.Omega.{arith}
-use lib.ListN.{length, take, drop, get_or, set, replicate, length-replicate, replicate-append-replicate, drop_of_length-le, length-append, length-drop, get_or-replicate, get_or-append}
-use lib.Seq.{drop-cons, set_at, append_snoc, get_or-take, length-take-le, get_or-append-add, get_or-drop, get_or-set_same, get_or-set_other}
+use lib.ListN.{length, drop, get_or, set, replicate, length-replicate, replicate-append-replicate, length-append, length-drop, get_or-replicate, get_or-append}
+use lib.Seq.{drop-cons, set_at, append_snoc, get_or-append-add, get_or-drop, get_or-set_same, get_or-set_other}
+use Rattle.std.specs.Prelude.{IsTrue, ◌↔◌}
+use Rattle.std.specs.List.{All, AllPass, list_all}
+use Rattle.std.proofs.lemmas.List.Sums.{AllPass-from_list_all, list_all-from_AllPass}
+use borrow.Author.Tests.{le-leb, leb-true, eq-eqb, eqb-true}
+use lib.Dec.{leb, eqb}
 use Rattle.places.specs.Places.{every, zeroed}
 
 pub both : (a b : Bool) → (a && b) ≡ true → (a ≡ true) × (b ≡ true)
 both true b e = (refl, e)
 both false b e = let z : ◌≡◌ {A = ℕ} 0 1 = cc in absurd (omega arith)
 
--- ---- a test of each
+-- ---- a test of each, as the library says it
 
-module _ (p : ℕ → Bool) (l : List ℕ) (i : ℕ) where
-  every-at : i < length l → every p (drop i l) ≡ (p (get_or l i 0) && every p (drop (i + 1) l))
-  unfolding every
-  every-at h = ap (every p) (drop-cons l i 0 h) ∙ ap (λ (k : ℕ). p (get_or l i 0) && every p (drop k l)) (sym (add-one i))
+all_every : (p : ℕ → Bool) (xs : List ℕ) → list_all p xs ≡ every p xs
+unfolding every
+all_every p [] = refl
+all_every p (x ∷ xs) = ap (λ (b : Bool). p x && b) (all_every p xs)
 
-  pub every_fails : i < length l → p (get_or l i 0) ≡ false → false ≡ every p (drop i l)
-  every_fails h e = sym (every-at h ∙ ap (λ (b : Bool). b && every p (drop (i + 1) l)) e)
+pub passes_every : (p : ℕ → Bool) (xs : List ℕ) (r : Bool) → IsTrue r ↔ AllPass p xs → r ≡ every p xs
+passes_every p xs true h = sym (sym (all_every p xs) ∙ list_all-from_AllPass p xs (h.0 refl))
+passes_every p xs false h = go (every p xs) refl
+  where
+    go : (b : Bool) → every p xs ≡ b → false ≡ b
+    go true e = h.1 (AllPass-from_list_all p xs (all_every p xs ∙ e))
+    go false e = refl
 
-  pub every_on : i < length l → p (get_or l i 0) ≡ true → every p (drop i l) ≡ every p (drop (i + 1) l)
-  every_on h e = every-at h ∙ ap (λ (b : Bool). b && every p (drop (i + 1) l)) e
+pub all_legal : (most : ℕ) (xs : List ℕ) (r : Bool) → IsTrue r ↔ All (λ x. x ≤ most) xs → r ≡ every (λ x. leb x most) xs
+all_legal most xs r h = passes_every (λ x. leb x most) xs r (λ t k d l. le-leb _ _ (h.0 t k d l), λ a. h.1 (λ k d l. leb-true _ _ (a k d l)))
 
-  pub every_end : length l ≤ i → every p (drop i l) ≡ true
-  unfolding every
-  every_end h = ap (every p) (drop_of_length-le l {i = i} h)
-
--- a test of each of the first n
-module _ (p : ℕ → Bool) (l : List ℕ) (n i : ℕ) (hl : n ≤ length l) (h : i < n) where
-  within : i < length (take n l)
-  within = omega (arith, length-take-le n l hl)
-
-  pub first_fails : p (get_or l i 0) ≡ false → false ≡ every p (drop i (take n l))
-  first_fails e = every_fails p (take n l) i within (ap p (get_or-take n l i 0 h) ∙ e)
-
-  pub first_on : p (get_or l i 0) ≡ true → every p (drop i (take n l)) ≡ every p (drop (i + 1) (take n l))
-  first_on e = every_on p (take n l) i within (ap p (get_or-take n l i 0 h) ∙ e)
-
-pub first_end : (p : ℕ → Bool) (l : List ℕ) (n i : ℕ) → n ≤ length l → n ≤ i → every p (drop i (take n l)) ≡ true
-first_end p l n i hl h = every_end p (take n l) i (omega (arith, length-take-le n l hl))
+pub all_zero : (xs : List ℕ) (r : Bool) → IsTrue r ↔ All (λ x. x ≡ 0) xs → r ≡ every (λ x. eqb x 0) xs
+all_zero xs r h = passes_every (λ x. eqb x 0) xs r (λ t k d l. eq-eqb _ _ (h.0 t k d l), λ a. h.1 (λ k d l. eqb-true _ _ (a k d l)))
 
 -- ---- clearing and dropping
 

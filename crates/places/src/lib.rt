@@ -12,14 +12,7 @@ fn ids_legal(pending: [u32; LAZY_SEQ_DEPTH], n: usize) -> bool
     requires { n ≤ lazy_depth }
     ensures { result ≡ every (λ x. leb x base.id) (take n pending) }
 {
-    let mut i: usize = 0;
-    while i < n {
-        if ID_MAX < pending[i] {
-            return false;
-        }
-        i += 1;
-    }
-    true
+    pending[..n].iter().all(|id| *id <= ID_MAX)
 }
 
 // Whether the places from n on are zero. (`sound_for` has tested n; `at_ease` and `write_at_once` ask from 0 on.)
@@ -27,14 +20,7 @@ pub fn unused_zero(pending: [u32; LAZY_SEQ_DEPTH], n: usize) -> bool
     requires { n ≤ lazy_depth }
     ensures { result ≡ every (λ x. eqb x 0) (drop n pending) }
 {
-    let mut i = n;
-    while i < LAZY_SEQ_DEPTH {
-        if pending[i] != 0 {
-            return false;
-        }
-        i += 1;
-    }
-    true
+    pending[n..].iter().all(|id| *id == 0)
 }
 
 // The first n of some places zeroed, and the others left as they are, whatever they hold. (n is how many a sound state holds.)
@@ -43,11 +29,7 @@ pub fn clear(places: [u32; LAZY_SEQ_DEPTH], n: usize) -> [u32; LAZY_SEQ_DEPTH]
     ensures { result ≡ zeroed n places }
 {
     let mut cleared = places;
-    let mut i: usize = 0; // from the first place on,
-    while i < n { // and no further than the count: 02 wants the unused places left alone
-        cleared[i] = 0;
-        i += 1;
-    }
+    cleared[..n].fill(0); // and no further than the count: 02 wants the unused places left alone
     cleared
 }
 

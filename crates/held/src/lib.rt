@@ -9,6 +9,7 @@ ghost use Rattle.held.specs.Headers.{held_most, head_most, headers_of, head_of, 
 
 use at_ease::PAIR_MAX;
 use emit::Cursor;
+use places::Nest;
 use types::{LAZY_SEQ_DEPTH, T_SEQUENCE_START};
 use varint::varint_len;
 
@@ -28,6 +29,18 @@ pub struct Held {
 }
 
 impl Held {
+    // Those of a state that was tested.
+    pub fn of(nest: Nest) -> Held
+        requires { nest.held ≤ lazy_depth }
+        ensures { (result.places ≡ nest.places) × (result.count ≡ nest.held) }
+    {
+        let Nest { places, held, .. } = nest;
+        Held {
+            places,
+            count: held,
+        }
+    }
+
     // How many bytes their headers take.
     pub fn len(self) -> usize
         ensures { (result ≡ length (headers_of self.count self.places)) × (result ≤ held_most) }

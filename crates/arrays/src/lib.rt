@@ -9,15 +9,14 @@ ghost use Rattle.layout.specs.Limits.{base, pick};
 ghost use Rattle.emit.specs.Cursor.{Emitted};
 ghost use Rattle.outcomes.specs.Outcome.{reaches};
 ghost use Rattle.elements.specs.OutAfter.{elements_most};
-ghost use Rattle.places.specs.Places.{lazy_depth};
 ghost use Rattle.held.specs.Headers.{headers_of, head_of, start_at, Ended};
 
 use elements::{Integer, Out, counted, put_varints, varints_out};
 use emit::Cursor;
 use floats::{Float, put_floats};
-use held::{head_len, put_head, tagged};
+use held::{Held, tagged};
 use outcomes::{Reach, finish};
-use types::{ARRAY_MAX, Error, LAZY_SEQ_DEPTH, T_FIXLENARRAY};
+use types::{ARRAY_MAX, Error, T_FIXLENARRAY};
 use varint::VARINT_MAX;
 
 // Most bytes of an array's elements.
@@ -38,19 +37,18 @@ fn farthest(place: usize, room: usize) -> usize
 fn finish_counted(
     size: usize,
     pos: usize,
-    places: [u32; LAZY_SEQ_DEPTH],
-    held: u16,
+    held: Held,
     header: u64,
     n: usize,
     out: Out,
     most: usize,
     place: usize,
 ) -> Result<Reach, Error>
-    requires { (held ≤ lazy_depth) × (pos ≤ size) × (out.part ≤ most) × (most ≤ 9223372036854775808 + elements_most base.count) }
-    ensures { result ≡ reaches pos size (length (head_of held places header n) + pick (ltb out.whole n) (most + 1) (most - out.part)) place }
+    requires { (pos ≤ size) × (out.part ≤ most) × (most ≤ 9223372036854775808 + elements_most base.count) }
+    ensures { result ≡ reaches pos size (length (head_of held.count held.places header n) + pick (ltb out.whole n) (most + 1) (most - out.part)) place }
 {
     let len = counted(out, n, most);
-    let head = head_len(places, held, header, n as u64);
+    let head = held.head_len(header, n as u64);
     finish(pos, size, head + len, place)
 }
 
@@ -58,19 +56,18 @@ fn finish_counted(
 pub fn put_integer_array<T: Integer>(
     buf: &mut [u8],
     pos: usize,
-    places: [u32; LAZY_SEQ_DEPTH],
-    held: u16,
+    held: Held,
     id: u32,
     items: &[T],
     place: usize,
 ) -> Result<Reach, Error>
-    requires { (held ≤ lazy_depth) × (pos ≤ length buf.old) × (length items.now ≤ base.count) }
-    ensures { Ended pos buf.old (headers_of held places ++ field_bytes (T.array id items.now)) place result buf.new }
+    requires { (pos ≤ length buf.old) × (length items.now ≤ base.count) }
+    ensures { Ended pos buf.old (headers_of held.count held.places ++ field_bytes (T.array id items.now)) place result buf.new }
 {
     let size = buf.len();
     let header = tagged(id, T::WIRE);
     let count = items.len() as u64;
-    let start = put_head(buf, pos, places, held, header, count, place);
+    let start = held.put_head(buf, pos, header, count, place);
     let end = put_varints(start, buf, items);
     if end.skip == 0 && end.pos < size {
         return Ok(Reach::Through(end.pos));
@@ -80,7 +77,6 @@ pub fn put_integer_array<T: Integer>(
     finish_counted(
         size,
         pos,
-        places,
         held,
         header,
         items.len(),
@@ -95,21 +91,16 @@ pub fn put_integer_array<T: Integer>(
 fn put_announced(
     buf: &mut [u8],
     pos: usize,
-    places: [u32; LAZY_SEQ_DEPTH],
-    held: u16,
+    held: Held,
     id: u32,
     count: u64,
     word: u64,
     place: usize,
 ) -> Cursor
-    requires { (held ≤ lazy_depth) × (pos ≤ length buf.old) }
-    ensures { Emitted (start_at pos place) buf.old (head_of held places (id * 8 + 5) count ++ shortest word) result buf.new }
+    requires { pos ≤ length buf.old }
+    ensures { Emitted (start_at pos place) buf.old (head_of held.count held.places (id * 8 + 5) count ++ shortest word) result buf.new }
 {
-    let head = put_head(
-        buf,
-        pos,
-        places,
-        held,
+    let head = held.put_head(buf, pos,
         tagged(id, T_FIXLENARRAY),
         count,
         place,
@@ -121,17 +112,16 @@ fn put_announced(
 fn finish_floats(
     size: usize,
     pos: usize,
-    places: [u32; LAZY_SEQ_DEPTH],
-    held: u16,
+    held: Held,
     id: u32,
     n: usize,
     bytes: usize,
     place: usize,
 ) -> Result<Reach, Error>
-    requires { (held ≤ lazy_depth) × (pos ≤ size) × (n ≤ base.count) × (bytes ≤ bytes_of fp64 * base.count) }
-    ensures { result ≡ reaches pos size (length (head_of held places (id * 8 + 5) n) + (1 + bytes)) place }
+    requires { (pos ≤ size) × (n ≤ base.count) × (bytes ≤ bytes_of fp64 * base.count) }
+    ensures { result ≡ reaches pos size (length (head_of held.count held.places (id * 8 + 5) n) + (1 + bytes)) place }
 {
-    let head = head_len(places, held, tagged(id, T_FIXLENARRAY), n as u64);
+    let head = held.head_len(tagged(id, T_FIXLENARRAY), n as u64);
     finish(pos, size, head + (1 + bytes), place)
 }
 
@@ -139,18 +129,17 @@ fn finish_floats(
 pub fn put_float_array<T: Float>(
     buf: &mut [u8],
     pos: usize,
-    places: [u32; LAZY_SEQ_DEPTH],
-    held: u16,
+    held: Held,
     id: u32,
     items: &[T],
     place: usize,
 ) -> Result<Reach, Error>
-    requires { (held ≤ lazy_depth) × (pos ≤ length buf.old) × (length items.now ≤ base.count) }
-    ensures { Ended pos buf.old (headers_of held places ++ field_bytes (float_array id T.width (map T.bits items.now))) place result buf.new }
+    requires { (pos ≤ length buf.old) × (length items.now ≤ base.count) }
+    ensures { Ended pos buf.old (headers_of held.count held.places ++ field_bytes (float_array id T.width (map T.bits items.now))) place result buf.new }
 {
     let size = buf.len();
     let n = items.len();
-    let word = put_announced(buf, pos, places, held, id, n as u64, T::WORD, place);
+    let word = put_announced(buf, pos, held, id, n as u64, T::WORD, place);
     put_floats(word, buf, items);
-    finish_floats(size, pos, places, held, id, n, n * T::BYTES, place)
+    finish_floats(size, pos, held, id, n, n * T::BYTES, place)
 }

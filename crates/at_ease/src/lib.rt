@@ -6,7 +6,7 @@ ghost use Rattle.std.specs.Prelude.{◌≡◌, [], ◌∷◌, ◌&&◌, ltb, len
 ghost use Rattle.places.specs.Places.{clean};
 ghost use Rattle.at_ease.specs.AtOnce.{room_for, easy_at, easy_with, closes_at, holds_at, PutsIf};
 
-use places::{sound_for, unused_zero};
+use places::{Nest, unused_zero};
 use types::{ID_MAX, LAZY_SEQ_DEPTH, MAX_DEPTH, T_SEQUENCE_END};
 use varint::VARINT_MAX;
 
@@ -14,9 +14,10 @@ use varint::VARINT_MAX;
 pub const PAIR_MAX: usize = 2 * VARINT_MAX;
 
 // Whether no id is held, and nothing but the places and the room stands against a field.
-pub fn at_ease(depth: u16, held: u16, id: u32) -> bool
-    ensures { result ≡ easy_at depth held id }
+pub fn at_ease(nest: Nest, id: u32) -> bool
+    ensures { result ≡ easy_at nest.depth nest.held id }
 {
+    let Nest { depth, held, .. } = nest;
     if ID_MAX < id {
         return false;
     }
@@ -27,36 +28,28 @@ pub fn at_ease(depth: u16, held: u16, id: u32) -> bool
 }
 
 // And against one with a payload or an array of `len`, of which `most` is the limit.
-pub fn at_ease_with(depth: u16, held: u16, id: u32, len: usize, most: u32) -> bool
-    ensures { result ≡ easy_with depth held id len most }
+pub fn at_ease_with(nest: Nest, id: u32, len: usize, most: u32) -> bool
+    ensures { result ≡ easy_with nest.depth nest.held id len most }
 {
-    if !at_ease(depth, held, id) {
-        return false;
-    }
-    len <= most as usize
+    at_ease(nest, id) && len <= most as usize
 }
 
 // Whether no id is held, a sequence is open, and nothing but the places and the room stands against a close.
-pub fn closes_at_ease(depth: u16, held: u16) -> bool
-    ensures { result ≡ closes_at depth held }
+pub fn closes_at_ease(nest: Nest) -> bool
+    ensures { result ≡ closes_at nest.depth nest.held }
 {
+    let depth = nest.depth;
     if depth == 0 {
         return false;
     }
-    at_ease(depth, held, 0)
+    at_ease(nest, 0)
 }
 
 // Whether a sequence can be opened and held back, from a state with these numbers.
-pub fn can_hold(
-    offset: usize,
-    depth: u16,
-    held: u16,
-    places: [u32; LAZY_SEQ_DEPTH],
-    size: usize,
-    id: u32,
-) -> bool
-    ensures { result ≡ holds_at offset depth held places size id }
+pub fn can_hold(offset: usize, nest: Nest, size: usize, id: u32) -> bool
+    ensures { result ≡ holds_at offset nest.depth nest.held nest.places size id }
 {
+    let Nest { depth, held, .. } = nest;
     if (LAZY_SEQ_DEPTH as u16) <= held {
         return false;
     }
@@ -66,7 +59,7 @@ pub fn can_hold(
     if ID_MAX < id {
         return false;
     }
-    sound_for(offset, depth, held, places, size)
+    nest.sound_for(offset, size)
 }
 
 // Whether there is room from pos on for two varints, however long, and `more` bytes.

@@ -5,8 +5,8 @@ ghost use Rattle.std.specs.Prelude.{◌≡◌};
 ghost use Rattle.buffers.specs.Moved.{drained_to, changed_to};
 
 use checks::check_change;
-use places::sound_for;
-use types::{Error, LAZY_SEQ_DEPTH};
+use places::Nest;
+use types::Error;
 
 // The old position, below which the bytes to be sent stand, and the new one.
 #[derive(Clone, Copy)]
@@ -16,16 +16,10 @@ pub struct Moved {
 }
 
 // The bytes below the position are sent, and writing starts at 0.
-pub fn drain(
-    pos: usize,
-    depth: u16,
-    held: u16,
-    places: [u32; LAZY_SEQ_DEPTH],
-    size: usize,
-) -> Result<Moved, Error>
-    ensures { result ≡ drained_to pos depth held places size }
+pub fn drain(pos: usize, nest: Nest, size: usize) -> Result<Moved, Error>
+    ensures { result ≡ drained_to pos nest.depth nest.held nest.places size }
 {
-    if sound_for(pos, depth, held, places, size) {
+    if nest.sound_for(pos, size) {
         Ok(Moved { sent: pos, next: 0 })
     } else {
         Err(Error::UnsoundWriter)
@@ -35,18 +29,15 @@ pub fn drain(
 // The bytes below the position are sent, and writing goes on in another buffer, from the offset on.
 pub fn change(
     pos: usize,
-    depth: u16,
-    held: u16,
-    places: [u32; LAZY_SEQ_DEPTH],
+    nest: Nest,
     old: usize,
     new: usize,
     offset: usize,
     drained: bool,
 ) -> Result<Moved, Error>
-    ensures { result ≡ changed_to pos depth held places old new offset drained }
+    ensures { result ≡ changed_to pos nest.depth nest.held nest.places old new offset drained }
 {
-    let sound = sound_for(pos, depth, held, places, old);
-    check_change(sound, new, offset, drained)?;
+    check_change(nest.sound_for(pos, old), new, offset, drained)?;
     Ok(Moved {
         sent: pos,
         next: offset,

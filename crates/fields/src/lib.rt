@@ -5,10 +5,9 @@ ghost use Rattle.std.specs.Prelude.{◌≡◌, ◌++◌, ◌≤◌, length};
 ghost use Rattle.layout.specs.Varint.{shortest};
 ghost use Rattle.layout.specs.Field.{low_bytes, end};
 ghost use Rattle.layout.specs.Copy.{field_bytes};
-ghost use Rattle.places.specs.Places.{lazy_depth};
 ghost use Rattle.held.specs.Headers.{headers_of, head_of, Ended};
 
-use held::{has_room_behind, head_len, held_len, put_head, put_held, tagged};
+use held::{Held, tagged};
 use outcomes::{Reach, finish};
 use types::{Error, LAZY_SEQ_DEPTH, T_SEQUENCE_END};
 use varint::varint_len;
@@ -18,48 +17,46 @@ use write_at_once::{put_field, put_pair};
 pub fn put_varint_field(
     buf: &mut [u8],
     pos: usize,
-    places: [u32; LAZY_SEQ_DEPTH],
-    held: u16,
+    held: Held,
     header: u64,
     value: u64,
     place: usize,
 ) -> Result<Reach, Error>
-    requires { (held ≤ lazy_depth) × (pos ≤ length buf.old) }
-    ensures { Ended pos buf.old (head_of held places header value) place result buf.new }
+    requires { pos ≤ length buf.old }
+    ensures { Ended pos buf.old (head_of held.count held.places header value) place result buf.new }
 {
     let size = buf.len();
-    if place == 0 && has_room_behind(size, pos, places, held, 0) {
-        let behind = put_held(buf, pos, places, held, 0);
+    if place == 0 && held.has_room(size, pos, 0) {
+        let behind = held.put(buf, pos, 0);
         let end = put_pair(buf, behind.pos, [0; LAZY_SEQ_DEPTH], header, value);
         return Ok(Reach::Through(end));
     }
-    put_head(buf, pos, places, held, header, value, place);
-    finish(pos, size, head_len(places, held, header, value), place)
+    held.put_head(buf, pos, header, value, place);
+    finish(pos, size, held.head_len(header, value), place)
 }
 
 // The held headers, a header, a word and bytes, likewise.
 pub fn put_fixlen_field(
     buf: &mut [u8],
     pos: usize,
-    places: [u32; LAZY_SEQ_DEPTH],
-    held: u16,
+    held: Held,
     header: u64,
     word: u64,
     bytes: &[u8],
     place: usize,
 ) -> Result<Reach, Error>
-    requires { (held ≤ lazy_depth) × (pos ≤ length buf.old) }
-    ensures { Ended pos buf.old (headers_of held places ++ (shortest header ++ (shortest word ++ bytes.now))) place result buf.new }
+    requires { pos ≤ length buf.old }
+    ensures { Ended pos buf.old (headers_of held.count held.places ++ (shortest header ++ (shortest word ++ bytes.now))) place result buf.new }
 {
     let size = buf.len();
-    if place == 0 && has_room_behind(size, pos, places, held, bytes.len()) {
-        let behind = put_held(buf, pos, places, held, 0);
+    if place == 0 && held.has_room(size, pos, bytes.len()) {
+        let behind = held.put(buf, pos, 0);
         let end = put_field(buf, behind.pos, [0; LAZY_SEQ_DEPTH], header, word, bytes);
         return Ok(Reach::Through(end));
     }
-    let head = put_head(buf, pos, places, held, header, word, place);
+    let head = held.put_head(buf, pos, header, word, place);
     head.put_bytes(buf, bytes);
-    let total = head_len(places, held, header, word) + bytes.len();
+    let total = held.head_len(header, word) + bytes.len();
     finish(pos, size, total, place)
 }
 
@@ -67,21 +64,20 @@ pub fn put_fixlen_field(
 pub fn put_marker(
     buf: &mut [u8],
     pos: usize,
-    places: [u32; LAZY_SEQ_DEPTH],
-    held: u16,
+    held: Held,
     header: u64,
     place: usize,
 ) -> Result<Reach, Error>
-    requires { (held ≤ lazy_depth) × (pos ≤ length buf.old) }
-    ensures { Ended pos buf.old (headers_of held places ++ shortest header) place result buf.new }
+    requires { pos ≤ length buf.old }
+    ensures { Ended pos buf.old (headers_of held.count held.places ++ shortest header) place result buf.new }
 {
     let size = buf.len();
-    let behind = put_held(buf, pos, places, held, place);
+    let behind = held.put(buf, pos, place);
     behind.put_varint(buf, header);
     finish(
         pos,
         size,
-        held_len(places, held) + varint_len(header),
+        held.len() + varint_len(header),
         place,
     )
 }
@@ -90,14 +86,13 @@ pub fn put_marker(
 pub fn put_close(
     buf: &mut [u8],
     pos: usize,
-    places: [u32; LAZY_SEQ_DEPTH],
-    held: u16,
+    held: Held,
     place: usize,
 ) -> Result<Reach, Error>
-    requires { (held ≤ lazy_depth) × (pos ≤ length buf.old) }
-    ensures { Ended pos buf.old (headers_of held places ++ field_bytes (end 0)) place result buf.new }
+    requires { pos ≤ length buf.old }
+    ensures { Ended pos buf.old (headers_of held.count held.places ++ field_bytes (end 0)) place result buf.new }
 {
-    put_marker(buf, pos, places, held, tagged(0, T_SEQUENCE_END), place)
+    put_marker(buf, pos, held, tagged(0, T_SEQUENCE_END), place)
 }
 
 // The four bytes of a number, low byte first.

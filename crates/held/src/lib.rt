@@ -9,6 +9,7 @@ ghost use Rattle.held.specs.Headers.{held_most, head_most, headers_of, head_of, 
 
 use at_ease::PAIR_MAX;
 use emit::Cursor;
+use places::Nest;
 use types::{LAZY_SEQ_DEPTH, T_SEQUENCE_START};
 use varint::varint_len;
 
@@ -19,78 +20,77 @@ pub fn tagged(n: u32, tag: u8) -> u64
     u64::from(n) * 8 + u64::from(tag)
 }
 
-// How many bytes the headers that are held back take. (Here and below, `fields` and `arrays` hand on what they require: the numbers of
-// a state that was tested.)
-pub fn held_len(places: [u32; LAZY_SEQ_DEPTH], held: u16) -> usize
-    requires { held ≤ lazy_depth }
-    ensures { (result ≡ length (headers_of held places)) × (result ≤ held_most) }
-{
-    let mut len: usize = 0;
-    for &id in &places[..held as usize] {
-        len += varint_len(tagged(id, T_SEQUENCE_START));
+// The ids that are held back, outermost first, of a state that was tested: there are eight places.
+#[derive(Clone, Copy)]
+pub struct Held {
+    pub places: [u32; LAZY_SEQ_DEPTH],
+    pub count: u16,
+    ghost few: { count ≤ lazy_depth },
+}
+
+impl Held {
+    // Those of a state that was tested.
+    pub fn of(nest: Nest) -> Held
+        requires { nest.held ≤ lazy_depth }
+        ensures { (result.places ≡ nest.places) × (result.count ≡ nest.held) }
+    {
+        let Nest { places, held, .. } = nest;
+        Held {
+            places,
+            count: held,
+        }
     }
-    len
-}
 
-// Those headers, outermost first, from a place in the call's output on.
-pub fn put_held(
-    buf: &mut [u8],
-    pos: usize,
-    places: [u32; LAZY_SEQ_DEPTH],
-    held: u16,
-    place: usize,
-) -> Cursor
-    requires { (held ≤ lazy_depth) × (pos ≤ length buf.old) }
-    ensures { Emitted (start_at pos place) buf.old (headers_of held places) result buf.new }
-{
-    let mut cursor = Cursor { pos, skip: place };
-    for &id in &places[..held as usize] {
-        cursor = cursor.put_varint(buf, tagged(id, T_SEQUENCE_START));
+    // How many bytes their headers take.
+    pub fn len(self) -> usize
+        ensures { (result ≡ length (headers_of self.count self.places)) × (result ≤ held_most) }
+    {
+        let mut len: usize = 0;
+        for &id in &self.places[..self.count as usize] {
+            len += varint_len(tagged(id, T_SEQUENCE_START));
+        }
+        len
     }
-    cursor
-}
 
-// Whether there is room for the held headers, two varints, however long, and `more` bytes.
-pub fn has_room_behind(
-    size: usize,
-    pos: usize,
-    places: [u32; LAZY_SEQ_DEPTH],
-    held: u16,
-    more: usize,
-) -> bool
-    requires { (held ≤ lazy_depth) × (pos ≤ size) }
-    ensures { result ≡ leb (length (headers_of held places) + pair_most + more) (size - pos) }
-{
-    let room = size - pos;
-    let head = held_len(places, held) + PAIR_MAX;
-    if room < head {
-        return false;
+    // Those headers, from a place in the call's output on.
+    pub fn put(self, buf: &mut [u8], pos: usize, place: usize) -> Cursor
+        requires { pos ≤ length buf.old }
+        ensures { Emitted (start_at pos place) buf.old (headers_of self.count self.places) result buf.new }
+    {
+        let mut cursor = Cursor { pos, skip: place };
+        for &id in &self.places[..self.count as usize] {
+            cursor = cursor.put_varint(buf, tagged(id, T_SEQUENCE_START));
+        }
+        cursor
     }
-    more <= room - head
-}
 
-// How many bytes the held headers, a field's header and the varint after it take.
-pub fn head_len(places: [u32; LAZY_SEQ_DEPTH], held: u16, header: u64, second: u64) -> usize
-    requires { held ≤ lazy_depth }
-    ensures { (result ≡ length (head_of held places header second)) × (result ≤ head_most) }
-{
-    held_len(places, held) + varint_len(header) + varint_len(second)
-}
+    // Whether there is room for those headers, two varints, however long, and `more` bytes.
+    pub fn has_room(self, size: usize, pos: usize, more: usize) -> bool
+        requires { pos ≤ size }
+        ensures { result ≡ leb (length (headers_of self.count self.places) + pair_most + more) (size - pos) }
+    {
+        let room = size - pos;
+        let head = self.len() + PAIR_MAX;
+        if room < head {
+            return false;
+        }
+        more <= room - head
+    }
 
-// Those bytes.
-pub fn put_head(
-    buf: &mut [u8],
-    pos: usize,
-    places: [u32; LAZY_SEQ_DEPTH],
-    held: u16,
-    header: u64,
-    second: u64,
-    place: usize,
-) -> Cursor
-    requires { (held ≤ lazy_depth) × (pos ≤ length buf.old) }
-    ensures { Emitted (start_at pos place) buf.old (head_of held places header second) result buf.new }
-{
-    let behind = put_held(buf, pos, places, held, place);
-    let head = behind.put_varint(buf, header);
-    head.put_varint(buf, second)
+    // How many bytes those headers, a field's header and the varint after it take.
+    pub fn head_len(self, header: u64, second: u64) -> usize
+        ensures { (result ≡ length (head_of self.count self.places header second)) × (result ≤ head_most) }
+    {
+        self.len() + varint_len(header) + varint_len(second)
+    }
+
+    // Those bytes.
+    pub fn put_head(self, buf: &mut [u8], pos: usize, header: u64, second: u64, place: usize) -> Cursor
+        requires { pos ≤ length buf.old }
+        ensures { Emitted (start_at pos place) buf.old (head_of self.count self.places header second) result buf.new }
+    {
+        let behind = self.put(buf, pos, place);
+        let head = behind.put_varint(buf, header);
+        head.put_varint(buf, second)
+    }
 }

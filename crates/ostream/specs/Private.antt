@@ -5,6 +5,7 @@ use Rattle.types.specs.Types.{refusal}
 use Rattle.types.specs.declared.Error.{Error}
 use Rattle.outcomes.specs.declared.Reach.{Reach}
 use Rattle.outcomes.specs.declared.Reach.TheVariants.{Through, Full}
+use Rattle.places.specs.declared.Nest.{Nest}
 use Rattle.buffers.specs.declared.Moved.{Moved}
 use Rattle.ostream.specs.declared.OStream.{OStream}
 use Rattle.ostream.specs.declared.Answer.TheVariants as Answers
@@ -12,6 +13,10 @@ use Rattle.ostream.specs.declared.Written.{Written}
 use Rattle.ostream.specs.declared.Counted.{Counted}
 use Rattle.ostream.specs.Stream.{lazy_depth, at}
 use Rattle.ostream.specs.Emission.{refused}
+
+-- the sequences that are open
+abbrev pub nest_of : OStream → Nest
+nest_of s = record { places = s.pending; depth = s.depth; held = s.npending }
 
 -- what the answer asks of the state: once all is out the places in use are cleared, of which there are eight
 abbrev pub Clears : OStream → Result Reach Error → Type 0

@@ -88,9 +88,7 @@ impl OStream {
             let end = integers_at_once(
                 buf,
                 self.offset,
-                self.depth,
-                self.npending,
-                self.pending,
+                self.nest(),
                 id,
                 items,
             );
@@ -115,13 +113,10 @@ impl OStream {
         ensures { result_of result buf.new ≡ written (array_call self (length buf.old) id (length items.now) (field_bytes (T.array id items.now))) self buf.old place }
     {
         let size = buf.len();
-        let places = self.pending;
         let outcome = integer_array(
             buf,
             self.offset,
-            self.depth,
-            self.npending,
-            places,
+            self.nest(),
             id,
             items,
             place,
@@ -134,13 +129,10 @@ impl OStream {
         ensures { result_of result buf.new ≡ written (float_array_call self (length buf.old) id T.width (map T.bits items.now)) self buf.old place }
     {
         let size = buf.len();
-        let places = self.pending;
         let outcome = float_array(
             buf,
             self.offset,
-            self.depth,
-            self.npending,
-            places,
+            self.nest(),
             id,
             items,
             place,

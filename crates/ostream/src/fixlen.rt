@@ -30,9 +30,7 @@ impl OStream {
             let end = field_at_once(
                 buf,
                 self.offset,
-                self.depth,
-                self.npending,
-                self.pending,
+                self.nest(),
                 id,
                 subtype,
                 bytes,
@@ -62,9 +60,7 @@ impl OStream {
         let outcome = fixlen_field(
             buf,
             self.offset,
-            self.depth,
-            self.npending,
-            self.pending,
+            self.nest(),
             id,
             bytes,
             subtype,

@@ -11,14 +11,15 @@ mod sequence;
 
 ghost use Rattle.std.specs.Prelude.{◌≡◌, ◌≤◌, true, false, length};
 ghost use Rattle.ostream.specs.Stream.{lazy_depth, sound_stream, committed, opened};
-ghost use Rattle.ostream.specs.Private.{Clears, through_to, settled, unwritten, counted_at};
+ghost use Rattle.ostream.specs.Private.{Clears, nest_of, through_to, settled, unwritten, counted_at};
 ghost use Rattle.ostream.specs.Emission.{refused};
 ghost use Rattle.ostream.specs.Buffer.{opening, draining, changing};
 
 use buffers::{Moved, change, drain};
 use checks::unfit;
 use outcomes::Reach;
-use places::{clear, sound_for};
+use held::Held;
+use places::{Nest, clear};
 use types::{Error, LAZY_SEQ_DEPTH};
 
 // A writer's state. `offset` is where the next byte goes; `depth` counts the open sequences; `pending` has the ids of the innermost
@@ -108,8 +109,27 @@ impl OStream {
     pub fn sound(self, size: usize) -> bool
         ensures { result ≡ sound_stream self size }
     {
-        let places = self.pending;
-        sound_for(self.offset, self.depth, self.npending, places, size)
+        self.nest().sound_for(self.offset, size)
+    }
+
+    // The sequences that are open.
+    fn nest(self) -> Nest
+        ensures { result ≡ nest_of self }
+    {
+        let pending = self.pending;
+        Nest {
+            places: pending,
+            depth: self.depth,
+            held: self.npending,
+        }
+    }
+
+    // The ids that are held back, of a state that was tested.
+    fn held(self) -> Held
+        requires { self.npending ≤ lazy_depth }
+        ensures { (result.places ≡ self.pending) × (result.count ≡ self.npending) }
+    {
+        Held::of(self.nest())
     }
 
     fn refuse(self, e: Error) -> Written
@@ -248,8 +268,7 @@ impl OStream {
     pub fn flush(self, buf: &[u8]) -> Counted
         ensures { result ≡ draining self (length buf.now) }
     {
-        let places = self.pending;
-        let moved = drain(self.offset, self.depth, self.npending, places, buf.len());
+        let moved = drain(self.offset, self.nest(), buf.len());
         self.count(moved)
     }
 
@@ -258,12 +277,9 @@ impl OStream {
     pub fn buffer_set(self, old: &[u8], new: &[u8], offset: usize, drained: bool) -> Counted
         ensures { result ≡ changing self (length old.now) (length new.now) offset drained }
     {
-        let places = self.pending;
         let moved = change(
             self.offset,
-            self.depth,
-            self.npending,
-            places,
+            self.nest(),
             old.len(),
             new.len(),
             offset,

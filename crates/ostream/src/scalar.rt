@@ -25,9 +25,7 @@ impl OStream {
             let end = pair_at_once(
                 buf,
                 self.offset,
-                self.depth,
-                self.npending,
-                self.pending,
+                self.nest(),
                 id,
                 wire,
                 value,
@@ -57,9 +55,7 @@ impl OStream {
         let outcome = varint_field(
             buf,
             self.offset,
-            self.depth,
-            self.npending,
-            self.pending,
+            self.nest(),
             id,
             wire,
             value,

@@ -45,13 +45,10 @@ impl OStream {
     pub fn write_sequence_begin_lazy(mut self, buf: &mut [u8], id: u32, place: usize) -> Written
         ensures { result_of result buf.new ≡ written (begin_call self (length buf.old) id) self buf.old place }
     {
-        let places = self.pending;
         if place == 0
             && can_hold(
                 self.offset,
-                self.depth,
-                self.npending,
-                places,
+                self.nest(),
                 buf.len(),
                 id,
             )
@@ -75,9 +72,8 @@ impl OStream {
         if self.npending < LAZY_SEQ_DEPTH as u16 {
             return self.alter(place, self.hold(id));
         }
-        let places = self.pending;
         let header = tagged(id, T_SEQUENCE_START);
-        let outcome = put_marker(buf, self.offset, places, self.npending, header, place);
+        let outcome = put_marker(buf, self.offset, self.held(), header, place);
         self.settle(size, outcome, self.depth + 1)
     }
 
@@ -86,7 +82,7 @@ impl OStream {
         ensures { result_of result buf.new ≡ written (end_call self (length buf.old)) self buf.old place }
     {
         if place == 0 {
-            let end = close_at_once(buf, self.offset, self.depth, self.npending, self.pending);
+            let end = close_at_once(buf, self.offset, self.nest());
             if self.offset < end {
                 self.depth = self.depth - 1;
                 return self.done(end);
@@ -115,8 +111,7 @@ impl OStream {
         ensures { result_of result buf.new ≡ written (end_keep_call self (length buf.old)) self buf.old place }
     {
         let size = buf.len();
-        let places = self.pending;
-        let outcome = put_close(buf, self.offset, places, self.npending, place);
+        let outcome = put_close(buf, self.offset, self.held(), place);
         self.settle(size, outcome, self.depth - 1)
     }
 

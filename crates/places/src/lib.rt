@@ -55,31 +55,37 @@ pub fn drop_id(places: [u32; LAZY_SEQ_DEPTH], n: u16) -> [u32; LAZY_SEQ_DEPTH]
     fewer
 }
 
-// Whether the state with these numbers can be that of a writer over a buffer of this size.
-pub fn sound_for(
-    offset: usize,
-    depth: u16,
-    held: u16,
-    places: [u32; LAZY_SEQ_DEPTH],
-    size: usize,
-) -> bool
-    ensures { result ≡ sound_for offset depth held places size }
-{
-    if size < offset {
-        return false;
-    }
-    if (LAZY_SEQ_DEPTH as u16) < held {
-        return false;
-    }
-    if depth < held {
-        return false;
-    }
-    if (MAX_DEPTH as u16) < depth {
-        return false;
-    }
-    if ids_legal(places, held as usize) {
-        unused_zero(places, held as usize)
-    } else {
-        false
+// The sequences that are open, by a writer's numbers: how many, how many of the innermost are held back, and the ids of these, outermost
+// first. (The fields' order is for speed.)
+#[derive(Clone, Copy)]
+pub struct Nest {
+    pub places: [u32; LAZY_SEQ_DEPTH],
+    pub depth: u16,
+    pub held: u16,
+}
+
+impl Nest {
+    // Whether the state with these numbers can be that of a writer over a buffer of this size.
+    pub fn sound_for(self, offset: usize, size: usize) -> bool
+        ensures { result ≡ sound_for offset self.depth self.held self.places size }
+    {
+        let Nest {
+            places,
+            depth,
+            held,
+        } = self;
+        if size < offset {
+            return false;
+        }
+        if (LAZY_SEQ_DEPTH as u16) < held {
+            return false;
+        }
+        if depth < held {
+            return false;
+        }
+        if (MAX_DEPTH as u16) < depth {
+            return false;
+        }
+        ids_legal(places, held as usize) && unused_zero(places, held as usize)
     }
 }

@@ -14,7 +14,7 @@ use at_ease::{at_ease, at_ease_with, closes_at_ease, has_room, put_end};
 use elements::{Integer, put_fittings};
 use emit::{put_fitting, put_rest};
 use held::tagged;
-use places::unused_zero;
+use places::{Nest, unused_zero};
 use types::{ARRAY_MAX, FIXLEN_MAX, FixlenType, LAZY_SEQ_DEPTH, T_FIXLEN};
 use varint::VARINT_MAX;
 
@@ -89,71 +89,63 @@ pub fn put_integers<T: Integer>(
 pub fn pair_at_once(
     buf: &mut [u8],
     pos: usize,
-    depth: u16,
-    held: u16,
-    places: [u32; LAZY_SEQ_DEPTH],
+    nest: Nest,
     id: u32,
     wire: u8,
     value: u64,
 ) -> usize
-    ensures { PutsEasily (easy_at depth held id) buf.old pos places 0 (shortest (id * 8 + wire) ++ shortest value) buf.new result }
+    ensures { PutsEasily (easy_at nest.depth nest.held id) buf.old pos nest.places 0 (shortest (id * 8 + wire) ++ shortest value) buf.new result }
 {
-    if !at_ease(depth, held, id) {
+    if !at_ease(nest, id) {
         return pos;
     }
-    put_pair(buf, pos, places, tagged(id, wire), value)
+    put_pair(buf, pos, nest.places, tagged(id, wire), value)
 }
 
 // A field of fixed length.
 pub fn field_at_once(
     buf: &mut [u8],
     pos: usize,
-    depth: u16,
-    held: u16,
-    places: [u32; LAZY_SEQ_DEPTH],
+    nest: Nest,
     id: u32,
     t: FixlenType,
     bytes: &[u8],
 ) -> usize
-    ensures { PutsEasily (easy_with depth held id (length bytes.now) base.size) buf.old pos places (length bytes.now) (fixlen_bytes id (subtype t) bytes.now) buf.new result }
+    ensures { PutsEasily (easy_with nest.depth nest.held id (length bytes.now) base.size) buf.old pos nest.places (length bytes.now) (fixlen_bytes id (subtype t) bytes.now) buf.new result }
 {
-    if !at_ease_with(depth, held, id, bytes.len(), FIXLEN_MAX) {
+    if !at_ease_with(nest, id, bytes.len(), FIXLEN_MAX) {
         return pos;
     }
     let word = tagged(bytes.len() as u32, t.raw());
-    put_field(buf, pos, places, tagged(id, T_FIXLEN), word, bytes)
+    put_field(buf, pos, nest.places, tagged(id, T_FIXLEN), word, bytes)
 }
 
 // An array of integers.
 pub fn integers_at_once<T: Integer>(
     buf: &mut [u8],
     pos: usize,
-    depth: u16,
-    held: u16,
-    places: [u32; LAZY_SEQ_DEPTH],
+    nest: Nest,
     id: u32,
     items: &[T],
 ) -> usize
-    ensures { PutsEasily (easy_with depth held id (length items.now) base.count) buf.old pos places (elements_most (length items.now)) (field_bytes (T.array id items.now)) buf.new result }
+    ensures { PutsEasily (easy_with nest.depth nest.held id (length items.now) base.count) buf.old pos nest.places (elements_most (length items.now)) (field_bytes (T.array id items.now)) buf.new result }
 {
-    if !at_ease_with(depth, held, id, items.len(), ARRAY_MAX) {
+    if !at_ease_with(nest, id, items.len(), ARRAY_MAX) {
         return pos;
     }
-    put_integers(buf, pos, places, tagged(id, T::WIRE), items)
+    put_integers(buf, pos, nest.places, tagged(id, T::WIRE), items)
 }
 
 // A close.
 pub fn close_at_once(
     buf: &mut [u8],
     pos: usize,
-    depth: u16,
-    held: u16,
-    places: [u32; LAZY_SEQ_DEPTH],
+    nest: Nest,
 ) -> usize
-    ensures { PutsWhole (closes_at depth held && (ltb pos (length buf.old) && clean places)) buf.old pos (7 ∷ []) buf.new result }
+    ensures { PutsWhole (closes_at nest.depth nest.held && (ltb pos (length buf.old) && clean nest.places)) buf.old pos (7 ∷ []) buf.new result }
 {
-    if !closes_at_ease(depth, held) {
+    if !closes_at_ease(nest) {
         return pos;
     }
-    put_end(buf, pos, places)
+    put_end(buf, pos, nest.places)
 }

@@ -16,67 +16,39 @@ use checks::{check_field, check_sized};
 use elements::Integer;
 use fields::{put_fixlen_field, put_varint_field};
 use floats::Float;
-use held::tagged;
+use held::{Held, tagged};
 use outcomes::Reach;
-use places::sound_for;
-use types::{ARRAY_MAX, Error, FIXLEN_MAX, FixlenType, LAZY_SEQ_DEPTH, T_FIXLEN};
+use places::Nest;
+use types::{ARRAY_MAX, Error, FIXLEN_MAX, FixlenType, T_FIXLEN};
 
 // The refusals of a field with a payload, in order: the state, the id, the length.
-fn check_payload(
-    pos: usize,
-    depth: u16,
-    held: u16,
-    places: [u32; LAZY_SEQ_DEPTH],
-    size: usize,
-    id: u32,
-    len: usize,
-) -> Result<(), Error>
-    ensures { result ≡ check_of (judgement_of pos depth held places size id (payload_too_long len ∷ [])) }
+fn check_payload(pos: usize, nest: Nest, size: usize, id: u32, len: usize) -> Result<(), Error>
+    ensures { result ≡ check_of (judgement_of pos nest.depth nest.held nest.places size id (payload_too_long len ∷ [])) }
 {
-    check_sized(
-        sound_for(pos, depth, held, places, size),
-        id,
-        len,
-        FIXLEN_MAX,
-    )
+    check_sized(nest.sound_for(pos, size), id, len, FIXLEN_MAX)
 }
 
 // Those of an array: the state, the id, the count.
-fn check_array(
-    pos: usize,
-    depth: u16,
-    held: u16,
-    places: [u32; LAZY_SEQ_DEPTH],
-    size: usize,
-    id: u32,
-    count: usize,
-) -> Result<(), Error>
-    ensures { result ≡ check_of (judgement_of pos depth held places size id (array_too_long count ∷ [])) }
+fn check_array(pos: usize, nest: Nest, size: usize, id: u32, count: usize) -> Result<(), Error>
+    ensures { result ≡ check_of (judgement_of pos nest.depth nest.held nest.places size id (array_too_long count ∷ [])) }
 {
-    check_sized(
-        sound_for(pos, depth, held, places, size),
-        id,
-        count,
-        ARRAY_MAX,
-    )
+    check_sized(nest.sound_for(pos, size), id, count, ARRAY_MAX)
 }
 
 // A field of one varint.
 pub fn varint_field(
     buf: &mut [u8],
     pos: usize,
-    depth: u16,
-    held: u16,
-    places: [u32; LAZY_SEQ_DEPTH],
+    nest: Nest,
     id: u32,
     wire: u8,
     value: u64,
     place: usize,
 ) -> Result<Reach, Error>
-    ensures { went_by result buf.new ≡ field_from pos depth held places buf.old id [] (shortest (id * 8 + wire) ++ shortest value) place }
+    ensures { went_by result buf.new ≡ field_from pos nest.depth nest.held nest.places buf.old id [] (shortest (id * 8 + wire) ++ shortest value) place }
 {
-    check_field(sound_for(pos, depth, held, places, buf.len()), id)?;
-    put_varint_field(buf, pos, places, held, tagged(id, wire), value, place)
+    check_field(nest.sound_for(pos, buf.len()), id)?;
+    put_varint_field(buf, pos, Held::of(nest), tagged(id, wire), value, place)
 }
 
 // A fixed-length field: the header, the word, and the bytes as they are.
@@ -84,23 +56,20 @@ pub fn varint_field(
 pub fn fixlen_field(
     buf: &mut [u8],
     pos: usize,
-    depth: u16,
-    held: u16,
-    places: [u32; LAZY_SEQ_DEPTH],
+    nest: Nest,
     id: u32,
     bytes: &[u8],
     t: FixlenType,
     place: usize,
 ) -> Result<Reach, Error>
-    ensures { went_by result buf.new ≡ field_from pos depth held places buf.old id (payload_too_long (length bytes.now) ∷ []) (fixlen_bytes id (subtype t) bytes.now) place }
+    ensures { went_by result buf.new ≡ field_from pos nest.depth nest.held nest.places buf.old id (payload_too_long (length bytes.now) ∷ []) (fixlen_bytes id (subtype t) bytes.now) place }
 {
-    check_payload(pos, depth, held, places, buf.len(), id, bytes.len())?;
+    check_payload(pos, nest, buf.len(), id, bytes.len())?;
     let word = tagged(bytes.len() as u32, t.raw());
     put_fixlen_field(
         buf,
         pos,
-        places,
-        held,
+        Held::of(nest),
         tagged(id, T_FIXLEN),
         word,
         bytes,
@@ -112,32 +81,28 @@ pub fn fixlen_field(
 pub fn integer_array<T: Integer>(
     buf: &mut [u8],
     pos: usize,
-    depth: u16,
-    held: u16,
-    places: [u32; LAZY_SEQ_DEPTH],
+    nest: Nest,
     id: u32,
     items: &[T],
     place: usize,
 ) -> Result<Reach, Error>
-    ensures { went_by result buf.new ≡ field_from pos depth held places buf.old id (array_too_long (length items.now) ∷ []) (field_bytes (T.array id items.now)) place }
+    ensures { went_by result buf.new ≡ field_from pos nest.depth nest.held nest.places buf.old id (array_too_long (length items.now) ∷ []) (field_bytes (T.array id items.now)) place }
 {
-    check_array(pos, depth, held, places, buf.len(), id, items.len())?;
-    put_integer_array(buf, pos, places, held, id, items, place)
+    check_array(pos, nest, buf.len(), id, items.len())?;
+    put_integer_array(buf, pos, Held::of(nest), id, items, place)
 }
 
 // An array of floats.
 pub fn float_array<T: Float>(
     buf: &mut [u8],
     pos: usize,
-    depth: u16,
-    held: u16,
-    places: [u32; LAZY_SEQ_DEPTH],
+    nest: Nest,
     id: u32,
     items: &[T],
     place: usize,
 ) -> Result<Reach, Error>
-    ensures { went_by result buf.new ≡ field_from pos depth held places buf.old id (array_too_long (length items.now) ∷ []) (field_bytes (float_array id T.width (map T.bits items.now))) place }
+    ensures { went_by result buf.new ≡ field_from pos nest.depth nest.held nest.places buf.old id (array_too_long (length items.now) ∷ []) (field_bytes (float_array id T.width (map T.bits items.now))) place }
 {
-    check_array(pos, depth, held, places, buf.len(), id, items.len())?;
-    put_float_array(buf, pos, places, held, id, items, place)
+    check_array(pos, nest, buf.len(), id, items.len())?;
+    put_float_array(buf, pos, Held::of(nest), id, items, place)
 }

@@ -22,4 +22,4 @@ pub returns : goal.returns
 returns c =
     c.finish.ensures
     ∙ ap (λ (h : ℕ). reaches c.args.pos c.args.size (h + c.counted-len.result) c.args.place) c.head_len-head.ensures.0
-    ∙ ap (λ (n : ℕ). reaches c.args.pos c.args.size (length (head_of c.args.held c.args.places c.args.header c.args.n) + n) c.args.place) c.counted-len.ensures
+    ∙ ap (λ (n : ℕ). reaches c.args.pos c.args.size (length (head_of c.args.held.count c.args.held.places c.args.header c.args.n) + n) c.args.place) c.counted-len.ensures

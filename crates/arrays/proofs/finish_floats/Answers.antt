@@ -14,4 +14,4 @@ pub returns : goal.returns
 returns c =
     c.finish.ensures
     ∙ ap (λ (n : ℕ). reaches c.args.pos c.args.size (n + (1 + c.args.bytes)) c.args.place) c.head_len-head.ensures.0
-    ∙ ap (λ (h : ℕ). reaches c.args.pos c.args.size (length (head_of c.args.held c.args.places h c.args.n) + (1 + c.args.bytes)) c.args.place) c.tagged.ensures
+    ∙ ap (λ (h : ℕ). reaches c.args.pos c.args.size (length (head_of c.args.held.count c.args.held.places h c.args.n) + (1 + c.args.bytes)) c.args.place) c.tagged.ensures

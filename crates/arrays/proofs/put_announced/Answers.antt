@@ -7,4 +7,4 @@ use Rattle.arrays.proofs.put_announced.Goals as goal
 
 pub returns : goal.returns
 returns c =
-    joined _ _ _ _ _ _ _ _ c.requires.1 (respelled _ _ _ _ _ _ (ap (λ (h : ℕ). head_of c.args.held c.args.places h c.args.count) c.tagged.ensures) c.put_head-head.ensures) c.put_varint.ensures
+    joined _ _ _ _ _ _ _ _ c.requires (respelled _ _ _ _ _ _ (ap (λ (h : ℕ). head_of c.args.held.count c.args.held.places h c.args.count) c.tagged.ensures) c.put_head-head.ensures) c.put_varint.ensures

@@ -6,8 +6,8 @@ use Rattle.at_ease.proofs.closes_at_ease.Goals as goal
 
 pub returns-then-depth-eq0 : goal.returns-then-depth-eq0
 unfolding closes_at
-returns-then-depth-eq0 c = simp (le-ltb 0 c.args.depth (omega arith))
+returns-then-depth-eq0 c = simp (le-ltb 0 c.args.nest.depth (omega arith))
 
 pub returns : goal.returns
 unfolding closes_at
-returns c = simp (lt-ltb 0 c.args.depth (omega arith)) c.at_ease.ensures
+returns c = simp (lt-ltb 0 c.args.nest.depth (omega arith)) c.at_ease.ensures

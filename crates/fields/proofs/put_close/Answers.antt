@@ -11,4 +11,4 @@ use Rattle.fields.proofs.put_close.Goals as goal
 pub returns : goal.returns
 unfolding field_bytes
 returns c =
-    ended_as _ _ _ _ _ _ _ (ap (λ (h : ℕ). headers_of c.args.held c.args.places ++ shortest h) c.tagged.ensures) c.put_marker.ensures
+    ended_as _ _ _ _ _ _ _ (ap (λ (h : ℕ). headers_of c.args.held.count c.args.held.places ++ shortest h) c.tagged.ensures) c.put_marker.ensures

@@ -12,13 +12,13 @@ use Rattle.write_at_once.proofs.Rows.{field-whole}
 use Rattle.write_at_once.proofs.field_at_once.Goals as goal
 
 pub returns-then-not-at_ease_with : goal.returns-then-not-at_ease_with
-returns-then-not-at_ease_with c = refused _ (easy_with c.args.depth c.args.held c.args.id (length c.args.bytes.now) base.size) (roomy_at (length c.args.buf.now) c.args.pos c.args.places (length c.args.bytes.now)) c.args.buf.now c.args.pos (fixlen_bytes c.args.id (subtype c.args.t) c.args.bytes.now) c.at_ease_with.ensures c.if-not-at_ease_with.true-raw
+returns-then-not-at_ease_with c = refused _ (easy_with c.args.nest.depth c.args.nest.held c.args.id (length c.args.bytes.now) base.size) (roomy_at (length c.args.buf.now) c.args.pos c.args.nest.places (length c.args.bytes.now)) c.args.buf.now c.args.pos (fixlen_bytes c.args.id (subtype c.args.t) c.args.bytes.now) c.at_ease_with.ensures c.if-not-at_ease_with.true-raw
 
 pub overflow_cast-bytes : goal.overflow_cast-bytes
-overflow_cast-bytes c = let n = within _ c.args.depth c.args.held c.args.id (length c.args.bytes.now) base.size c.at_ease_with.ensures c.if-not-at_ease_with.false-raw in record { fits = omega arith }
+overflow_cast-bytes c = let n = within _ c.args.nest.depth c.args.nest.held c.args.id (length c.args.bytes.now) base.size c.at_ease_with.ensures c.if-not-at_ease_with.false-raw in record { fits = omega arith }
 
 pub returns : goal.returns
 unfolding fixlen_bytes
 returns c =
-    behind _ (easy_with c.args.depth c.args.held c.args.id (length c.args.bytes.now) base.size) (roomy_at (length c.args.buf.now) c.args.pos c.args.places (length c.args.bytes.now)) c.args.buf.now c.args.pos (fixlen_bytes c.args.id (subtype c.args.t) c.args.bytes.now) c.at_ease_with.ensures _ _ c.if-not-at_ease_with.false-raw
-    (field-whole c.args.buf.now c.args.pos c.tagged.result (c.args.id * 8 + 2) c.args.places _ _ c.tagged.ensures c.tagged.type_inv c.tagged-word.result (length c.args.bytes.now * 8 + fixlen_raw c.args.t) c.args.bytes.now (c.tagged-word.ensures ∙ ap (λ (n : ℕ). length c.args.bytes.now * 8 + n) c.raw.ensures) c.tagged-word.type_inv c.put_field.ensures)
+    behind _ (easy_with c.args.nest.depth c.args.nest.held c.args.id (length c.args.bytes.now) base.size) (roomy_at (length c.args.buf.now) c.args.pos c.args.nest.places (length c.args.bytes.now)) c.args.buf.now c.args.pos (fixlen_bytes c.args.id (subtype c.args.t) c.args.bytes.now) c.at_ease_with.ensures _ _ c.if-not-at_ease_with.false-raw
+    (field-whole c.args.buf.now c.args.pos c.tagged.result (c.args.id * 8 + 2) c.args.nest.places _ _ c.tagged.ensures c.tagged.type_inv c.tagged-word.result (length c.args.bytes.now * 8 + fixlen_raw c.args.t) c.args.bytes.now (c.tagged-word.ensures ∙ ap (λ (n : ℕ). length c.args.bytes.now * 8 + n) c.raw.ensures) c.tagged-word.type_inv c.put_field.ensures)

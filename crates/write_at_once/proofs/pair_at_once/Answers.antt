@@ -9,9 +9,9 @@ use Rattle.write_at_once.proofs.Rows.{pair_whole}
 use Rattle.write_at_once.proofs.pair_at_once.Goals as goal
 
 pub returns-then-not-at_ease : goal.returns-then-not-at_ease
-returns-then-not-at_ease c = refused _ (easy_at c.args.depth c.args.held c.args.id) (roomy_at (length c.args.buf.now) c.args.pos c.args.places 0) c.args.buf.now c.args.pos (shortest (c.args.id * 8 + c.args.wire) ++ shortest c.args.value) c.at_ease.ensures c.if-not-at_ease.true-raw
+returns-then-not-at_ease c = refused _ (easy_at c.args.nest.depth c.args.nest.held c.args.id) (roomy_at (length c.args.buf.now) c.args.pos c.args.nest.places 0) c.args.buf.now c.args.pos (shortest (c.args.id * 8 + c.args.wire) ++ shortest c.args.value) c.at_ease.ensures c.if-not-at_ease.true-raw
 
 pub returns : goal.returns
 returns c =
-    behind _ (easy_at c.args.depth c.args.held c.args.id) _ c.args.buf.now c.args.pos (shortest (c.args.id * 8 + c.args.wire) ++ shortest c.args.value) c.at_ease.ensures _ _ c.if-not-at_ease.false-raw
-    (pair_whole c.args.buf.now c.args.pos c.tagged.result (c.args.id * 8 + c.args.wire) c.args.places _ _ c.tagged.ensures c.tagged.type_inv c.args.value c.ranges.value.fits c.put_pair.ensures)
+    behind _ (easy_at c.args.nest.depth c.args.nest.held c.args.id) _ c.args.buf.now c.args.pos (shortest (c.args.id * 8 + c.args.wire) ++ shortest c.args.value) c.at_ease.ensures _ _ c.if-not-at_ease.false-raw
+    (pair_whole c.args.buf.now c.args.pos c.tagged.result (c.args.id * 8 + c.args.wire) c.args.nest.places _ _ c.tagged.ensures c.tagged.type_inv c.args.value c.ranges.value.fits c.put_pair.ensures)

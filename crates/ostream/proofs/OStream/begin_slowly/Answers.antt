@@ -33,7 +33,7 @@ returns-then-self c =
     alters (begin_call c.args.self (length c.args.buf.now) c.args.id) _ _ _ _ (holding c.args.self c.args.id) (simp n) (simp n) (passes w) (knows w).inside refl (c.alter.ensures ∙ ap (λ (x : OStream). unwritten c.args.self c.args.place x) c.hold.ensures)
 
 pub put_marker-outcome-requires : goal.put_marker-outcome-requires
-put_marker-outcome-requires c = let k = knows (goal.at.put_marker-outcome-requires c).In_default in (k.few, k.inside)
+put_marker-outcome-requires c = let k = knows (goal.at.put_marker-outcome-requires c).In_default in k.inside
 
 pub settle-requires : goal.settle-requires
 settle-requires c = few_clears c.args.self (knows (goal.at.settle-requires c).In_default).few c.put_marker-outcome.result
@@ -42,4 +42,7 @@ pub returns : goal.returns
 unfolding held_bytes field_bytes
 returns c =
     let n = le-ltb c.args.self.npending lazy_depth c.if-self.false in
-    settles (begin_call c.args.self (length c.args.buf.now) c.args.id) c.args.self c.args.buf.now c.args.place _ _ (committed c.args.self (c.args.self.depth + 1)) _ _ (simp n (ap (λ (h : ℕ). held_bytes c.args.self ++ shortest h) c.tagged-header.ensures)) (simp n) (passes (goal.at.returns c).In_default) c.put_marker-outcome.ensures c.settle.ensures
+    settles (begin_call c.args.self (length c.args.buf.now) c.args.id) c.args.self c.args.buf.now c.args.place _ _ (committed c.args.self (c.args.self.depth + 1)) _ _ (simp n (ap (λ (h : ℕ). held_bytes c.args.self ++ shortest h) c.tagged-header.ensures)) (simp n) (passes (goal.at.returns c).In_default) (rw c.held.ensures.0 at (rw c.held.ensures.1 at c.put_marker-outcome.ensures)) c.settle.ensures
+
+pub held-requires : goal.held-requires
+held-requires c = (knows (goal.at.held-requires c).In_default).few

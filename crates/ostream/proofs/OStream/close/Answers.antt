@@ -8,7 +8,7 @@ use Rattle.ostream.proofs.Calls.{is_sound, few_clears, settles}
 use Rattle.ostream.proofs.OStream.close.Goals as goal
 
 pub put_close-outcome-requires : goal.put_close-outcome-requires
-put_close-outcome-requires c = let h = is_sound c.args.self (length c.args.buf.now) c.requires.0 in (h.few, h.inside)
+put_close-outcome-requires c = let h = is_sound c.args.self (length c.args.buf.now) c.requires.0 in h.inside
 
 pub settle-requires : goal.settle-requires
 settle-requires c = few_clears c.args.self (is_sound c.args.self (length c.args.buf.now) c.requires.0).few c.put_close-outcome.result
@@ -16,4 +16,7 @@ settle-requires c = few_clears c.args.self (is_sound c.args.self (length c.args.
 pub returns : goal.returns
 unfolding held_bytes
 returns c =
-    settles _ _ _ _ _ _ _ _ _ refl refl (simp (c.requires.0, ne_eqb c.args.self.depth 0 (λ e. omega arith))) c.put_close-outcome.ensures c.settle.ensures
+    settles _ _ _ _ _ _ _ _ _ refl refl (simp (c.requires.0, ne_eqb c.args.self.depth 0 (λ e. omega arith))) (rw c.held.ensures.0 at (rw c.held.ensures.1 at c.put_close-outcome.ensures)) c.settle.ensures
+
+pub held-requires : goal.held-requires
+held-requires c = (is_sound c.args.self (length c.args.buf.now) c.requires.0).few

@@ -4,4 +4,4 @@ use Rattle.ostream.proofs.OStream.sound.Goals as goal
 
 pub returns : goal.returns
 unfolding sound_stream
-returns c = c.sound_for.ensures
+returns c = (rw c.nest.ensures at c.sound_for.ensures)

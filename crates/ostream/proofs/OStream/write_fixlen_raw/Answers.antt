@@ -13,7 +13,7 @@ use Rattle.ostream.proofs.OStream.write_fixlen_raw.Goals.{then-place-eq0+else-se
 
 pub returns-then-self-end : goal.returns-then-self-end
 returns-then-self-end c =
-    goes_at_once (raw_call c.args.self (length c.args.buf.now) c.args.id c.args.bytes.now c.args.subtype) c.args.self c.args.buf.now (fixlen_bytes c.args.id (subtype c.args.subtype) c.args.bytes.now) c.args.place _ _ _ _ _ c.field_at_once-end.ensures c.if-self-end.true (omega arith)
+    goes_at_once (raw_call c.args.self (length c.args.buf.now) c.args.id c.args.bytes.now c.args.subtype) c.args.self c.args.buf.now (fixlen_bytes c.args.id (subtype c.args.subtype) c.args.bytes.now) c.args.place _ _ _ _ _ (rw c.nest.ensures at c.field_at_once-end.ensures) c.if-self-end.true (omega arith)
     (λ t.
     let q = both _ _ t in
     let e = easy_with_lem c.args.self c.args.id (length c.args.bytes.now) base.size q.0 in
@@ -24,5 +24,5 @@ returns-then-self-end c =
 pub returns : goal.returns
 returns c =
     by_slow_form (λ s n. raw_call s n c.args.id c.args.bytes.now c.args.subtype) c.args.self _ c.args.buf.now _ c.args.place _ _ _ c.rebuilt.ensures
-    (elim c.if-place-eq0.branch [ then-place-eq0+else-self-end w ↦ w.buf-is ∙ stayed _ c.args.buf.now c.args.self.offset (fixlen_bytes c.args.id (subtype c.args.subtype) c.args.bytes.now) _ _ w.field_at_once-end.ensures w.if-self-end.false | else-place-eq0 w ↦ w.buf-is ])
+    (elim c.if-place-eq0.branch [ then-place-eq0+else-self-end w ↦ w.buf-is ∙ stayed _ c.args.buf.now c.args.self.offset (fixlen_bytes c.args.id (subtype c.args.subtype) c.args.bytes.now) _ _ (rw w.nest.ensures at w.field_at_once-end.ensures) w.if-self-end.false | else-place-eq0 w ↦ w.buf-is ])
     c.rebuilt-2.ensures c.write_fixlen_slowly.ensures

@@ -13,7 +13,7 @@ use Rattle.ostream.proofs.OStream.write_integers.Goals.{then-place-eq0+else-self
 
 pub returns-then-self-end : goal.returns-then-self-end
 returns-then-self-end g c =
-    goes_at_once (array_call c.args.self (length c.args.buf.now) c.args.id (length c.args.items.now) (field_bytes (g.T.Integer.array c.args.id c.args.items.now))) c.args.self c.args.buf.now (field_bytes (g.T.Integer.array c.args.id c.args.items.now)) c.args.place _ _ _ _ _ c.integers_at_once-end.ensures c.if-self-end.true (omega arith)
+    goes_at_once (array_call c.args.self (length c.args.buf.now) c.args.id (length c.args.items.now) (field_bytes (g.T.Integer.array c.args.id c.args.items.now))) c.args.self c.args.buf.now (field_bytes (g.T.Integer.array c.args.id c.args.items.now)) c.args.place _ _ _ _ _ (rw c.nest.ensures at c.integers_at_once-end.ensures) c.if-self-end.true (omega arith)
     (λ t.
     let q = both _ _ t in
     let e = easy_with_lem c.args.self c.args.id (length c.args.items.now) base.count q.0 in
@@ -24,5 +24,5 @@ returns-then-self-end g c =
 pub returns : goal.returns
 returns g c =
     by_slow_form (λ s n. array_call s n c.args.id (length c.args.items.now) (field_bytes (g.T.Integer.array c.args.id c.args.items.now))) c.args.self _ c.args.buf.now _ c.args.place _ _ _ c.rebuilt.ensures
-    (elim c.if-place-eq0.branch [ then-place-eq0+else-self-end w ↦ w.buf-is ∙ stayed _ c.args.buf.now c.args.self.offset (field_bytes (g.T.Integer.array c.args.id c.args.items.now)) _ _ w.integers_at_once-end.ensures w.if-self-end.false | else-place-eq0 w ↦ w.buf-is ])
+    (elim c.if-place-eq0.branch [ then-place-eq0+else-self-end w ↦ w.buf-is ∙ stayed _ c.args.buf.now c.args.self.offset (field_bytes (g.T.Integer.array c.args.id c.args.items.now)) _ _ (rw w.nest.ensures at w.integers_at_once-end.ensures) w.if-self-end.false | else-place-eq0 w ↦ w.buf-is ])
     c.rebuilt-2.ensures c.write_integers_slowly.ensures

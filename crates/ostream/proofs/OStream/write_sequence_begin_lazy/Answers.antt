@@ -13,12 +13,12 @@ use Rattle.ostream.proofs.AtOnce.{Holds, can_hold}
 use Rattle.ostream.proofs.OStream.write_sequence_begin_lazy.Goals as goal
 
 pub hold-requires : goal.hold-requires
-hold-requires c = let h = (let held : Holds c.args.self (length c.args.buf.now) c.args.id = can_hold _ _ _ (sym c.can_hold.ensures ∙ c.if-can_hold.true) in held) in (h.few, h.shallow)
+hold-requires c = let h = (let held : Holds c.args.self (length c.args.buf.now) c.args.id = can_hold _ _ _ (sym (rw c.nest.ensures at c.can_hold.ensures) ∙ c.if-can_hold.true) in held) in (h.few, h.shallow)
 
 pub returns-then-can_hold : goal.returns-then-can_hold
 unfolding holding
 returns-then-can_hold c =
-    let h = (let held : Holds c.args.self (length c.args.buf.now) c.args.id = can_hold _ _ _ (sym c.can_hold.ensures ∙ c.if-can_hold.true) in held) in
+    let h = (let held : Holds c.args.self (length c.args.buf.now) c.args.id = can_hold _ _ _ (sym (rw c.nest.ensures at c.can_hold.ensures) ∙ c.if-can_hold.true) in held) in
     let n = h.few in
     let i = (is_sound c.args.self (length c.args.buf.now) h.sound).inside in
     alters (begin_call c.args.self (length c.args.buf.now) c.args.id) c.args.self c.args.buf.now c.args.place _ (holding c.args.self c.args.id)

@@ -14,7 +14,7 @@ use Rattle.ostream.proofs.OStream.write_varint_field.Goals.{then-place-eq0+else-
 
 pub returns-then-self-end : goal.returns-then-self-end
 returns-then-self-end c =
-    goes_at_once (varint_call c.args.self (length c.args.buf.now) c.args.id c.args.wire c.args.value) c.args.self c.args.buf.now (shortest (c.args.id * 8 + c.args.wire) ++ shortest c.args.value) c.args.place _ _ _ _ _ c.pair_at_once-end.ensures c.if-self-end.true (omega arith)
+    goes_at_once (varint_call c.args.self (length c.args.buf.now) c.args.id c.args.wire c.args.value) c.args.self c.args.buf.now (shortest (c.args.id * 8 + c.args.wire) ++ shortest c.args.value) c.args.place _ _ _ _ _ (rw c.nest.ensures at c.pair_at_once-end.ensures) c.if-self-end.true (omega arith)
     (λ t.
     let e = both _ _ t in
     let y = is_ready c.args.self (length c.args.buf.now) c.args.id 0 (is_easy c.args.self c.args.id e.0) e.1 in
@@ -24,5 +24,5 @@ returns-then-self-end c =
 pub returns : goal.returns
 returns c =
     by_slow_form (λ s n. varint_call s n c.args.id c.args.wire c.args.value) c.args.self _ c.args.buf.now _ c.args.place _ _ _ c.rebuilt.ensures
-    (elim c.if-place-eq0.branch [ then-place-eq0+else-self-end w ↦ w.buf-is ∙ stayed _ c.args.buf.now c.args.self.offset (shortest (c.args.id * 8 + c.args.wire) ++ shortest c.args.value) _ _ w.pair_at_once-end.ensures w.if-self-end.false | else-place-eq0 w ↦ w.buf-is ])
+    (elim c.if-place-eq0.branch [ then-place-eq0+else-self-end w ↦ w.buf-is ∙ stayed _ c.args.buf.now c.args.self.offset (shortest (c.args.id * 8 + c.args.wire) ++ shortest c.args.value) _ _ (rw w.nest.ensures at w.pair_at_once-end.ensures) w.if-self-end.false | else-place-eq0 w ↦ w.buf-is ])
     c.rebuilt-2.ensures c.write_varint_field_slowly.ensures

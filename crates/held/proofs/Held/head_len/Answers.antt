@@ -1,4 +1,4 @@
--- `held::head_len`: three lengths, none of which is large.
+-- `held::Held::head_len`: three lengths, none of which is large.
 use mathlib.Core.List.{◌++◌}
 use native.Mathlib.Omega.{arith}
 use lib.ListN.{length-append}
@@ -6,7 +6,7 @@ use Rattle.layout.specs.Limits.{base}
 use Rattle.layout.specs.Varint.{shortest}
 use Rattle.varint.proofs.Shortest.{length-longest}
 use Rattle.held.specs.Headers.{headers_of}
-use Rattle.held.proofs.head_len.Goals as goal
+use Rattle.held.proofs.Held.head_len.Goals as goal
 
 pub overflow_add-result : goal.overflow_add-result
 overflow_add-result c =
@@ -23,6 +23,6 @@ pub returns : goal.returns
 returns c =
     let g = length-longest base c.args.header c.ranges.header.fits in
     let h = length-longest base c.args.second c.ranges.second.fits in
-    let m = length-append (headers_of c.args.held c.args.places) (shortest c.args.header ++ shortest c.args.second) in
+    let m = length-append (headers_of c.args.self.count c.args.self.places) (shortest c.args.header ++ shortest c.args.second) in
     let n = length-append (shortest c.args.header) (shortest c.args.second) in
-    (omega (arith, c.held_len.ensures.0), omega (arith, c.held_len.ensures.1))
+    (omega (arith, c.len.ensures.0), omega (arith, c.len.ensures.1))

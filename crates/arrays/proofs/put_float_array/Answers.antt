@@ -2,15 +2,12 @@
 use Prim.Native.Nat.{ℕ, ◌+◌, ◌*◌}
 use mathlib.Core.Path.{sym, ap, ◌∙◌}
 use mathlib.Core.List.{◌++◌, map}
-use native.Mathlib.Omega.{arith}
 use lib.ListN.{length, length-map}
 use Rattle.layout.specs.Varint.{shortest}
 use Rattle.layout.specs.Field.{low_bytes}
 use Rattle.emit.proofs.Elements.{each_map}
 use Rattle.emit.proofs.Segments.{respelled, stays_in}
-use Rattle.floats.proofs.Evenly.{sizes}
 use Rattle.held.specs.Headers.{head_of}
-use Rattle.outcomes.specs.Outcome.{reaches}
 use Rattle.arrays.proofs.Floats.{floats_ended}
 use Rattle.arrays.proofs.put_float_array.Goals as goal
 

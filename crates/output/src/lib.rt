@@ -53,15 +53,12 @@ impl Output {
         }
     }
 
-    // The rarer outputs; that none is longer than OUTPUT_MAX is known by its length.
+    // The rarer outputs. The length is taken for its promise alone: none is longer than OUTPUT_MAX.
     fn put_bounded(self, buf: &mut [u8], pos: usize) -> usize
         requires { pos + output_most ≤ length buf.old }
         ensures { (result ≡ reached buf.old pos (output_bytes self)) × (buf.new ≡ put buf.old pos (output_bytes self)) × (length (output_bytes self) ≤ output_most) }
     {
-        let len = self.len();
-        if OUTPUT_MAX < len {
-            return pos;
-        }
+        self.len();
         self.put(buf, pos, 0)
     }
 

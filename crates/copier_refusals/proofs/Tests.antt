@@ -1,11 +1,8 @@
 -- The copier's tests of its reader and of what it owes, as the definitions have them.
 use mathlib.Core.Path.{◌≡◌, refl, sym, ap, ◌∙◌}
 use mathlib.Core.Bool.{Bool, true, false}
-use mathlib.Core.List.{[], ◌∷◌}
 use Prim.Native.Nat.{ℕ}
 use native.Mathlib.Omega.{arith}
-use types.Run.{OneOf, miss}
-use denote.Enum.Declared.{tag_of}
 use Rattle.layout.specs.Limits.{base}
 use Rattle.machine.specs.Calls.{State, reading, owing, broke}
 use Rattle.istream.specs.declared.IStream.{IStream}
@@ -13,12 +10,10 @@ use Rattle.phase.specs.declared.Phase as code
 use Rattle.phase.specs.declared.Phase.TheVariants as phases
 use Rattle.phase.specs.Phases.{state_at}
 use Rattle.istream.specs.Stream.{state_of}
-use Rattle.phase.specs.contracts.Phase as readers
 use Rattle.copying.specs.Owed.{agrees, owes_nothing, sound_owed}
 use Rattle.owed.specs.declared.Owed.{Owed}
 use Rattle.owed.specs.declared.Owed.TheVariants as owes
 use Rattle.owed.specs.Owed.{owed_of}
-use Rattle.owed.specs.contracts.Owed as owing-types
 use Rattle.ostream.specs.declared.OStream.{OStream}
 use Rattle.copying.specs.Refusals.{is_broke}
 use Rattle.copying.proofs.Refusals.{with_held, with_unsound, with_owed}

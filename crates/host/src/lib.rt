@@ -12,6 +12,9 @@ ghost use Rattle.exports.specs.Exports.{number, result_of, filled, copied, measu
 use copier::{Answer, Copier};
 use types::Error;
 
+// An output that is too short, by C's number.
+const TOO_SHORT: i64 = -101;
+
 pub fn sofab_verdict(ticket: &[u8]) -> i64
     ensures { result ≡ number (verdict_of base ticket.now) }
 {
@@ -34,7 +37,7 @@ fn copy(ticket: &[u8], out: &mut [u8]) -> i64
     let opened = Copier::new(out, 0);
     let done = opened.copier.feed(ticket, out);
     if is_full(done.answer) {
-        return -101;
+        return TOO_SHORT;
     }
     done.copier.writer.offset as i64
 }
@@ -45,7 +48,7 @@ fn block(ticket: &[u8], out: &mut [u8]) -> i64
 {
     let end = emit::put_rest(out, 0, ticket, 0);
     if end < ticket.len() {
-        return -101;
+        return TOO_SHORT;
     }
     end as i64
 }

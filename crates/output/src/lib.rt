@@ -53,15 +53,12 @@ impl Output {
         }
     }
 
-    // The rarer outputs; that none is longer than OUTPUT_MAX is known by its length.
+    // The rarer outputs. The length is taken for its promise alone: none is longer than OUTPUT_MAX.
     fn put_bounded(self, buf: &mut [u8], pos: usize) -> usize
         requires { pos + output_most ≤ length buf.old }
         ensures { (result ≡ reached buf.old pos (output_bytes self)) × (buf.new ≡ put buf.old pos (output_bytes self)) × (length (output_bytes self) ≤ output_most) }
     {
-        let len = self.len();
-        if OUTPUT_MAX < len {
-            return pos;
-        }
+        self.len();
         self.put(buf, pos, 0)
     }
 
@@ -73,29 +70,14 @@ impl Output {
         let cursor = Cursor { pos, skip: place };
         match self {
             Output::Empty => pos,
-            Output::One(a) => {
-                let end = cursor.put_varint(buf, a);
-                end.pos
-            }
-            Output::Two(a, b) => {
-                let next = cursor.put_varint(buf, a);
-                let end = next.put_varint(buf, b);
-                end.pos
-            }
+            Output::One(a) => cursor.put_varint(buf, a).pos,
+            Output::Two(a, b) => cursor.put_varint(buf, a).put_varint(buf, b).pos,
             Output::Three(a, b, c) => {
-                let next = cursor.put_varint(buf, a);
-                let last = next.put_varint(buf, b);
-                let end = last.put_varint(buf, c);
-                end.pos
+                let next = cursor.put_varint(buf, a).put_varint(buf, b);
+                next.put_varint(buf, c).pos
             }
-            Output::Four(bits) => {
-                let end = cursor.put_fp32(buf, bits);
-                end.pos
-            }
-            Output::Eight(bits) => {
-                let end = cursor.put_fp64(buf, bits);
-                end.pos
-            }
+            Output::Four(bits) => cursor.put_fp32(buf, bits).pos,
+            Output::Eight(bits) => cursor.put_fp64(buf, bits).pos,
         }
     }
 }

@@ -8,6 +8,7 @@ ghost use Rattle.copying.specs.Owed.{agrees};
 ghost use Rattle.types.specs.Types.{width};
 ghost use Rattle.owed.specs.Owed.{owed_of, array_output, output_of, level_of, legal_of, place_is_in};
 
+use held::tagged;
 use output::Output;
 use types::{
     ARRAY_MAX, ArrayKind, FIXLEN_MAX, FloatType, ID_MAX, RawType, T_FIXLEN, T_FIXLENARRAY,
@@ -33,13 +34,6 @@ pub enum Owed {
     Array(u32, ArrayKind, u32),
     Begin(u32),
     End,
-}
-
-// A header's number, and a fixed-length word's.
-fn tagged(n: u32, tag: u8) -> u64
-    ensures { result ≡ n * 8 + tag }
-{
-    (n as u64) * 8 + (tag as u64)
 }
 
 // A float's fixed-length word.

@@ -9,16 +9,16 @@ pub returns-in-Empty : goal.returns-in-Empty
 returns-in-Empty c = landed_none c.args.buf.now c.args.pos c.args.place (output_bytes c.args.self) (ap output_bytes c.in-Empty.is)
 
 pub returns-in-One : goal.returns-in-One
-returns-in-One c = landed _ _ _ _ _ _ (ap output_bytes c.in-One.is) c.put_varint-end.ensures
+returns-in-One c = landed _ _ _ _ _ _ (ap output_bytes c.in-One.is) c.put_varint.ensures
 
 pub returns-in-Two : goal.returns-in-Two
-returns-in-Two c = landed _ _ _ _ _ _ (ap output_bytes c.in-Two.is) (joined _ _ _ _ _ _ _ _ c.requires c.put_varint-next.ensures c.put_varint-end-in-Two.ensures)
+returns-in-Two c = landed _ _ _ _ _ _ (ap output_bytes c.in-Two.is) (joined _ _ _ _ _ _ _ _ c.requires c.put_varint-in-Two.ensures c.put_varint-in-Two-2.ensures)
 
 pub returns-in-Three : goal.returns-in-Three
-returns-in-Three c = landed _ _ _ _ _ _ (ap output_bytes c.in-Three.is) (joined-three _ _ _ _ _ _ _ _ _ _ _ c.requires c.put_varint-next-in-Three.ensures c.put_varint-last.ensures c.put_varint-end-in-Three.ensures)
+returns-in-Three c = landed _ _ _ _ _ _ (ap output_bytes c.in-Three.is) (joined-three _ _ _ _ _ _ _ _ _ _ _ c.requires c.put_varint-in-Three.ensures c.put_varint-next.ensures c.put_varint-in-Three-2.ensures)
 
 pub returns-in-Four : goal.returns-in-Four
-returns-in-Four c = landed _ _ _ _ _ _ (ap output_bytes c.in-Four.is) c.put_fp32-end.ensures
+returns-in-Four c = landed _ _ _ _ _ _ (ap output_bytes c.in-Four.is) c.put_fp32.ensures
 
 pub returns-in-Eight : goal.returns-in-Eight
-returns-in-Eight c = landed _ _ _ _ _ _ (ap output_bytes c.in-Eight.is) c.put_fp64-end.ensures
+returns-in-Eight c = landed _ _ _ _ _ _ (ap output_bytes c.in-Eight.is) c.put_fp64.ensures

@@ -37,7 +37,7 @@ pub enum Event {
     End,
 }
 
-// A float by its bits.
+// A float by its bits. The two widths stand side by side: a trait over them would have a member for each line of these.
 pub fn fp32(id: u32, bits: u32) -> Event
     ensures { result ≡ fp32_of id bits }
 {

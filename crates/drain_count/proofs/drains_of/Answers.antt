@@ -9,4 +9,4 @@ pub returns-in_err-len : goal.returns-in_err-len
 returns-in_err-len c = stop_counted c.if-buffer-eq0.false _ c.in_err-len.ensures c.from_residual.ensures
 
 pub returns : goal.returns
-returns c = len_counted c.if-buffer-eq0.false c.in_ok-len.ensures c.rounded_up.ensures
+returns c = len_counted c.if-buffer-eq0.false c.in_ok-len.ensures c.rounded_up-count.ensures

@@ -74,16 +74,7 @@ pub fn put_integer_array<T: Integer>(
     }
     let most = farthest(place, size - pos);
     let out = varints_out(items, most);
-    finish_counted(
-        size,
-        pos,
-        held,
-        header,
-        items.len(),
-        out,
-        most,
-        place,
-    )
+    finish_counted(size, pos, held, header, items.len(), out, most, place)
 }
 
 // What stands before the elements of a float array: the held headers, the header, the count, and the word, which stands even where the
@@ -100,11 +91,7 @@ fn put_announced(
     requires { pos ≤ length buf.old }
     ensures { Emitted (start_at pos place) buf.old (head_of held.count held.places (id * 8 + 5) count ++ shortest word) result buf.new }
 {
-    let head = held.put_head(buf, pos,
-        tagged(id, T_FIXLENARRAY),
-        count,
-        place,
-    );
+    let head = held.put_head(buf, pos, tagged(id, T_FIXLENARRAY), count, place);
     head.put_varint(buf, word)
 }
 

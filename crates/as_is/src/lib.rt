@@ -72,7 +72,9 @@ pub fn as_is(reader: IStream, bytes: &[u8]) -> Option<Block>
             let row = elements(bytes, left);
             behind(row.end, signeds(id, left - row.count), carried)
         }
-        Phase::Float(id, w, left, k, _) if k == 0 && 0 < left => float_elements(carried, id, w, left, bytes),
+        Phase::Float(id, w, left, k, _) if k == 0 && 0 < left => float_elements(
+            carried, id, w, left, bytes,
+        ),
         _ => None,
     }
 }

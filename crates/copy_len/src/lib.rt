@@ -24,7 +24,10 @@ fn body_at(t: &[u8], from: Extent, h: u64, depth: u32) -> Result<(Extent, u32), 
     ensures { Goes t.now from.at (reached depth from.len (body base depth (h / 8) (wire_of (h % 8)) (drop from.at t.now)).outcome) result }
 {
     let Extent { at, len } = from;
-    let headed = Extent { at, len: len + width(h) };
+    let headed = Extent {
+        at,
+        len: len + width(h),
+    };
     match (h % 8) as u8 {
         T_VARINT_UNSIGNED | T_VARINT_SIGNED => Ok((scalar_len(t, headed)?, depth)),
         T_FIXLEN => Ok((fixlen_len(t, headed)?, depth)),

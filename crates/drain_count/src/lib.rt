@@ -40,5 +40,8 @@ pub fn drains_of(message: &[u8], buffer: usize) -> Result<Drains, Uncounted>
         return Err(Uncounted::Refused(Error::NoBuffer));
     }
     let len = length_of(message)?;
-    Ok(Drains { count: rounded_up(len, buffer), len })
+    Ok(Drains {
+        count: rounded_up(len, buffer),
+        len,
+    })
 }

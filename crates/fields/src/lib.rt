@@ -74,21 +74,11 @@ pub fn put_marker(
     let size = buf.len();
     let behind = held.put(buf, pos, place);
     behind.put_varint(buf, header);
-    finish(
-        pos,
-        size,
-        held.len() + varint_len(header),
-        place,
-    )
+    finish(pos, size, held.len() + varint_len(header), place)
 }
 
 // The held headers and a close, whose id is 0.
-pub fn put_close(
-    buf: &mut [u8],
-    pos: usize,
-    held: Held,
-    place: usize,
-) -> Result<Reach, Error>
+pub fn put_close(buf: &mut [u8], pos: usize, held: Held, place: usize) -> Result<Reach, Error>
     requires { pos ≤ length buf.old }
     ensures { Ended pos buf.old (headers_of held.count held.places ++ field_bytes (end 0)) place result buf.new }
 {

@@ -85,7 +85,14 @@ impl Held {
     }
 
     // Those bytes.
-    pub fn put_head(self, buf: &mut [u8], pos: usize, header: u64, second: u64, place: usize) -> Cursor
+    pub fn put_head(
+        self,
+        buf: &mut [u8],
+        pos: usize,
+        header: u64,
+        second: u64,
+        place: usize,
+    ) -> Cursor
         requires { pos ≤ length buf.old }
         ensures { Emitted (start_at pos place) buf.old (head_of self.count self.places header second) result buf.new }
     {

@@ -22,14 +22,7 @@ impl OStream {
         ensures { result_of result buf.new ≡ written (varint_call self (length buf.old) id wire value) self buf.old place }
     {
         if place == 0 {
-            let end = pair_at_once(
-                buf,
-                self.offset,
-                self.nest(),
-                id,
-                wire,
-                value,
-            );
+            let end = pair_at_once(buf, self.offset, self.nest(), id, wire, value);
             if self.offset < end {
                 return self.done(end);
             }
@@ -52,15 +45,7 @@ impl OStream {
         ensures { result_of result buf.new ≡ written (varint_call self (length buf.old) id wire value) self buf.old place }
     {
         let size = buf.len();
-        let outcome = varint_field(
-            buf,
-            self.offset,
-            self.nest(),
-            id,
-            wire,
-            value,
-            place,
-        );
+        let outcome = varint_field(buf, self.offset, self.nest(), id, wire, value, place);
         self.settle(size, outcome, self.depth)
     }
 

@@ -9,8 +9,8 @@ returns-then-b-eq1 c = going_last c.loop-i.invariant c.loop-i-test.true c.if-b-e
 pub returns-else-b-eq0 : goal.returns-else-b-eq0
 returns-else-b-eq0 c =
     elim c.else-b-eq0.branch [
-      else-b-eq0-via-then-b-eq0+else-at-i w ↦ going_one c.loop-i.invariant c.loop-i-test.true c.if-b-lt128.true w.if-at-i.false
-    | else-b-eq0-via-else-b-eq0 w ↦ going_ends c.loop-i.invariant c.loop-i-test.true c.if-b-lt128.true c.if-i-at.false w.if-b-eq0.false
+      | else-b-eq0-via-then-b-eq0+else-at-i w ↦ going_one c.loop-i.invariant c.loop-i-test.true c.if-b-lt128.true w.if-at-i.false
+      | else-b-eq0-via-else-b-eq0 w ↦ going_ends c.loop-i.invariant c.loop-i-test.true c.if-b-lt128.true c.if-i-at.false w.if-b-eq0.false
     ]
 
 pub loop-i-preserved : goal.loop-i-preserved

@@ -8,7 +8,7 @@ ghost use Rattle.layout.specs.Field.{float_array};
 ghost use Rattle.layout.specs.Copy.{field_bytes, fixlen_bytes};
 ghost use Rattle.types.specs.Types.{subtype};
 ghost use Rattle.checks.specs.Check.{check_of};
-ghost use Rattle.refusals.specs.Tests.{too_long, payload_too_long, array_too_long};
+ghost use Rattle.refusals.specs.Tests.{payload_too_long, array_too_long};
 ghost use Rattle.write_slowly.specs.Went.{went_by, judgement_of, field_from};
 
 use arrays::{put_float_array, put_integer_array};
@@ -20,20 +20,6 @@ use held::{Held, tagged};
 use outcomes::Reach;
 use places::Nest;
 use types::{ARRAY_MAX, Error, FIXLEN_MAX, FixlenType, T_FIXLEN};
-
-// The refusals of a field with a payload or an array, in order: the state, the id, the length against the limit of its kind.
-fn check_length(
-    pos: usize,
-    nest: Nest,
-    size: usize,
-    id: u32,
-    len: usize,
-    most: u32,
-) -> Result<(), Error>
-    ensures { result ≡ check_of (judgement_of pos nest.depth nest.held nest.places size id (too_long most len ∷ [])) }
-{
-    check_sized(nest.sound_for(pos, size), id, len, most)
-}
 
 // A field of one varint.
 pub fn varint_field(
@@ -64,7 +50,7 @@ pub fn fixlen_field(
 ) -> Result<Reach, Error>
     ensures { went_by result buf.new ≡ field_from pos nest.depth nest.held nest.places buf.old id (payload_too_long (length bytes.now) ∷ []) (fixlen_bytes id (subtype t) bytes.now) place }
 {
-    check_length(pos, nest, buf.len(), id, bytes.len(), FIXLEN_MAX)?;
+    check_sized(nest.sound_for(pos, buf.len()), id, bytes.len(), FIXLEN_MAX)?;
     let word = tagged(bytes.len() as u32, t.raw());
     put_fixlen_field(
         buf,
@@ -88,7 +74,7 @@ pub fn integer_array<T: Integer>(
 ) -> Result<Reach, Error>
     ensures { went_by result buf.new ≡ field_from pos nest.depth nest.held nest.places buf.old id (array_too_long (length items.now) ∷ []) (field_bytes (T.array id items.now)) place }
 {
-    check_length(pos, nest, buf.len(), id, items.len(), ARRAY_MAX)?;
+    check_sized(nest.sound_for(pos, buf.len()), id, items.len(), ARRAY_MAX)?;
     put_integer_array(buf, pos, Held::of(nest), id, items, place)
 }
 
@@ -103,6 +89,6 @@ pub fn float_array<T: Float>(
 ) -> Result<Reach, Error>
     ensures { went_by result buf.new ≡ field_from pos nest.depth nest.held nest.places buf.old id (array_too_long (length items.now) ∷ []) (field_bytes (float_array id T.width (map T.bits items.now))) place }
 {
-    check_length(pos, nest, buf.len(), id, items.len(), ARRAY_MAX)?;
+    check_sized(nest.sound_for(pos, buf.len()), id, items.len(), ARRAY_MAX)?;
     put_float_array(buf, pos, Held::of(nest), id, items, place)
 }

@@ -24,7 +24,10 @@ fn body_at(t: &[u8], from: Extent, h: u64, depth: u32) -> Result<(Extent, u32), 
     ensures { Goes t.now from.at (reached depth from.len (body base depth (h / 8) (wire_of (h % 8)) (drop from.at t.now)).outcome) result }
 {
     let Extent { at, len } = from;
-    let headed = Extent { at, len: len + width(h) };
+    let headed = Extent {
+        at,
+        len: len + width(h),
+    };
     match (h % 8) as u8 {
         T_VARINT_UNSIGNED | T_VARINT_SIGNED => Ok((scalar_len(t, headed)?, depth)),
         T_FIXLEN => Ok((fixlen_len(t, headed)?, depth)),
@@ -56,7 +59,7 @@ fn field_at(t: &[u8], from: Extent, depth: u32) -> Result<(Extent, u32), Stop>
 }
 
 // The length of the plain copy of a message given whole; or the message is incomplete, or broken, with the number of bytes up to the
-// offending one, which is counted.
+// offending one, which is counted. Fields are of unequal lengths, so the place goes on by no fixed step.
 pub fn length_of(message: &[u8]) -> Result<usize, Stop>
     ensures { result ≡ length_of message.now }
 {

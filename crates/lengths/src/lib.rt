@@ -29,7 +29,10 @@ fn value_len(t: &[u8], from: Extent) -> Result<Extent, Stop>
     ensures { Sizes t.now from.at (sized varint_length from.len (varint base (drop from.at t.now))) result }
 {
     let (v, i) = long_varint_at(t, from.at)?;
-    Ok(Extent { at: i, len: from.len + varint_len(v) })
+    Ok(Extent {
+        at: i,
+        len: from.len + varint_len(v),
+    })
 }
 
 // Out of line. Most varints are in their shortest form, and so as long as they stand.
@@ -38,7 +41,10 @@ fn long_len(t: &[u8], from: Extent) -> Result<Extent, Stop>
     ensures { Sizes t.now from.at (sized varint_length from.len (varint base (drop from.at t.now))) result }
 {
     if let Some(end) = long_number_at(t, from.at) {
-        return Ok(Extent { at: end, len: from.len + (end - from.at) });
+        return Ok(Extent {
+            at: end,
+            len: from.len + (end - from.at),
+        });
     }
     value_len(t, from)
 }
@@ -51,13 +57,19 @@ fn element_len(t: &[u8], from: Extent) -> Result<Extent, Stop>
     let Extent { at, len } = from;
     if at < t.len() {
         if t[at] < 128 {
-            return Ok(Extent { at: at + 1, len: len + 1 });
+            return Ok(Extent {
+                at: at + 1,
+                len: len + 1,
+            });
         }
         if at + 1 < t.len() {
             let b = t[at + 1];
             if 0 < b {
                 if b < 128 {
-                    return Ok(Extent { at: at + 2, len: len + 2 });
+                    return Ok(Extent {
+                        at: at + 2,
+                        len: len + 2,
+                    });
                 }
             }
         }
@@ -65,7 +77,7 @@ fn element_len(t: &[u8], from: Extent) -> Result<Extent, Stop>
     long_len(t, from)
 }
 
-// n elements, one by one.
+// n elements, one by one. So short a loop stands here and in passing's `skip_varints`: one that is handed its step would be no shorter.
 fn elements_len(t: &[u8], from: Extent, n: u64) -> Result<Extent, Stop>
     requires { (from.at ≤ length t.now) × (from.len ≤ from.at) }
     ensures { Sizes t.now from.at (varints base from.len n (drop from.at t.now)) result }
@@ -86,7 +98,10 @@ pub fn scalar_len(t: &[u8], from: Extent) -> Result<Extent, Stop>
 {
     if from.at < t.len() {
         if t[from.at] < 128 {
-            return Ok(Extent { at: from.at + 1, len: from.len + 1 });
+            return Ok(Extent {
+                at: from.at + 1,
+                len: from.len + 1,
+            });
         }
     }
     long_len(t, from)
@@ -99,7 +114,10 @@ pub fn fixlen_len(t: &[u8], from: Extent) -> Result<Extent, Stop>
 {
     let (word, i) = varint_at(t, from.at)?;
     let j = bytes_at(t, i, word)?;
-    Ok(Extent { at: j, len: from.len + width(word) + (word / 8) as usize })
+    Ok(Extent {
+        at: j,
+        len: from.len + width(word) + (word / 8) as usize,
+    })
 }
 
 // A count, and so many elements.
@@ -108,7 +126,10 @@ pub fn array_len(t: &[u8], from: Extent) -> Result<Extent, Stop>
     ensures { BodySizes t.now from.at t_unsigneds from.len result × BodySizes t.now from.at t_signeds from.len result }
 {
     let (n, i) = count_at(t, from.at)?;
-    let counted = Extent { at: i, len: from.len + width(n) };
+    let counted = Extent {
+        at: i,
+        len: from.len + width(n),
+    };
     elements_len(t, counted, n)
 }
 
@@ -121,5 +142,8 @@ pub fn float_array_len(t: &[u8], from: Extent) -> Result<Extent, Stop>
     let (word, j) = varint_at(t, i)?;
     let k = floats_at(t, j, n, word)?;
     let size = (n * (word / 8)) as usize;
-    Ok(Extent { at: k, len: from.len + width(n) + width(word) + size })
+    Ok(Extent {
+        at: k,
+        len: from.len + width(n) + width(word) + size,
+    })
 }

@@ -85,13 +85,7 @@ impl OStream {
         ensures { result_of result buf.new ≡ written (array_call self (length buf.old) id (length items.now) (field_bytes (T.array id items.now))) self buf.old place }
     {
         if place == 0 {
-            let end = integers_at_once(
-                buf,
-                self.offset,
-                self.nest(),
-                id,
-                items,
-            );
+            let end = integers_at_once(buf, self.offset, self.nest(), id, items);
             if self.offset < end {
                 return self.done(end);
             }
@@ -113,14 +107,7 @@ impl OStream {
         ensures { result_of result buf.new ≡ written (array_call self (length buf.old) id (length items.now) (field_bytes (T.array id items.now))) self buf.old place }
     {
         let size = buf.len();
-        let outcome = integer_array(
-            buf,
-            self.offset,
-            self.nest(),
-            id,
-            items,
-            place,
-        );
+        let outcome = integer_array(buf, self.offset, self.nest(), id, items, place);
         self.settle(size, outcome, self.depth)
     }
 
@@ -129,14 +116,7 @@ impl OStream {
         ensures { result_of result buf.new ≡ written (float_array_call self (length buf.old) id T.width (map T.bits items.now)) self buf.old place }
     {
         let size = buf.len();
-        let outcome = float_array(
-            buf,
-            self.offset,
-            self.nest(),
-            id,
-            items,
-            place,
-        );
+        let outcome = float_array(buf, self.offset, self.nest(), id, items, place);
         self.settle(size, outcome, self.depth)
     }
 }

@@ -15,7 +15,7 @@ use write_at_once::field_at_once;
 use write_slowly::fixlen_field;
 
 impl OStream {
-    // A fixed-length field: the header, the word, and the bytes as they are.
+    // A fixed-length field: the header, the word, and the bytes as they are. Fast and slow form stand as in `write_varint_field`.
     fn write_fixlen_raw(
         mut self,
         buf: &mut [u8],
@@ -27,14 +27,7 @@ impl OStream {
         ensures { result_of result buf.new ≡ written (raw_call self (length buf.old) id bytes.now subtype) self buf.old place }
     {
         if place == 0 {
-            let end = field_at_once(
-                buf,
-                self.offset,
-                self.nest(),
-                id,
-                subtype,
-                bytes,
-            );
+            let end = field_at_once(buf, self.offset, self.nest(), id, subtype, bytes);
             if self.offset < end {
                 return self.done(end);
             }
@@ -57,15 +50,7 @@ impl OStream {
         ensures { result_of result buf.new ≡ written (raw_call self (length buf.old) id bytes.now subtype) self buf.old place }
     {
         let size = buf.len();
-        let outcome = fixlen_field(
-            buf,
-            self.offset,
-            self.nest(),
-            id,
-            bytes,
-            subtype,
-            place,
-        );
+        let outcome = fixlen_field(buf, self.offset, self.nest(), id, bytes, subtype, place);
         self.settle(size, outcome, self.depth)
     }
 

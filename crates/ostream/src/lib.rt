@@ -17,8 +17,8 @@ ghost use Rattle.ostream.specs.Buffer.{opening, draining, changing};
 
 use buffers::{Moved, change, drain};
 use checks::unfit;
-use outcomes::Reach;
 use held::Held;
+use outcomes::Reach;
 use places::{Nest, clear};
 use types::{Error, LAZY_SEQ_DEPTH};
 

@@ -10,7 +10,8 @@ use write_at_once::pair_at_once;
 use write_slowly::varint_field;
 
 impl OStream {
-    // A field of a header and one varint.
+    // A field of a header and one varint, its type the wire's number: the fast form, then the slow one. One function for this and for
+    // `write_fixlen_raw` would take a closure for each form, and both would hold the buffer.
     fn write_varint_field(
         mut self,
         buf: &mut [u8],
@@ -22,14 +23,7 @@ impl OStream {
         ensures { result_of result buf.new ≡ written (varint_call self (length buf.old) id wire value) self buf.old place }
     {
         if place == 0 {
-            let end = pair_at_once(
-                buf,
-                self.offset,
-                self.nest(),
-                id,
-                wire,
-                value,
-            );
+            let end = pair_at_once(buf, self.offset, self.nest(), id, wire, value);
             if self.offset < end {
                 return self.done(end);
             }
@@ -52,15 +46,7 @@ impl OStream {
         ensures { result_of result buf.new ≡ written (varint_call self (length buf.old) id wire value) self buf.old place }
     {
         let size = buf.len();
-        let outcome = varint_field(
-            buf,
-            self.offset,
-            self.nest(),
-            id,
-            wire,
-            value,
-            place,
-        );
+        let outcome = varint_field(buf, self.offset, self.nest(), id, wire, value, place);
         self.settle(size, outcome, self.depth)
     }
 

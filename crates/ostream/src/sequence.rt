@@ -45,14 +45,7 @@ impl OStream {
     pub fn write_sequence_begin_lazy(mut self, buf: &mut [u8], id: u32, place: usize) -> Written
         ensures { result_of result buf.new ≡ written (begin_call self (length buf.old) id) self buf.old place }
     {
-        if place == 0
-            && can_hold(
-                self.offset,
-                self.nest(),
-                buf.len(),
-                id,
-            )
-        {
+        if place == 0 && can_hold(self.offset, self.nest(), buf.len(), id) {
             return Written {
                 answer: Ok(Answer::Done),
                 stream: self.hold(id),

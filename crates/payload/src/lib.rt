@@ -9,7 +9,8 @@ ghost use Rattle.payload.specs.Words.{state_of, said_of, result_of};
 
 use types::Error;
 
-// How much of the current payload the lent buffer holds, and whether that payload was already whole.
+// How much of the current payload the lent buffer holds, and whether that payload was already whole: the state that 01 names, a length and
+// a flag, each free of the other.
 #[derive(Clone, Copy)]
 pub struct PayloadAcc {
     pub len: usize,

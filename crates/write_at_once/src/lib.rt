@@ -85,15 +85,8 @@ pub fn put_integers<T: Integer>(
 
 // ---- the same behind the tests that come before them, as a call of the writer makes them first
 
-// A field of one varint.
-pub fn pair_at_once(
-    buf: &mut [u8],
-    pos: usize,
-    nest: Nest,
-    id: u32,
-    wire: u8,
-    value: u64,
-) -> usize
+// A field of one varint, its type the wire's number.
+pub fn pair_at_once(buf: &mut [u8], pos: usize, nest: Nest, id: u32, wire: u8, value: u64) -> usize
     ensures { PutsEasily (easy_at nest.depth nest.held id) buf.old pos nest.places 0 (shortest (id * 8 + wire) ++ shortest value) buf.new result }
 {
     if !at_ease(nest, id) {
@@ -137,11 +130,7 @@ pub fn integers_at_once<T: Integer>(
 }
 
 // A close.
-pub fn close_at_once(
-    buf: &mut [u8],
-    pos: usize,
-    nest: Nest,
-) -> usize
+pub fn close_at_once(buf: &mut [u8], pos: usize, nest: Nest) -> usize
     ensures { PutsWhole (closes_at nest.depth nest.held && (ltb pos (length buf.old) && clean nest.places)) buf.old pos (7 ∷ []) buf.new result }
 {
     if !closes_at_ease(nest) {

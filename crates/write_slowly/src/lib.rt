@@ -21,7 +21,7 @@ use outcomes::Reach;
 use places::Nest;
 use types::{ARRAY_MAX, Error, FIXLEN_MAX, FixlenType, T_FIXLEN};
 
-// A field of one varint.
+// A field of one varint, its type the wire's number.
 pub fn varint_field(
     buf: &mut [u8],
     pos: usize,

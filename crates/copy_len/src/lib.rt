@@ -59,7 +59,7 @@ fn field_at(t: &[u8], from: Extent, depth: u32) -> Result<(Extent, u32), Stop>
 }
 
 // The length of the plain copy of a message given whole; or the message is incomplete, or broken, with the number of bytes up to the
-// offending one, which is counted.
+// offending one, which is counted. Fields are of unequal lengths, so the place goes on by no fixed step.
 pub fn length_of(message: &[u8]) -> Result<usize, Stop>
     ensures { result ≡ length_of message.now }
 {

@@ -39,7 +39,7 @@ pub fn sequence_end(carried: Carried) -> Option<Stepped>
     }
 }
 
-// A header is whole.
+// A header is whole. Its type is the wire's number, by the names of `types`.
 pub fn field(carried: Carried, id: u32, wire: u8) -> Option<Stepped>
     ensures { result ≡ stepped (at_wire base carried.depth id (wire_of wire)) }
 {

@@ -13,7 +13,7 @@ use places::Nest;
 use types::{LAZY_SEQ_DEPTH, T_SEQUENCE_START};
 use varint::varint_len;
 
-// A header's number, and a fixed-length word's.
+// A header's number, and a fixed-length word's; the tag is the wire's number of a type or a subtype.
 pub fn tagged(n: u32, tag: u8) -> u64
     ensures { result ≡ n * 8 + tag }
 {

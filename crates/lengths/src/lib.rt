@@ -77,7 +77,7 @@ fn element_len(t: &[u8], from: Extent) -> Result<Extent, Stop>
     long_len(t, from)
 }
 
-// n elements, one by one.
+// n elements, one by one. So short a loop stands here and in passing's `skip_varints`: one that is handed its step would be no shorter.
 fn elements_len(t: &[u8], from: Extent, n: u64) -> Result<Extent, Stop>
     requires { (from.at ≤ length t.now) × (from.len ≤ from.at) }
     ensures { Sizes t.now from.at (varints base from.len n (drop from.at t.now)) result }

@@ -15,7 +15,7 @@ use write_at_once::field_at_once;
 use write_slowly::fixlen_field;
 
 impl OStream {
-    // A fixed-length field: the header, the word, and the bytes as they are.
+    // A fixed-length field: the header, the word, and the bytes as they are. Fast and slow form stand as in `write_varint_field`.
     fn write_fixlen_raw(
         mut self,
         buf: &mut [u8],

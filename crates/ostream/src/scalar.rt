@@ -10,7 +10,8 @@ use write_at_once::pair_at_once;
 use write_slowly::varint_field;
 
 impl OStream {
-    // A field of a header and one varint.
+    // A field of a header and one varint, its type the wire's number: the fast form, then the slow one. One function for this and for
+    // `write_fixlen_raw` would take a closure for each form, and both would hold the buffer.
     fn write_varint_field(
         mut self,
         buf: &mut [u8],

@@ -222,7 +222,8 @@ fn body_at(t: &[u8], at: usize, h: u64, depth: u8) -> Option<Run>
     }
 }
 
-// The place after scalars of two bytes in a row. Most fields are no longer, and their loop is short by itself.
+// The place after scalars of two bytes in a row. Most fields are no longer, and their loop is short by itself. How many there are is found
+// on the way, so no `for` counts them.
 fn smalls_at(t: &[u8], at: usize) -> usize
     requires { at ≤ length t.now }
     ensures { Ends t.now at (λ bs. (d : ℕ) → OwnFields base d bs d) result }
@@ -273,7 +274,8 @@ fn field_at(t: &[u8], at: usize, depth: u8) -> Option<Run>
     body_at(t, i, h, depth)
 }
 
-// How far whole fields in their shortest form go, from this depth on; no further than 0 where the first isn't so, or isn't whole.
+// How far whole fields in their shortest form go, from this depth on; no further than 0 where the first isn't so, or isn't whole. Each field
+// says where the next begins.
 #[inline(never)]
 pub fn fields(bytes: &[u8], depth: u8) -> Run
     ensures { (result.end ≤ length bytes.now) × OwnFields base depth (take result.end bytes.now) result.depth }

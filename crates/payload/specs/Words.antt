@@ -1,11 +1,11 @@
 -- The gatherer's state and answers as the code has them, in the words of `gathering`.
-use Rattle.std.specs.Prelude.{List, ℕ, Result, Ok, Err}
+use Rattle.std.specs.Prelude.{List, ℕ, Option, None, Some, Result, Ok, Err}
 use Rattle.types.specs.declared.Error.{Error}
 use Rattle.types.specs.Types.{number_of}
 use Rattle.gathering.specs.Gather.{Gatherer, Said, nothing, in_chunk, in_buffer, number, Gathered}
 use Rattle.payload.specs.declared.PayloadAcc.{PayloadAcc}
-use Rattle.payload.specs.declared.Answer.{Answer}
-use Rattle.payload.specs.declared.Answer.TheVariants.{Nothing, InChunk, InBuffer}
+use Rattle.payload.specs.declared.Whole.{Whole}
+use Rattle.payload.specs.declared.Whole.TheVariants.{InChunk, InBuffer}
 use Rattle.payload.specs.declared.Fed.{Fed}
 
 -- The state, field by field.
@@ -13,10 +13,10 @@ abbrev pub state_of : PayloadAcc → Gatherer
 state_of a = record { len = a.len; complete = a.complete }
 
 -- 01's words and number of each answer.
-abbrev pub said_of : Result Answer Error → Said
-said_of (Ok Nothing) = nothing
-said_of (Ok (InChunk n)) = in_chunk n
-said_of (Ok (InBuffer n)) = in_buffer n
+abbrev pub said_of : Result (Option Whole) Error → Said
+said_of (Ok None) = nothing
+said_of (Ok (Some (InChunk n))) = in_chunk n
+said_of (Ok (Some (InBuffer n))) = in_buffer n
 said_of (Err e) = number (number_of e)
 
 -- What a call of `feed` says and leaves: the code's result, and the buffer as the call leaves it.

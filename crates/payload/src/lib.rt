@@ -9,24 +9,25 @@ ghost use Rattle.payload.specs.Words.{state_of, said_of, result_of};
 
 use types::Error;
 
-// How much of the current payload the lent buffer holds, and whether that payload was already whole.
+// How much of the current payload the lent buffer holds, and whether that payload was already whole: the state that 01 names, a length and
+// a flag, each free of the other.
 #[derive(Clone, Copy)]
 pub struct PayloadAcc {
     pub len: usize,
     pub complete: bool,
 }
 
-// What `feed` says of a piece that it doesn't refuse: nothing yet; or whole, as the first so many bytes of the chunk or of the buffer.
+// Where a payload is that is whole: the first so many bytes of the chunk or of the buffer.
 #[derive(Clone, Copy)]
-pub enum Answer {
-    Nothing,
+pub enum Whole {
     InChunk(usize),
     InBuffer(usize),
 }
 
+// What `feed` says of a piece that it doesn't refuse: nothing yet, or the payload.
 #[derive(Clone, Copy)]
 pub struct Fed {
-    pub answer: Result<Answer, Error>,
+    pub answer: Result<Option<Whole>, Error>,
     pub acc: PayloadAcc,
 }
 
@@ -91,13 +92,13 @@ impl PayloadAcc {
         self.len = len;
         if len < total {
             return Fed {
-                answer: Ok(Answer::Nothing),
+                answer: Ok(None),
                 acc: self,
             };
         }
         self.complete = true;
         Fed {
-            answer: Ok(Answer::InBuffer(total)),
+            answer: Ok(Some(Whole::InBuffer(total))),
             acc: self,
         }
     }
@@ -110,7 +111,7 @@ impl PayloadAcc {
     {
         if self.complete {
             return Fed {
-                answer: Ok(Answer::Nothing),
+                answer: Ok(None),
                 acc: self,
             };
         }
@@ -124,13 +125,13 @@ impl PayloadAcc {
             self.len = 0;
             self.complete = true;
             return Fed {
-                answer: Ok(Answer::InChunk(total)),
+                answer: Ok(Some(Whole::InChunk(total))),
                 acc: self,
             };
         }
         if offset != self.len {
             return Fed {
-                answer: Ok(Answer::Nothing),
+                answer: Ok(None),
                 acc: self,
             };
         }
@@ -180,7 +181,7 @@ impl PayloadAcc {
 
 // The payload that an answer of `feed` calls whole, given the state and the slices that this call left: a part of one of them.
 pub fn payload<'a>(
-    answer: Result<Answer, Error>,
+    answer: Result<Option<Whole>, Error>,
     acc: PayloadAcc,
     buf: &'a [u8],
     chunk: &'a [u8],
@@ -191,8 +192,8 @@ pub fn payload<'a>(
         return &buf[..0];
     }
     match answer {
-        Ok(Answer::InChunk(n)) => first(chunk, n),
-        Ok(Answer::InBuffer(n)) => first(buf, n),
-        Ok(Answer::Nothing) | Err(_) => &buf[..0],
+        Ok(Some(Whole::InChunk(n))) => first(chunk, n),
+        Ok(Some(Whole::InBuffer(n))) => first(buf, n),
+        Ok(None) | Err(_) => &buf[..0],
     }
 }

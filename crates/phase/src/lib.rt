@@ -53,7 +53,8 @@ pub fn idle() -> Phase
     Phase::Header(Acc::new())
 }
 
-// The elements left of an array come next; or, where none is left, the next field.
+// The elements left of an array come next; or, where none is left, the next field. These three differ in the phase that they make: one
+// function that is handed a way to make it would be no shorter.
 #[inline(always)]
 pub fn unsigneds(id: u32, left: u32) -> Phase
     ensures { result ≡ phase_in (first_or left (λ m. in_unsigned id m 0 0)) }

@@ -28,7 +28,7 @@ use Rattle.phase.specs.declared.Phase.TheVariants.{Header, Unsigned, Signed}
 use Rattle.read_at_once.specs.declared.Once.{Once}
 use Rattle.read_at_once.specs.declared.Once.TheVariants as Onces
 use Rattle.phase.specs.declared.Stepped as given
-use Rattle.phase.specs.declared.Stepped.TheVariants.{On, Raised}
+use Rattle.phase.specs.declared.Stepped.TheVariants.{Raised}
 use Rattle.phase.specs.Phases.{state_at, phase_in, carried_at, id_in, count_in, sound_phase}
 use Rattle.phase.specs.Steps.{stepped, covered}
 use Rattle.phase.specs.Sound.{Kept}

@@ -111,7 +111,7 @@ fn signed_at(carried: Carried, id: u32, left: u32, chunk: &[u8]) -> Option<Once>
     )
 }
 
-// What follows a header of this type, at a place of the chunk.
+// What follows a header of this type, the wire's number, at a place of the chunk.
 fn value_at(carried: Carried, id: u32, wire: u8, chunk: &[u8], at: usize) -> Option<Once>
     requires { id ≤ base.id }
     ensures { Right result (read_on base chunk.now at (at_wire base carried.depth id (wire_of wire))) }

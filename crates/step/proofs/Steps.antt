@@ -1,15 +1,11 @@
 -- A byte of a varint, a count or a float, as the machine's step in the form in which the code makes it: a law for each way out of a function.
-use mathlib.Core.Path.{◌≡◌, refl, sym, ap, ◌∙◌, subst}
-use mathlib.Core.Logic.{inl, inr}
-use mathlib.Core.List.{[], ◌∷◌}
+use mathlib.Core.Path.{◌≡◌, sym, ap, ◌∙◌, subst}
 use Prim.Native.Nat.{ℕ, ◌+◌, ◌*◌, ◌%◌, ◌^◌, ◌<◌, ◌≤◌}
 use native.Mathlib.Nat.{add_comm}
 use native.Mathlib.Omega.{arith}
 use lib.Pow.{shl_exact}
 use lib.Bits.{bit_or, or_shifted_r}
-use borrow.Author.Tests.{lt-ltb, le-ltb, le-leb, lt-leb}
-use types.Run.{OneOf}
-use denote.Enum.Declared.{tag_of}
+use borrow.Author.Tests.{lt-ltb, le-ltb}
 use Rattle.std.specs.Prelude.{Some, None}
 use Rattle.layout.specs.Limits.{Limits}
 use Rattle.layout.specs.Varint as varints
@@ -18,15 +14,12 @@ use Rattle.layout.specs.Event as layout
 use Rattle.machine.specs.Machine as machine
 use Rattle.machine.specs.Machine.{in_unsigned, in_signed, in_array_word, in_float, next_or, first_or, at_unsigned_count, at_signed_count, at_float_count, at_float, within}
 use Rattle.types.specs.declared.FloatType.{FloatType}
-use Rattle.types.specs.declared.ArrayKind.TheVariants as ArrayKinds
 use Rattle.types.specs.Types.{width}
 use Rattle.varint.specs.declared.Acc.{Acc}
 use Rattle.varint.specs.declared.Push.{Push}
 use Rattle.varint.specs.declared.Push.TheVariants.{More, Value, Overlong}
 use Rattle.varint.specs.Varint.{Sound, pushed, unanswer}
 use Rattle.varint.proofs.Laws.{layout_step}
-use Rattle.varint.specs.contracts.Push.{the_type}
-use Rattle.event.specs.declared.Event.TheVariants.{Array}
 use Rattle.event.specs.Event.{declared}
 use Rattle.phase.specs.declared.Phase.TheVariants.{Float}
 use Rattle.phase.specs.Phases.{phase_in, carried_at}

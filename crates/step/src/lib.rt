@@ -52,7 +52,7 @@ fn header(carried: Carried, h: u64) -> Option<Stepped>
     field(carried, id as u32, (h % 8) as u8)
 }
 
-// A number is whole: a scalar or an element.
+// A number is whole: a scalar or an element. Signed ones differ in event and phase: one function that is handed both would be no shorter.
 #[tactic(auto, using(phase::proofs::Phases::next_first), unfolding(machine::specs::Machine::at_unsigned))]
 fn unsigned(carried: Carried, id: u32, left: u32, v: u64) -> Option<Stepped>
     ensures { result ≡ stepped (at_unsigned carried.depth id left v) }
@@ -87,7 +87,7 @@ fn count(n: u64) -> Option<u32>
     Some(n as u32)
 }
 
-// A count is whole.
+// A count is whole; unsigned and signed ones stand apart as the numbers above do.
 #[tactic(auto, unfolding(machine::specs::Machine::at_unsigned_count))]
 fn unsigned_count(carried: Carried, id: u32, n: u64) -> Option<Stepped>
     ensures { result ≡ stepped (at_unsigned_count base carried.depth id n) }

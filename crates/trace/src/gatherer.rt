@@ -1,7 +1,7 @@
 // The gatherer's two calls. Its state are the desk's words 0 and 1: the length held, and whether the payload is whole.
 use desk::{lay, word};
 use emit::put_rest;
-use payload::{Answer, PayloadAcc};
+use payload::{PayloadAcc, Whole};
 use types::Error;
 
 fn acc(desk: &[u64]) -> PayloadAcc {
@@ -12,22 +12,22 @@ fn acc(desk: &[u64]) -> PayloadAcc {
 }
 
 // What a call tells, the desk's words 23 and 24, and its way back.
-fn told(a: Result<Answer, Error>) -> [u64; 2] {
+fn told(a: Result<Option<Whole>, Error>) -> [u64; 2] {
     match a {
-        Ok(Answer::Nothing) => [0, 0],
-        Ok(Answer::InChunk(n)) => [1, n as u64],
-        Ok(Answer::InBuffer(n)) => [2, n as u64],
+        Ok(None) => [0, 0],
+        Ok(Some(Whole::InChunk(n))) => [1, n as u64],
+        Ok(Some(Whole::InBuffer(n))) => [2, n as u64],
         Err(e) => [3, e.number() as u64],
     }
 }
 
-fn said(desk: &[u64]) -> Result<Answer, Error> {
+fn said(desk: &[u64]) -> Result<Option<Whole>, Error> {
     let n = word(desk, 24) as usize;
     match word(desk, 23) {
-        1 => Ok(Answer::InChunk(n)),
-        2 => Ok(Answer::InBuffer(n)),
+        1 => Ok(Some(Whole::InChunk(n))),
+        2 => Ok(Some(Whole::InBuffer(n))),
         3 => Err(Error::PayloadTooLong),
-        _ => Ok(Answer::Nothing),
+        _ => Ok(None),
     }
 }
 

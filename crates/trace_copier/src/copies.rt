@@ -47,7 +47,7 @@ fn copier(desk: &[u64]) -> Copier {
     }
 }
 
-// The words 18 to 22.
+// The words 18 to 22, numbers as the desk has them (compare/PROTOCOL.md).
 fn of(owed: u64, id: u32, kind: u8, value: u64, place: u8) -> [u64; 5] {
     [owed, id as u64, kind as u64, value, place as u64]
 }

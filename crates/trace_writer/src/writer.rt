@@ -34,7 +34,7 @@ pub fn store(s: OStream, desk: &mut [u64]) {
     lay(desk, 10, &s.pending.map(u64::from));
 }
 
-// A call's numbers.
+// A call's numbers, as the desk has them, which C and the Rust read too (compare/PROTOCOL.md).
 #[derive(Clone, Copy)]
 pub struct Call {
     pub writer: OStream,

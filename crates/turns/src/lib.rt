@@ -194,7 +194,7 @@ impl Stop {
     }
 }
 
-// Turns one after another, nothing being owed at first.
+// Turns one after another, nothing being owed at first, until one is a stop: no `for`, since only the turns know how many they are.
 pub fn run(reader: IStream, start: usize, chunk: &[u8], buf: &mut [u8]) -> Stop
     requires { (sound_stream base reader ≡ true) × (Live (state_of reader) × (start ≤ length buf.old)) }
     ensures { Ran reader start chunk.now buf.old result buf.new }

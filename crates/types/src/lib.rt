@@ -38,7 +38,8 @@ pub const SEQUENCE: bool = true;
 
 pub const FP64: bool = true;
 
-// The type in a header's low three bits.
+// The type in a header's low three bits. Code hands it on as the wire's number and matches it by these names: an enum of the eight would need
+// a conversion, with a proof of its own, at each of these places, and be no plainer.
 pub const T_VARINT_UNSIGNED: u8 = 0;
 
 pub const T_VARINT_SIGNED: u8 = 1;

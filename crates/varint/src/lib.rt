@@ -20,7 +20,7 @@ pub struct Acc {
     pub taken: u8,
 }
 
-// What one more byte makes of it.
+// What one more byte makes of it. No Option or Result: each of the three is an answer that a step gives.
 #[derive(Clone, Copy)]
 pub enum Push {
     More(Acc),

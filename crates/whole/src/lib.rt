@@ -25,7 +25,7 @@ pub enum Verdict {
     Broken(usize),
 }
 
-// What follows a header of this type: the place after it and the depth there. An id is of no account here.
+// What follows a header of this type, the wire's number: the place after it and the depth there. An id is of no account here.
 fn body_at(t: &[u8], at: usize, wire: u8, depth: u32) -> Result<(usize, u32), Stop>
     requires { at ≤ length t.now }
     ensures { (id : ℕ) → Goes t.now at (after_body id (wire_of wire) (drop at t.now) depth) result }

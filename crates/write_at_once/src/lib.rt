@@ -85,7 +85,7 @@ pub fn put_integers<T: Integer>(
 
 // ---- the same behind the tests that come before them, as a call of the writer makes them first
 
-// A field of one varint.
+// A field of one varint, its type the wire's number.
 pub fn pair_at_once(buf: &mut [u8], pos: usize, nest: Nest, id: u32, wire: u8, value: u64) -> usize
     ensures { PutsEasily (easy_at nest.depth nest.held id) buf.old pos nest.places 0 (shortest (id * 8 + wire) ++ shortest value) buf.new result }
 {

@@ -21,21 +21,7 @@ use outcomes::Reach;
 use places::Nest;
 use types::{ARRAY_MAX, Error, FIXLEN_MAX, FixlenType, T_FIXLEN};
 
-// The refusals of a field with a payload, in order: the state, the id, the length.
-fn check_payload(pos: usize, nest: Nest, size: usize, id: u32, len: usize) -> Result<(), Error>
-    ensures { result ≡ check_of (judgement_of pos nest.depth nest.held nest.places size id (payload_too_long len ∷ [])) }
-{
-    check_sized(nest.sound_for(pos, size), id, len, FIXLEN_MAX)
-}
-
-// Those of an array: the state, the id, the count.
-fn check_array(pos: usize, nest: Nest, size: usize, id: u32, count: usize) -> Result<(), Error>
-    ensures { result ≡ check_of (judgement_of pos nest.depth nest.held nest.places size id (array_too_long count ∷ [])) }
-{
-    check_sized(nest.sound_for(pos, size), id, count, ARRAY_MAX)
-}
-
-// A field of one varint.
+// A field of one varint, its type the wire's number.
 pub fn varint_field(
     buf: &mut [u8],
     pos: usize,
@@ -64,7 +50,7 @@ pub fn fixlen_field(
 ) -> Result<Reach, Error>
     ensures { went_by result buf.new ≡ field_from pos nest.depth nest.held nest.places buf.old id (payload_too_long (length bytes.now) ∷ []) (fixlen_bytes id (subtype t) bytes.now) place }
 {
-    check_payload(pos, nest, buf.len(), id, bytes.len())?;
+    check_sized(nest.sound_for(pos, buf.len()), id, bytes.len(), FIXLEN_MAX)?;
     let word = tagged(bytes.len() as u32, t.raw());
     put_fixlen_field(
         buf,
@@ -88,7 +74,7 @@ pub fn integer_array<T: Integer>(
 ) -> Result<Reach, Error>
     ensures { went_by result buf.new ≡ field_from pos nest.depth nest.held nest.places buf.old id (array_too_long (length items.now) ∷ []) (field_bytes (T.array id items.now)) place }
 {
-    check_array(pos, nest, buf.len(), id, items.len())?;
+    check_sized(nest.sound_for(pos, buf.len()), id, items.len(), ARRAY_MAX)?;
     put_integer_array(buf, pos, Held::of(nest), id, items, place)
 }
 
@@ -103,6 +89,6 @@ pub fn float_array<T: Float>(
 ) -> Result<Reach, Error>
     ensures { went_by result buf.new ≡ field_from pos nest.depth nest.held nest.places buf.old id (array_too_long (length items.now) ∷ []) (field_bytes (float_array id T.width (map T.bits items.now))) place }
 {
-    check_array(pos, nest, buf.len(), id, items.len())?;
+    check_sized(nest.sound_for(pos, buf.len()), id, items.len(), ARRAY_MAX)?;
     put_float_array(buf, pos, Held::of(nest), id, items, place)
 }

@@ -2,7 +2,6 @@
 use Rattle.layout.specs.Limits.{base}
 use Rattle.read_at_once.proofs.AtOnce.{after-header, begin_read, end_read}
 use native.Mathlib.Omega.{arith}
-use mathlib.Core.Path.{subst}
 use mir.Val.{Fits}
 use mir.Syntax.{w8}
 use borrow.Author.Rules.{rules}

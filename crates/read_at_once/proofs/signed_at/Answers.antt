@@ -7,7 +7,7 @@ use Rattle.phase.specs.Phases.{phase_in}
 use Rattle.phase.specs.declared.Stepped.TheVariants.{Raised}
 use Rattle.event.specs.declared.Event.TheVariants as Events
 use Rattle.machine.specs.Machine.{first_or, in_signed}
-use mathlib.Core.Path.{◌≡◌, ap, ◌∙◌, subst}
+use mathlib.Core.Path.{◌≡◌, ap, ◌∙◌}
 use lib.IntN.{ℤ}
 use mir.Syntax.{w64}
 use mir.Val.{of_z, to_z}

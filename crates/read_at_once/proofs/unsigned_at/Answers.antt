@@ -3,7 +3,7 @@ use Rattle.layout.specs.Limits.{base}
 use Rattle.read_at_once.proofs.AtOnce.{unsigned_element}
 use Rattle.phase.specs.Phases.{phase_in}
 use Rattle.machine.specs.Machine.{first_or, in_unsigned}
-use mathlib.Core.Path.{ap, ◌∙◌, subst}
+use mathlib.Core.Path.{ap, ◌∙◌}
 use Prim.Native.Nat.{ℕ}
 use Rattle.read_at_once.proofs.unsigned_at.Goals as goal
 

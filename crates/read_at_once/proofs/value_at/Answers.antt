@@ -6,7 +6,7 @@ use Rattle.read_at_once.proofs.AtOnce.{unsigned_after, signed-after, word_after}
 use Rattle.phase.specs.declared.Stepped.TheVariants.{Raised}
 use Rattle.event.specs.declared.Event.TheVariants as Events
 use native.Mathlib.Omega.{arith}
-use mathlib.Core.Path.{◌≡◌, ap, ◌∙◌, subst}
+use mathlib.Core.Path.{◌≡◌, ap, ◌∙◌}
 use mir.Val.{Fits, of_z, to_z}
 use mir.Syntax.{w8, w64}
 use lib.IntN.{ℤ}

@@ -1,3 +1,2 @@
--- The laws of a field from a place on by its length, and of the fields of a message one after another.
+-- The laws of what follows a header by its length.
 pub mod Fields
-pub mod Sums

@@ -1,60 +1,40 @@
 -- A field from a place on, and the fields of a message one after another: what the layout's reader makes of the bytes from a place on
 -- depends on the field there only by its end and the depth after it.
-use Prim.Native.Nat.{ℕ, zero, suc, ◌+◌, ◌-◌, ◌/◌, ◌%◌, ◌≤◌, ◌<◌}
+use Prim.Native.Nat.{ℕ, zero, suc, ◌+◌, ◌-◌, ◌*◌, ◌/◌, ◌%◌, ◌^◌, ◌≤◌, ◌<◌}
 use mathlib.Core.Path.{◌≡◌, refl, sym, ap, ◌∙◌, subst}
-use mathlib.Core.Bool.{Bool}
+use mathlib.Core.Bool.{Bool, true}
 use mathlib.Core.List.{List, [], ◌∷◌}
 use native.Mathlib.Numerals.{add-one}
 use native.Mathlib.Omega.{arith}
-use lib.Dec.{eqb}
+use lib.Dec.{eqb, leb, lit<}
+use native.Mathlib.Nat.{mod-lt}
 use lib.ListN.{length, drop, length-drop, drop_of_length-le}
 use borrow.Author.Tests.{lt-ltb, le-ltb, eq-eqb, ne_eqb}
 use Rattle.layout.specs.Limits.{base, pick}
-use Rattle.layout.specs.Varint.{Outcome, whole, short, broken, varint}
+use Rattle.layout.specs.Varint.{Outcome, whole, short, broken, varint, shortest}
+use Rattle.layout.specs.Copy.{field_bytes}
+use Rattle.varint.proofs.Shortest.{length_one}
+use Rattle.laws.proofs.Parser.{Parses}
+use Rattle.laws.proofs.Parts.{checked_parses}
+use Rattle.laws.proofs.Varint.{varint_parses}
+use Rattle.laws.proofs.Field.{wire_number_lem}
+use Rattle.lengths.specs.Lengths.{Point, point_of, reached, varint_length, field_length}
 use Rattle.layout.specs.Event.{Event, Unsigned, Signed, Array}
 use Rattle.layout.specs.Reading.{Reading, raise, given, follow, becoming}
-use Rattle.layout.specs.Field.{Field, Wire, wire_of, unsigneds, signeds, unsigned, signed, unsigned_array, signed_array}
+use Rattle.layout.specs.Field.{Field, Wire, wire_of, wire_number, header, unsigneds, signeds, unsigned, signed, unsigned_array, signed_array}
 use Rattle.layout.specs.Field.{t_unsigneds, t_begin, t_end}
 use Rattle.layout.specs.Message.{header_of, count_of, unzigzagged, signed_varint, elements, body, field, depth_after}
 use Rattle.layout.specs.Message.{Fields, prepend, fields_from, message, complete, incomplete, broken_at, verdict_by, verdict_of}
 use Rattle.std.specs.Prelude.{Result, Ok, Err}
 use Rattle.passing.specs.declared.Stop.{Stop}
 use Rattle.passing.specs.declared.Stop.TheVariants.{Short, Broken}
-use Rattle.passing.specs.Passing.{Reaches, Passes, ends}
-use Rattle.passing.proofs.Ends.{before, stopped}
+use Rattle.passing.specs.Passing.{Comes, Reaches, Passes, ends}
+use Rattle.passing.proofs.Ends.{before}
 use Rattle.bodies.specs.Bodies.{deep, after_body}
-use Rattle.whole.specs.Whole.{End, Goes, after_field}
+use Rattle.whole.specs.Whole.{Lands, Walks, after_field, counted_field}
 use Rattle.bodies.proofs.Bodies.{deep-scalar, deep-becoming, ends-elements}
 
 -- ---- what follows a header
-
-module _ {t : List ℕ} {at : ℕ} (d : ℕ) where
-  -- what keeps the depth
-  pub kept : {o : ℕ → Outcome ℕ} {i : ℕ} → Passes t at o (Ok i) → Goes t at (o d) (Ok (i, d))
-  kept p = record { same = (p d).same; past = (p d).past }
-
-  pub stops : {o : ℕ → Outcome ℕ} (e : Stop) → Passes t at o (Err e) → Goes t at (o d) (Err e)
-  stops e p = stopped e (λ o. o) refl (λ bs. refl) (p d)
-
-  -- a type by its number
-  pub at_wire_lem : (id : ℕ) (w v : Wire) (r : Result End Stop) → v ≡ w → Goes t at (after_body id w (drop at t) d) r → Goes t at (after_body id v (drop at t) d) r
-  at_wire_lem id w v r e g = subst (λ (w : Wire). Goes t at (after_body id w (drop at t) d) r) (sym e) g
-
-  pub opens : (id : ℕ) → at ≤ length t → d < base.depth → Goes t at (after_body id t_begin (drop at t) d) (Ok (at, d + 1))
-  unfolding after_body body deep depth_after
-  opens id h l = record { same = simp (lt-ltb _ _ l) (ap (λ (n : ℕ). whole n (drop at t)) (sym (add-one d))); past = (omega arith, h) }
-
-  pub opens_not : (id : ℕ) → at ≤ length t → base.depth ≤ d → Goes t at (after_body id t_begin (drop at t) d) (Err (Broken at))
-  unfolding after_body body deep
-  opens_not id h l = record { same = simp (le-ltb _ _ l); past = h }
-
-  pub closes : (id : ℕ) → at ≤ length t → (d ≡ 0 → ⊥) → Goes t at (after_body id t_end (drop at t) d) (Ok (at, d - 1))
-  unfolding after_body body deep depth_after
-  closes id h l = record { same = simp (ne_eqb _ _ l); past = (omega arith, h) }
-
-  pub closes_not : (id : ℕ) → at ≤ length t → d ≡ 0 → Goes t at (after_body id t_end (drop at t) d) (Err (Broken at))
-  unfolding after_body body deep
-  closes_not id h l = record { same = simp (eq-eqb _ _ l); past = h }
 
 -- types 0 and 1 end where their varint does, types 3 and 4 alike
 unzigzagged-ends : (d : ℕ) (o : Outcome ℕ) → ends d (unzigzagged o) ≡ ends d o
@@ -108,19 +88,106 @@ module _ {t : List ℕ} {at : ℕ} (wire : ℕ) {r : Result ℕ Stop} where
   pub array_passes : 3 ≤ wire → wire < 5 → ((id : ℕ) → Passes t at (after_body id t_unsigneds (drop at t)) r) → (id : ℕ) → Passes t at (after_body id (wire_of wire) (drop at t)) r
   array_passes h l p id d = before r (λ i h. h) (array_wire wire id (drop at t) d h l) (p id d)
 
--- ---- a field
+-- ---- what a walk makes of it
 
-module _ {t : List ℕ} {at : ℕ} (d : ℕ) where
-  pub field_then : {h i : ℕ} (r : Result End Stop) → Reaches t at (header_of base (drop at t)) (Ok (h, i)) →
-      ((id : ℕ) → Goes t i (after_body id (wire_of (h % 8)) (drop i t) d) r) → Goes t (at + 1) (after_field d (drop at t)) r
-  unfolding after_field after_body field given
-  field_then {h} {i} r q g =
-      before r (λ e p. (omega (arith, q.past.0, p.0), p.1))
-      (ap (λ (o : Outcome ℕ). deep d (given o (λ h rest. body base d (h / 8) (wire_of (h % 8)) rest)).outcome) q.same) (g (h / 8))
+-- Of what keeps the depth the end says how far it goes, where nothing is counted.
+landed : {t : List ℕ} {i : ℕ} (d n : ℕ) (o : Outcome Field) (r : Result ℕ Stop) → Comes (λ j. d) (λ j. j) (λ j. (i ≤ j) × (j ≤ length t)) t (deep d o) r →
+    Lands (λ x. x) (λ x. d) (λ x n. Unit {0}) t i (reached d n o) r
+unfolding deep reached
+landed {t} d n (whole x rest) (Ok j) p =
+    let e = p.same in
+    let g : depth_after d x ≡ d = cc in
+    let q : rest ≡ drop j t = cc in
+    (n + field_length x, (λ i. whole (point_of (g i) (n + field_length x)) (q i)), tt, p.past.0, p.past.1)
+landed d n short (Ok j) p = absurd (let e = p.same in let z : ◌≡◌ {A = ℕ} 0 1 = cc in omega arith)
+landed d n (broken rest) (Ok j) p = absurd (let e = p.same in let z : ◌≡◌ {A = ℕ} 0 1 = cc in omega arith)
+landed d n (whole x rest) (Err Short) p = absurd (let e = p.same in let z : ◌≡◌ {A = ℕ} 0 1 = cc in omega arith)
+landed d n short (Err Short) p = refl
+landed d n (broken rest) (Err Short) p = absurd (let e = p.same in let z : ◌≡◌ {A = ℕ} 0 1 = cc in omega arith)
+landed d n (whole x rest) (Err (Broken j)) p = absurd (let e = p.same in let z : ◌≡◌ {A = ℕ} 0 1 = cc in omega arith)
+landed d n short (Err (Broken j)) p = absurd (let e = p.same in let z : ◌≡◌ {A = ℕ} 0 1 = cc in omega arith)
+landed {t} d n (broken rest) (Err (Broken j)) p = let e = p.same in let q : rest ≡ drop j t = cc in (ap broken q, p.past)
 
-  pub field_stops : (e : Stop) → Reaches t at (header_of base (drop at t)) (Err e) → Goes t (at + 1) (after_field d (drop at t)) (Err e)
-  unfolding after_field field given deep
-  field_stops e q = stopped e (λ (o : Outcome ℕ). deep d (given o (λ h rest. body base d (h / 8) (wire_of (h % 8)) rest)).outcome) refl (λ bs. refl) q
+-- what follows the header h, by its type
+abbrev pub After : List ℕ → ℕ → ℕ → ℕ → ℕ → Wire → Outcome Point
+After t i h d n w = reached d n (body base d (h / 8) w (drop i t)).outcome
+
+pub lands : {t : List ℕ} {i : ℕ} (h d n : ℕ) (w : Wire) {r : Result ℕ Stop} → wire_of (h % 8) ≡ w → Passes t i (after_body (h / 8) w (drop i t)) r →
+    Lands (λ x. x) (λ x. d) (λ x n. Unit {0}) t i (After t i h d n (wire_of (h % 8))) r
+unfolding after_body
+lands {t} {i} h d n w {r} q p =
+    landed d n (body base d (h / 8) (wire_of (h % 8)) (drop i t)).outcome r
+    (subst (λ (w : Wire). Passes t i (after_body (h / 8) w (drop i t)) r) (sym q) p d)
+
+-- a header's number is its id and its type
+pub header_of_lem : (h : ℕ) → length (header (h / 8) (wire_of (h % 8))) ≡ varint_length h
+header_of_lem h =
+    let e : h / 8 * 8 + wire_number (wire_of (h % 8)) ≡ h = omega (arith, wire_number_lem (h % 8) (mod-lt h {m = 8} (lit< tt))) in
+    ap (λ (n : ℕ). length (shortest n)) e
+
+pub close_length : varint_length 7 ≡ 1
+close_length = length_one 7 (lit< tt)
+
+pub header_reads : Parses (header_of base) (λ h. (h < 2 ^ base.bits) × (leb (h / 8) base.id ≡ true)) shortest
+header_reads = checked_parses (varint_parses base) (λ h. leb (h / 8) base.id)
+
+abbrev given_header : ℕ → ℕ → Outcome ℕ → Outcome Point
+given_header d n o = reached d n (given o (λ h rest. body base d (h / 8) (wire_of (h % 8)) rest)).outcome
+
+module _ {A : Type 0} (at : A → ℕ) (counts : A → ℕ → Type 0) (t : List ℕ) where
+  pub stops : (i d : ℕ) (o : Outcome Point) (e : Stop) → Lands at (λ x. d) counts t i o (Err e) → Walks at counts t i o (Err e)
+  stops i d o Short l = l
+  stops i d o (Broken j) l = l
+
+  module _ (i h d n : ℕ) (l : i ≤ length t) where
+    by_type : (w : Wire) (r : Result (A × ℕ) Stop) → wire_of (h % 8) ≡ w → Walks at counts t i (After t i h d n w) r → Walks at counts t i (After t i h d n (wire_of (h % 8))) r
+    by_type w r q g = subst (λ (w : Wire). Walks at counts t i (After t i h d n w) r) (sym q) g
+
+    pub opens : (x : A) → wire_of (h % 8) ≡ t_begin → d < base.depth → at x ≡ i → counts x (n + varint_length h) → Walks at counts t i (After t i h d n (wire_of (h % 8))) (Ok (x, d + 1))
+    unfolding body reached depth_after field_bytes
+    opens x q lt e k =
+        let y : length (header (h / 8) t_begin) ≡ varint_length h = ap (λ (w : Wire). length (header (h / 8) w)) (sym q) ∙ header_of_lem h in
+        let m : suc d ≡ d + 1 = sym (add-one d) in
+        by_type t_begin (Ok (x, d + 1)) q
+        (n + varint_length h, simp (lt-ltb d base.depth lt) (λ j. whole (point_of (m j) (n + y j)) (drop (sym e j) t)), k, omega arith, omega arith)
+
+    pub opens_not : wire_of (h % 8) ≡ t_begin → base.depth ≤ d → Walks at counts t i (After t i h d n (wire_of (h % 8))) (Err (Broken i))
+    unfolding body reached
+    opens_not q g = by_type t_begin (Err (Broken i)) q (simp (le-ltb d base.depth g), l)
+
+    pub closes : (x : A) → wire_of (h % 8) ≡ t_end → 0 < d → at x ≡ i → counts x (n + varint_length 7) → Walks at counts t i (After t i h d n (wire_of (h % 8))) (Ok (x, d - 1))
+    unfolding body reached depth_after field_bytes
+    closes x q g e k =
+        by_type t_end (Ok (x, d - 1)) q
+        (n + varint_length 7, simp (ne_eqb d 0 (λ z. omega arith)) (λ j. whole (point_of (d - 1) (n + varint_length 7)) (drop (sym e j) t)), k, omega arith, omega arith)
+
+    pub closes_not : wire_of (h % 8) ≡ t_end → d ≡ 0 → Walks at counts t i (After t i h d n (wire_of (h % 8))) (Err (Broken i))
+    unfolding body reached
+    closes_not q g = by_type t_end (Err (Broken i)) q (simp (eq-eqb d 0 g), l)
+
+  -- ---- a field
+
+  further : {i j : ℕ} {o o' : Outcome Point} (r : Result (A × ℕ) Stop) → i ≤ j → o' ≡ o → Walks at counts t j o r → Walks at counts t i o' r
+  further (Ok x) h e l = (l.0, e ∙ l.1, l.2, omega (arith, l.3), l.4)
+  further (Err Short) h e l = e ∙ l
+  further (Err (Broken k)) h e l = (e ∙ l.0, l.1)
+
+  module _ (a d n : ℕ) where
+    pub field_then : {b h i : ℕ} (r : Result (A × ℕ) Stop) → b ≡ a → Reaches t b (header_of base (drop b t)) (Ok (h, i)) →
+        Walks at counts t i (After t i h d n (wire_of (h % 8))) r → Walks at counts t (a + 1) (counted_field d n (drop a t)) r
+    unfolding counted_field field given
+    field_then {b} {h} {i} r e p g =
+        let q = subst (λ (b : ℕ). Reaches t b (header_of base (drop b t)) (Ok (h, i))) e p in
+        further r (omega (arith, q.past.0)) (ap (given_header d n) q.same) g
+
+    pub field_stops : {b : ℕ} (s : Stop) → b ≡ a → Reaches t b (header_of base (drop b t)) (Err s) → Walks at counts t (a + 1) (counted_field d n (drop a t)) (Err s)
+    unfolding counted_field field given reached
+    field_stops Short e p =
+        let q = subst (λ (b : ℕ). Reaches t b (header_of base (drop b t)) (Err Short)) e p in
+        ap (given_header d n) q.same
+    field_stops (Broken i) e p =
+        let q = subst (λ (b : ℕ). Reaches t b (header_of base (drop b t)) (Err (Broken i))) e p in
+        (ap (given_header d n) q.same, q.past)
 
 -- ---- the fields from a place on
 
@@ -205,18 +272,6 @@ module _ {t : List ℕ} {at d : ℕ} (s : Left t at d) (h : at < length t) where
   ends_broken i m k =
       let c : length t - length (drop i t) ≡ i = omega (arith, length-drop i t) in
       sym (turned ∙ next_broken (length t) d (s.fuel - 1) (field base d (drop at t)).events (field base d (drop at t)).outcome (drop i t) k ∙ ap broken_at c)
-
-  -- and by the answer on it
-  pub left_next : {i e : ℕ} → Goes t (at + 1) (after_field d (drop at t)) (Ok (i, e)) → Left t i e
-  left_next g = goes_on _ _ g.past.0 g.past.1 g.same
-
-  pub left_short : {e : Stop} → e ≡ Short → Goes t (at + 1) (after_field d (drop at t)) (Err e) → incomplete ≡ verdict_of base t
-  left_short k g = ends_short (subst (λ (e : Stop). Goes t (at + 1) (after_field d (drop at t)) (Err e)) k g).same
-
-  pub left_broken : {i : ℕ} {e : Stop} → e ≡ Broken i → Goes t (at + 1) (after_field d (drop at t)) (Err e) → broken_at i ≡ verdict_of base t
-  left_broken {i} k g =
-      let p : Goes t (at + 1) (after_field d (drop at t)) (Err (Broken i)) = subst (λ (e : Stop). Goes t (at + 1) (after_field d (drop at t)) (Err e)) k g in
-      ends_broken i p.past p.same
 
 -- the end
 none_left : (n k d : ℕ) → verdict_by k (fields_from base n d []).outcome ≡ pick (eqb d 0) complete incomplete

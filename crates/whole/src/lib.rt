@@ -1,19 +1,19 @@
 // The verdict on a message given whole, found field by field: no events, and payloads and float arrays are jumped over.
-// The private functions go from a place of the message to the place after the field there, as those of `passing` and `bodies` do past
-// its parts.
+// The walk is generic in what it counts on the way: nothing for the verdict, the plain copy's length in `copy_len`.
 #![tactic(auto)]
 
-ghost use Rattle.std.specs.Prelude.{◌≡◌, ℕ, ◌+◌, ◌≤◌, length, drop};
+ghost use Rattle.std.specs.Prelude.{◌≡◌, ℕ, ◌+◌, ◌≤◌, ◌<◌, ◌/◌, ◌%◌, length, drop};
 ghost use Rattle.layout.specs.Limits.{base};
+ghost use Rattle.layout.specs.Varint.{shortest};
 ghost use Rattle.layout.specs.Field.{wire_of};
-ghost use Rattle.layout.specs.Message.{verdict_of};
-ghost use Rattle.bodies.specs.Bodies.{after_body};
-ghost use Rattle.whole.specs.Whole.{Goes, after_field, verdict_in};
+ghost use Rattle.layout.specs.Message.{verdict_of, body};
+ghost use Rattle.lengths.specs.Lengths.{reached};
+ghost use Rattle.whole.specs.Whole.{Behind, Lands, Walks, Judges, counted_field, verdict_in};
 
 use bodies::{array_at, fixlen_at, float_array_at};
 use passing::{Stop, header_at, scalar_at};
 use types::{
-    MAX_DEPTH, T_FIXLEN, T_FIXLENARRAY, T_SEQUENCE_START, T_VARINT_SIGNED, T_VARINT_UNSIGNED,
+    MAX_DEPTH, T_FIXLEN, T_SEQUENCE_END, T_SEQUENCE_START, T_VARINT_SIGNED, T_VARINT_UNSIGNED,
     T_VARINTARRAY_SIGNED, T_VARINTARRAY_UNSIGNED,
 };
 
@@ -25,60 +25,96 @@ pub enum Verdict {
     Broken(usize),
 }
 
-// What follows a header of this type, the wire's number: the place after it and the depth there. An id is of no account here.
-fn body_at(t: &[u8], at: usize, wire: u8, depth: u32) -> Result<(usize, u32), Stop>
-    requires { at ≤ length t.now }
-    ensures { (id : ℕ) → Goes t.now at (after_body id (wire_of wire) (drop at t.now) depth) result }
-{
-    match wire {
-        T_VARINT_UNSIGNED | T_VARINT_SIGNED => Ok((scalar_at(t, at)?, depth)),
-        T_FIXLEN => Ok((fixlen_at(t, at)?, depth)),
-        T_VARINTARRAY_UNSIGNED | T_VARINTARRAY_SIGNED => Ok((array_at(t, at)?, depth)),
-        T_FIXLENARRAY => Ok((float_array_at(t, at)?, depth)),
-        T_SEQUENCE_START => {
-            if depth < MAX_DEPTH {
-                Ok((at, depth + 1))
-            } else {
-                Err(Stop::Broken(at))
-            }
-        }
-        _ => {
-            if depth == 0 {
-                Err(Stop::Broken(at))
-            } else {
-                Ok((at, depth - 1))
-            }
+// How far a walk has come: the place, and what is counted up to there.
+pub trait Reach: Copy {
+    ghost at: { Self → ℕ };
+
+    ghost counts: { Self → ℕ → Type 0 };
+
+    fn at(self) -> usize
+        ensures { result ≡ at self };
+
+    // Past a header, h in the plain copy, which ends at i.
+    fn headed(self, i: usize, h: u64) -> Self
+        requires { Behind at counts self (length (shortest h)) i }
+        ensures { (at result ≡ i) × ((n : ℕ) → counts self n → counts result (n + length (shortest h))) };
+
+    // Past the header h, which ends at i, and what follows it, where that keeps the depth.
+    fn past(self, t: &[u8], i: usize, h: u64) -> Result<Self, Stop>
+        requires { Behind at counts self (length (shortest h)) i × (i ≤ length t.now) × (h % 8 < 6) }
+        ensures { (n : ℕ) → (d : ℕ) → counts self n → Lands at (λ x. d) counts t.now i (reached d n (body base d (h / 8) (wire_of (h % 8)) (drop i t.now)).outcome) result };
+}
+
+// For a verdict nothing is counted.
+impl Reach for usize {
+    ghost at = { λ x. x };
+
+    ghost counts = { λ x n. Unit {0} };
+
+    fn at(self) -> usize {
+        self
+    }
+
+    fn headed(self, i: usize, _h: u64) -> usize {
+        i
+    }
+
+    fn past(self, t: &[u8], i: usize, h: u64) -> Result<usize, Stop> {
+        match (h % 8) as u8 {
+            T_VARINT_UNSIGNED | T_VARINT_SIGNED => scalar_at(t, i),
+            T_FIXLEN => fixlen_at(t, i),
+            T_VARINTARRAY_UNSIGNED | T_VARINTARRAY_SIGNED => array_at(t, i),
+            _ => float_array_at(t, i),
         }
     }
 }
 
-fn field_at(t: &[u8], at: usize, depth: u32) -> Result<(usize, u32), Stop>
-    requires { at ≤ length t.now }
-    ensures { Goes t.now (at + 1) (after_field depth (drop at t.now)) result }
+// What follows the header h, which ends at i: how far it goes, and the depth there. A close has id 0 in the plain copy.
+fn body_at<R: Reach>(t: &[u8], from: R, i: usize, h: u64, depth: u32) -> Result<(R, u32), Stop>
+    requires { Behind R.at R.counts from (length (shortest h)) i × (i ≤ length t.now) }
+    ensures { (n : ℕ) → R.counts from n → Walks R.at R.counts t.now i (reached depth n (body base depth (h / 8) (wire_of (h % 8)) (drop i t.now)).outcome) result }
 {
-    let (h, i) = header_at(t, at)?;
-    body_at(t, i, (h % 8) as u8, depth)
+    match (h % 8) as u8 {
+        T_SEQUENCE_START if depth < MAX_DEPTH => Ok((from.headed(i, h), depth + 1)),
+        T_SEQUENCE_START => Err(Stop::Broken(i)),
+        T_SEQUENCE_END if 0 < depth => Ok((from.headed(i, T_SEQUENCE_END as u64), depth - 1)),
+        T_SEQUENCE_END => Err(Stop::Broken(i)),
+        _ => Ok((from.past(t, i, h)?, depth)),
+    }
 }
 
-// The verdict on a message given whole. Its fields are of unequal lengths, so the place goes on by no fixed step.
+fn field_at<R: Reach>(t: &[u8], from: R, depth: u32) -> Result<(R, u32), Stop>
+    requires { ((n : ℕ) × R.counts from n) × (R.at from ≤ length t.now) }
+    ensures { (n : ℕ) → R.counts from n → Walks R.at R.counts t.now (R.at from + 1) (counted_field depth n (drop (R.at from) t.now)) result }
+{
+    let (h, i) = header_at(t, from.at())?;
+    body_at(t, from, i, h, depth)
+}
+
+// A message whole, from its start on. Its fields are of unequal lengths, so the place goes on by no fixed step.
+pub fn walk<R: Reach>(message: &[u8], start: R) -> Result<R, Stop>
+    requires { (R.at start ≡ 0) × R.counts start 0 }
+    ensures { Judges R.counts message.now result }
+{
+    let mut reached = start;
+    let mut depth: u32 = 0;
+    while reached.at() < message.len() {
+        (reached, depth) = field_at(message, reached, depth)?;
+    }
+    if depth == 0 {
+        Ok(reached)
+    } else {
+        Err(Stop::Short)
+    }
+}
+
+// The verdict on a message given whole.
 pub fn verdict_of(message: &[u8]) -> Verdict
     ensures { result ≡ verdict_in (verdict_of base message.now) }
 {
-    let mut at = 0;
-    let mut depth: u32 = 0;
-    while at < message.len() {
-        match field_at(message, at, depth) {
-            Ok((i, d)) => {
-                at = i;
-                depth = d;
-            }
-            Err(Stop::Short) => return Verdict::Incomplete,
-            Err(Stop::Broken(i)) => return Verdict::Broken(i),
-        }
-    }
-    if depth == 0 {
-        Verdict::Complete
-    } else {
-        Verdict::Incomplete
+    match walk(message, 0usize) {
+        Ok(_) => Verdict::Complete,
+        Err(Stop::Short) => Verdict::Incomplete,
+        Err(Stop::Broken(i)) => Verdict::Broken(i),
     }
 }

@@ -1,7 +1,7 @@
 -- The fields of a message one after another: the length of its plain copy is what was counted up to a place, and that of the fields from there
--- on. The verdict is found as in `whole`.
+-- on. The verdict is that on these.
 use Prim.Native.Nat.{ℕ, zero, suc, ◌+◌, ◌-◌, ◌≤◌, ◌<◌}
-use mathlib.Core.Path.{◌≡◌, refl, ap, ◌∙◌}
+use mathlib.Core.Path.{◌≡◌, refl, sym, ap, ◌∙◌, subst}
 use mathlib.Core.List.{List, []}
 use native.Mathlib.Omega.{arith}
 use lib.ListN.{length, drop, length-append, length-drop, drop_of_length-le}
@@ -11,17 +11,14 @@ use Rattle.layout.specs.Event.{Event}
 use Rattle.layout.specs.Reading.{Reading, follow, becoming}
 use Rattle.layout.specs.Field.{Field, each}
 use Rattle.layout.specs.Message.{Fields, prepend, field, fields_from, message, fields_of, whole_of, depth_after}
-use Rattle.layout.specs.Message as layout
 use Rattle.layout.specs.Copy.{field_bytes, encode, plain_copy}
 use Rattle.bodies.specs.Bodies.{deep}
-use Rattle.whole.specs.Whole as verdicts
+use Rattle.whole.specs.Whole.{Walks, Judges, after_field, counted_field}
 use Rattle.whole.proofs.Fields.{Left, fueled, left_start, goes_on, ends_short, ends_broken, left_complete, left_open}
 use Rattle.lengths.specs.Lengths.{Point, point_of, reached, field_length}
 use Rattle.std.specs.Prelude.{Ok, Err}
 use Rattle.passing.specs.declared.Stop.{Stop}
 use Rattle.passing.specs.declared.Stop.TheVariants.{Short, Broken}
-use Rattle.lengths.specs.declared.Extent.{Extent}
-use Rattle.copy_len.specs.CopyLen.{Goes, after_field, length_in, length_of}
 
 -- ---- an end without its length
 
@@ -36,8 +33,8 @@ forgotten d n (whole x rest) = refl
 forgotten d n short = refl
 forgotten d n (broken rest) = refl
 
-plain : (d n : ℕ) (bs : List ℕ) (o : Outcome Point) → after_field d n bs ≡ o → verdicts.after_field d bs ≡ forget o
-unfolding after_field verdicts.after_field
+plain : (d n : ℕ) (bs : List ℕ) (o : Outcome Point) → counted_field d n bs ≡ o → after_field d bs ≡ forget o
+unfolding after_field counted_field
 plain d n bs o e = forgotten d n (field base d bs).outcome ∙ ap forget e
 
 -- ---- the sum
@@ -45,7 +42,6 @@ plain d n bs o e = forgotten d n (field base d bs).outcome ∙ ap forget e
 -- n bytes of the plain copy are those of the fields before `at`, where the depth is d
 pub record Summed (t : List ℕ) (at d n : ℕ) : Type 0 where
   pub left : Left t at d
-  pub small : n ≤ at
   pub fuel : ℕ
   pub enough : length (drop at t) ≤ fuel
   pub total : (fs : Fields) (rest : List ℕ) → (fields_from base fuel d (drop at t)).outcome ≡ whole fs rest → length (plain_copy base t) ≡ n + length (encode fs.list)
@@ -55,7 +51,6 @@ unfolding plain_copy fields_of message whole_of
 summed_start t =
     record {
       left = left_start t;
-      small = omega arith;
       fuel = length t;
       enough = omega arith;
       total = λ fs rest e. let n : length (plain_copy base t) ≡ length (encode fs.list) = ap (λ (o : Outcome Fields). length (encode (whole_of o))) e in omega arith;
@@ -80,34 +75,43 @@ counted d n e m (whole x r) bs k =
 counted d n e m short bs k = absurd (let z : ◌≡◌ {A = ℕ} 0 1 = cc in omega arith)
 counted d n e m (broken r) bs k = absurd (let z : ◌≡◌ {A = ℕ} 0 1 = cc in omega arith)
 
-module _ {t : List ℕ} {at d n : ℕ} (s : Summed t at d n) (h : at < length t) where
-  pub summed_next : {x : Extent} {e : ℕ} → Goes t (at + 1) (after_field d n (drop at t)) (Ok (x, e)) → Summed t x.at e x.len
-  unfolding after_field follow forget
-  summed_next {x} {e} p =
-      let i : ℕ = x.at in
-      let m : ℕ = x.len in
-      let c = counted d n e m (field base d (drop at t)).outcome (drop i t) p.same in
+module _ {t : List ℕ} {a d n : ℕ} (s : Summed t a d n) (h : a < length t) where
+  summed_next : {i e m : ℕ} → a + 1 ≤ i → i ≤ length t → counted_field d n (drop a t) ≡ whole (point_of e m) (drop i t) → Summed t i e m
+  unfolding counted_field follow forget
+  summed_next {i} {e} {m} l u p =
+      let c = counted d n e m (field base d (drop a t)).outcome (drop i t) p in
       record {
-        left = goes_on s.left h i e p.past.0 p.past.1 (plain d n (drop at t) _ p.same);
-        small = p.past.2;
+        left = goes_on s.left h i e l u (plain d n (drop a t) _ p);
         fuel = s.fuel - 1;
-        enough = omega (arith, p.past.0, p.past.1, length-drop at t, length-drop i t, s.enough);
+        enough = omega (arith, length-drop a t, length-drop i t, s.enough);
         total =
             λ fs rest q.
             let x = c.0 in
-            let a : (fields_from base (s.fuel - 1) (depth_after d x) (drop i t)).outcome ≡ whole fs rest = ap (λ (e : ℕ). (fields_from base (s.fuel - 1) e (drop i t)).outcome) c.2 ∙ q in
-            let b : (fields_from base s.fuel d (drop at t)).outcome ≡ whole (prepend x fs) rest =
-            ap (λ (r : Reading Fields). r.outcome) (fueled s.fuel d (drop at t) (omega (arith, length-drop at t)) s.enough)
-            ∙ ap (λ (o : Outcome Field). (follow (field base d (drop at t)).events o (λ x rest. becoming (prepend x) (fields_from base (s.fuel - 1) (depth_after d x) rest))).outcome) c.1
-            ∙ prepended x fs rest (fields_from base (s.fuel - 1) (depth_after d x) (drop i t)).events (fields_from base (s.fuel - 1) (depth_after d x) (drop i t)).outcome a
+            let b : (fields_from base (s.fuel - 1) (depth_after d x) (drop i t)).outcome ≡ whole fs rest = ap (λ (e : ℕ). (fields_from base (s.fuel - 1) e (drop i t)).outcome) c.2 ∙ q in
+            let f : (fields_from base s.fuel d (drop a t)).outcome ≡ whole (prepend x fs) rest =
+            ap (λ (r : Reading Fields). r.outcome) (fueled s.fuel d (drop a t) (omega (arith, length-drop a t)) s.enough)
+            ∙ ap (λ (o : Outcome Field). (follow (field base d (drop a t)).events o (λ x rest. becoming (prepend x) (fields_from base (s.fuel - 1) (depth_after d x) rest))).outcome) c.1
+            ∙ prepended x fs rest (fields_from base (s.fuel - 1) (depth_after d x) (drop i t)).events (fields_from base (s.fuel - 1) (depth_after d x) (drop i t)).outcome b
             in
-            omega (arith, s.total (prepend x fs) rest b, added x fs, c.3);
+            omega (arith, s.total (prepend x fs) rest f, added x fs, c.3);
       }
 
-  pub summed_stops : (e : Stop) → Goes t (at + 1) (after_field d n (drop at t)) (Err e) → Err e ≡ length_of t
-  unfolding forget
-  summed_stops Short p = ap (λ (v : layout.Verdict). length_in v (length (plain_copy base t))) (ends_short s.left h (plain d n (drop at t) _ p.same))
-  summed_stops (Broken i) p = ap (λ (v : layout.Verdict). length_in v (length (plain_copy base t))) (ends_broken s.left h i p.past (plain d n (drop at t) _ p.same))
+-- what a walk has counted
+module _ {A : Type 0} (at : A → ℕ) (counts : A → ℕ → Type 0) (t : List ℕ) where
+  abbrev pub Counted : A → ℕ → Type 0
+  Counted x d = (n : ℕ) × Summed t (at x) d n × counts x n
+
+  pub walk_start : (x : A) → (at x ≡ 0) × counts x 0 → Counted x 0
+  walk_start x p = (0, subst (λ (a : ℕ). Summed t a 0 0) (sym p.0) (summed_start t), p.1)
+
+  module _ (x : A) (d : ℕ) (c : Counted x d) (h : at x < length t) where
+    pub walk_next : {y : A} {e : ℕ} → ((n : ℕ) → counts x n → Walks at counts t (at x + 1) (counted_field d n (drop (at x) t)) (Ok (y, e))) → Counted y e
+    walk_next p = let w = p c.0 c.2 in (w.0, summed_next c.1 h w.3 w.4 w.1, w.2)
+
+    pub walk_stops : (e : Stop) → ((n : ℕ) → counts x n → Walks at counts t (at x + 1) (counted_field d n (drop (at x) t)) (Err e)) → Judges counts t (Err e)
+    unfolding forget
+    walk_stops Short p = sym (ends_short c.1.left h (plain d c.0 (drop (at x) t) _ (p c.0 c.2)))
+    walk_stops (Broken i) p = let w = p c.0 c.2 in sym (ends_broken c.1.left h i w.1 (plain d c.0 (drop (at x) t) _ w.0))
 
 -- the end
 none_left : (f d : ℕ) → (fields_from base f d []).outcome ≡ whole (record { list = []; depth = d }) []
@@ -124,9 +128,9 @@ module _ {t : List ℕ} {at d n : ℕ} (s : Summed t at d n) (h : length t ≤ a
       in
       omega arith
 
-  pub summed_complete : d ≡ 0 → Ok n ≡ length_of t
-  summed_complete e =
-      ap Ok sum_is ∙ ap (λ (v : layout.Verdict). length_in v (length (plain_copy base t))) (left_complete s.left h e)
+module _ {A : Type 0} (at : A → ℕ) (counts : A → ℕ → Type 0) (t : List ℕ) (x : A) (d : ℕ) (c : Counted at counts t x d) (h : length t ≤ at x) where
+  pub walk_complete : d ≡ 0 → Judges counts t (Ok x)
+  walk_complete e = (sym (left_complete c.1.left h e), subst (counts x) (sum_is c.1 h) c.2)
 
-  pub summed_open : (d ≡ 0 → ⊥) → Err Short ≡ length_of t
-  summed_open e = ap (λ (v : layout.Verdict). length_in v (length (plain_copy base t))) (left_open s.left h e)
+  pub walk_open : (d ≡ 0 → ⊥) → Judges counts t (Err Short)
+  walk_open e = sym (left_open c.1.left h e)

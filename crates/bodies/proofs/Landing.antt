@@ -7,19 +7,19 @@ use native.Mathlib.Omega.{arith}
 use lib.Dec.{leb}
 use lib.ListN.{length, drop, length-drop}
 use lib.Seq.{drop-drop}
-use borrow.Author.Tests.{leb-true, leb-false, le-leb, lt-leb, eq-eqb, ne_eqb}
+use borrow.Author.Tests.{eqb-true, eqb-false, leb-true, leb-false, le-leb, lt-leb, eq-eqb, ne_eqb}
 use Rattle.layout.specs.Limits.{base, pick}
 use Rattle.layout.specs.Varint.{Outcome, whole, short, broken, varint}
 use Rattle.layout.specs.Reading.{Reading, given, low_from}
 use Rattle.layout.specs.Event.{Unsigned, Float}
-use Rattle.layout.specs.Field.{Raw, Field, Width, Subtyped, fp32, fp64, string, blob, bytes_of, subtype_number, subtype_of, known, float, raw, payload, unsigned_array, float_array}
+use Rattle.layout.specs.Field.{Raw, Field, Width, Subtype, Subtyped, fp32, fp64, bytes_of, subtype_number, subtype_of, known, unknown, float, raw, payload, unsigned_array, float_array}
 use Rattle.layout.specs.Field.{t_fixlen, t_unsigneds, t_floats}
 use Rattle.layout.specs.Message.{checked, count_of, payload_of, fixlen, float_array_of, body, depth_after, elements}
 use Rattle.std.specs.Prelude.{Result, Ok, Err}
 use Rattle.passing.specs.declared.Stop.{Stop}
 use Rattle.passing.specs.declared.Stop.TheVariants.{Short, Broken}
 use Rattle.passing.specs.Passing.{Reaches, Passes, skips, jumped}
-use Rattle.bodies.specs.Bodies.{deep, after_body, after_word, after_floats}
+use Rattle.bodies.specs.Bodies.{deep, fits, after_body, after_word, after_floats}
 use Rattle.passing.proofs.Ends.{before, stopped}
 use Rattle.bodies.proofs.Bodies.{hop, hops, hop_short, ends_low, ends_payload, ends_floats, ends-elements, deep-scalar, deep-becoming}
 
@@ -89,40 +89,33 @@ numbered : (wd : Width) → subtype_of (subtype_number (float wd)) ≡ known (fl
 numbered fp32 = refl
 numbered fp64 = refl
 
--- the words of the two floats, of a string or blob, and of nothing
-word_breaks : (d id n s : ℕ) (bs : List ℕ) → (s ≡ 0 → n ≡ 4 → ⊥) → (s ≡ 1 → n ≡ 8 → ⊥) → (2 ≤ s → s < 4 → base.size < n) → deep d (fixlen base id n (subtype_of s) bs).outcome ≡ broken bs
-unfolding deep fixlen
-word_breaks d id n zero bs a b c = float_breaks d id n bs fp32 (a refl)
-word_breaks d id n (suc zero) bs a b c = float_breaks d id n bs fp64 (b refl)
-word_breaks d id n (suc (suc zero)) bs a b c = raw_breaks d id n bs string (c (omega arith) (omega arith))
-word_breaks d id n (suc (suc (suc zero))) bs a b c = raw_breaks d id n bs blob (c (omega arith) (omega arith))
-word_breaks d id n (suc (suc (suc (suc s)))) bs a b c = refl
+-- n bytes of a subtype
+fits_ends : (d id n : ℕ) (bs : List ℕ) (s : Subtype) → fits s n ≡ true → deep d (fixlen base id n (known s) bs).outcome ≡ hop d n bs
+fits_ends d id n bs (float w) e = float_fits d id n bs w (eqb-true _ _ e)
+fits_ends d id n bs (raw r) e = raw_fits d id n bs r (leb-true _ _ e)
 
-word_fits : (d id n s : ℕ) (bs : List ℕ) → 2 ≤ s → s < 4 → n ≤ base.size → deep d (fixlen base id n (subtype_of s) bs).outcome ≡ hop d n bs
-word_fits d id n zero bs a b h = absurd (omega arith)
-word_fits d id n (suc zero) bs a b h = absurd (omega arith)
-word_fits d id n (suc (suc zero)) bs a b h = raw_fits d id n bs string h
-word_fits d id n (suc (suc (suc zero))) bs a b h = raw_fits d id n bs blob h
-word_fits d id n (suc (suc (suc (suc s)))) bs a b h = absurd (omega arith)
+misfit_breaks : (d id n : ℕ) (bs : List ℕ) (s : Subtype) → fits s n ≡ false → deep d (fixlen base id n (known s) bs).outcome ≡ broken bs
+misfit_breaks d id n bs (float w) e = float_breaks d id n bs w (eqb-false _ _ e)
+misfit_breaks d id n bs (raw r) e = raw_breaks d id n bs r (leb-false _ _ e)
+
+unknown_breaks : (d id n : ℕ) (bs : List ℕ) → deep d (fixlen base id n unknown bs).outcome ≡ broken bs
+unfolding deep fixlen
+unknown_breaks d id n bs = refl
+
+by_subtype : (d id w : ℕ) (bs : List ℕ) (s : Subtyped) → subtype_of (w % 8) ≡ s → after_word id w bs d ≡ deep d (fixlen base id (w / 8) s bs).outcome
+unfolding after_word
+by_subtype d id w bs s e = ap (λ (x : Subtyped). deep d (fixlen base id (w / 8) x bs).outcome) e
 
 module _ {t : List ℕ} {i : ℕ} (w : ℕ) (inside : i ≤ length t) (id : ℕ) where
-  pub bytes_float : (wd : Width) (r : Result ℕ Stop) → w % 8 ≡ subtype_number (float wd) → w / 8 ≡ bytes_of wd → r ≡ jumped t i (bytes_of wd) →
+  pub bytes_fit : (s : Subtype) (r : Result ℕ Stop) → subtype_of (w % 8) ≡ known s → fits s (w / 8) ≡ true → r ≡ jumped t i (w / 8) →
       Passes t i (after_word id w (drop i t)) r
-  unfolding after_word
-  bytes_float wd r s h j =
-      jumps t i (bytes_of wd) r _ inside j
-      (λ d.
-      ap (λ (x : Subtyped). deep d (fixlen base id (w / 8) x (drop i t)).outcome) (ap subtype_of s ∙ numbered wd)
-      ∙ float_fits d id (w / 8) (drop i t) wd h
-      ∙ ap (λ (n : ℕ). hop d n (drop i t)) h)
+  bytes_fit s r e h j = jumps t i (w / 8) r _ inside j (λ d. by_subtype d id w (drop i t) (known s) e ∙ fits_ends d id (w / 8) (drop i t) s h)
 
-  pub bytes_raw : (r : Result ℕ Stop) → 2 ≤ w % 8 → w % 8 < 4 → w / 8 ≤ base.size → r ≡ jumped t i (w / 8) → Passes t i (after_word id w (drop i t)) r
-  unfolding after_word
-  bytes_raw r a b h j = jumps t i (w / 8) r _ inside j (λ d. word_fits d id (w / 8) (w % 8) (drop i t) a b h)
+  pub bytes_misfit : (s : Subtype) → subtype_of (w % 8) ≡ known s → fits s (w / 8) ≡ false → Passes t i (after_word id w (drop i t)) (Err (Broken i))
+  bytes_misfit s e h = breaks t i _ inside (λ d. by_subtype d id w (drop i t) (known s) e ∙ misfit_breaks d id (w / 8) (drop i t) s h)
 
-  pub bytes_fail : (w ≡ 32 → ⊥) → (w ≡ 65 → ⊥) → (2 ≤ w % 8 → w % 8 < 4 → base.size < w / 8) → Passes t i (after_word id w (drop i t)) (Err (Broken i))
-  unfolding after_word
-  bytes_fail a b c = breaks t i _ inside (λ d. word_breaks d id (w / 8) (w % 8) (drop i t) (λ x y. a (omega arith)) (λ x y. b (omega arith)) c)
+  pub bytes_unknown : subtype_of (w % 8) ≡ unknown → Passes t i (after_word id w (drop i t)) (Err (Broken i))
+  bytes_unknown e = breaks t i _ inside (λ d. by_subtype d id w (drop i t) unknown e ∙ unknown_breaks d id (w / 8) (drop i t))
 
 pub fixlen_then : {t : List ℕ} {at w i : ℕ} → Reaches t at (varint base (drop at t)) (Ok (w, i)) → (r : Result ℕ Stop) (id : ℕ) →
     Passes t i (after_word id w (drop i t)) r → Passes t at (after_body id t_fixlen (drop at t)) r

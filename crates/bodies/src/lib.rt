@@ -2,19 +2,26 @@
 // Payloads and float arrays are jumped over. What follows a word stands by itself, for callers that ask for the word too.
 #![tactic(auto)]
 
-ghost use Rattle.std.specs.Prelude.{ℕ, ◌≤◌, length, drop};
+ghost use Rattle.std.specs.Prelude.{◌≡◌, ℕ, ◌≤◌, length, drop};
 ghost use Rattle.layout.specs.Limits.{base};
 ghost use Rattle.layout.specs.Field.{t_fixlen, t_unsigneds, t_floats};
+ghost use Rattle.types.specs.Types.{subtype};
 ghost use Rattle.passing.specs.Passing.{Passes};
-ghost use Rattle.bodies.specs.Bodies.{after_body, after_word, after_floats};
+ghost use Rattle.bodies.specs.Bodies.{fits, after_body, after_word, after_floats};
 
 use passing::{Stop, count_at, jump, skip_varints, varint_at};
-use types::{FIXLEN_MAX, FP32_WORD, FP64_WORD};
+use types::{FIXLEN_MAX, FP32_WORD, FP64_WORD, FixlenType};
 
-// The subtypes of strings and blobs.
-const STR: u64 = 2;
-
-const BLOB: u64 = 3;
+// Whether n bytes can be a fixed-length field of this subtype.
+fn fits(t: FixlenType, n: u64) -> bool
+    ensures { result ≡ fits (subtype t) n }
+{
+    match t {
+        FixlenType::Fp32 => n == 4,
+        FixlenType::Fp64 => n == 8,
+        FixlenType::Str | FixlenType::Blob => n <= FIXLEN_MAX as u64,
+    }
+}
 
 // The bytes of a fixed-length field, by its word.
 pub fn bytes_at(t: &[u8], at: usize, word: u64) -> Result<usize, Stop>
@@ -22,13 +29,9 @@ pub fn bytes_at(t: &[u8], at: usize, word: u64) -> Result<usize, Stop>
     ensures { (id : ℕ) → Passes t.now at (after_word id word (drop at t.now)) result }
 {
     let n = word / 8;
-    match word {
-        FP32_WORD => jump(t, at, 4),
-        FP64_WORD => jump(t, at, 8),
-        _ => match word % 8 {
-            STR | BLOB if n <= FIXLEN_MAX as u64 => jump(t, at, n),
-            _ => Err(Stop::Broken(at)),
-        },
+    match FixlenType::try_from((word % 8) as u8) {
+        Ok(subtype) if fits(subtype, n) => jump(t, at, n),
+        _ => Err(Stop::Broken(at)),
     }
 }
 

@@ -6,8 +6,7 @@ ghost use Rattle.std.specs.Prelude.{◌<◌, ⊤, MatchOption};
 
 use desk::Desk;
 use desk::calls::{ArrayCall, CopierCall, WriterCall};
-use script::{after, unhex};
-use std::alloc::{AllocError, Global};
+use script::{Bytes, after, unhex};
 
 // What a row does: it begins with a fresh desk, lends a buffer, takes a part, or makes a call.
 #[derive(Clone, Copy)]
@@ -121,19 +120,23 @@ fn unnamed(told: &[u8], before: Desk, after: Desk) -> Desk {
 }
 
 // The buffer begins with these bytes, and is behind them as it was.
-fn same_bytes(start: &[u8], before: &[u8], after: &[u8]) -> bool {
-    after.starts_with(start) && after.get(start.len()..) == before.get(start.len()..)
+fn same_bytes(mut start: Bytes, before: &[u8], after: &[u8]) -> bool {
+    before.len() == after.len()
+        && before
+            .iter()
+            .zip(after)
+            .all(|(was, is)| start.next().unwrap_or(*was) == *is)
+        && start.next().is_none()
 }
 
 // Whether desk and buffer are what the row tells.
-pub fn right(alloc: Global, told: &[u8], was: &State, is: &State) -> Result<bool, AllocError> {
-    let start = unhex(alloc, after(told, b'>'))?;
+pub fn right(told: &[u8], was: &State, is: &State) -> bool {
     let want = set(told, unnamed(told, was.desk, is.desk));
-    Ok(is.desk == want && same_bytes(&start, &was.buf, &is.buf))
+    is.desk == want && same_bytes(unhex(after(told, b'>')), &was.buf, &is.buf)
 }
 
 // Whether a part is the one that the row tells.
-pub fn same_part(alloc: Global, told: &[u8], part: &[u8]) -> Result<bool, AllocError> {
-    let want = unhex(alloc, after(told, b'>'))?;
-    Ok(want.as_slice() == part)
+pub fn same_part(told: &[u8], part: &[u8]) -> bool {
+    let mut want = unhex(after(told, b'>'));
+    part.iter().all(|b| want.next() == Some(*b)) && want.next().is_none()
 }

@@ -32,19 +32,12 @@ impl Run {
 
     // The call, with the bytes behind `<`.
     fn make(&mut self, rt: &HostRuntime, call: Call, row: &[u8]) -> io::Result<()> {
-        let alloc = rt.alloc();
         let (given, told) = parted(parted(row, b' ').1, b'=');
         self.state.desk = set(given, cleared(self.state.desk));
         let was = self.state.clone()?;
-        let data = unhex(alloc, after(given, b'<'))?;
-        make(
-            alloc,
-            call,
-            &mut self.state.desk,
-            &data,
-            &mut self.state.buf,
-        )?;
-        let right = right(alloc, told, &was, &self.state)?;
+        let data: Vec<u8> = unhex(after(given, b'<')).collect(rt.alloc())?;
+        make(call, &mut self.state.desk, &data, &mut self.state.buf);
+        let right = right(told, &was, &self.state);
         self.count(rt, right, row)
     }
 
@@ -52,12 +45,11 @@ impl Run {
     fn part(&mut self, rt: &HostRuntime, row: &[u8]) -> io::Result<()> {
         let alloc = rt.alloc();
         let desk = set(parted(row, b' ').1, self.state.desk);
-        let data = unhex(alloc, after(row, b'<'))?;
+        let data: Vec<u8> = unhex(after(row, b'<')).collect(alloc)?;
         let mut part = vec![in alloc; 0u8; self.state.buf.len().max(data.len())]?;
         let len = trace_part(&desk, &self.state.buf, &data, &mut part);
         part.truncate(len);
-        let right = same_part(alloc, row, &part)?;
-        self.count(rt, right, row)
+        self.count(rt, same_part(row, &part), row)
     }
 
     // A row that begins with `#` is a remark.
@@ -66,7 +58,7 @@ impl Run {
             return Ok(());
         }
         match row_named(word(text, 0)) {
-            Some(Row::Buffer) => self.state.buf = unhex(rt.alloc(), word(text, 1))?,
+            Some(Row::Buffer) => self.state.buf = unhex(word(text, 1)).collect(rt.alloc())?,
             Some(Row::Fresh) => self.state.desk = [0; 32],
             Some(Row::Part) => return self.part(rt, text),
             Some(Row::Call(call)) => return self.make(rt, call, text),

@@ -103,11 +103,9 @@ fn sent(d: Drained, desk: &mut [u64]) {
     lay(desk, 23, &counted(d.answer));
 }
 
-// Of a buffer change `data` is the new buffer. A number of no call leaves all as it is.
+// Of a buffer change `data` is the new buffer. A number of no call is one.
 pub fn trace_copy(desk: &mut [u64], data: &[u8], buf: &mut [u8]) {
-    let Ok(call) = CopierCall::try_from(word(desk, 24)) else {
-        return;
-    };
+    let call = CopierCall::try_from(word(desk, 24)).unwrap_or(CopierCall::BufferSet);
     let k = copier(desk);
     let offset = word(desk, 28) as usize;
     match call {

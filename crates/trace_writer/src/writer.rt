@@ -145,9 +145,8 @@ fn made(call: WriterCall, c: Call, data: &[u8], buf: &mut [u8], desk: &mut [u64]
     told(written, desk);
 }
 
-// A number of no call leaves all as it is.
+// A number of no call writes a float of 64 bits.
 pub fn trace_write(desk: &mut [u64], data: &[u8], buf: &mut [u8]) {
-    if let Ok(call) = WriterCall::try_from(word(desk, 24)) {
-        made(call, asked(desk), data, buf, desk);
-    }
+    let call = WriterCall::try_from(word(desk, 24)).unwrap_or(WriterCall::Fp64);
+    made(call, asked(desk), data, buf, desk);
 }

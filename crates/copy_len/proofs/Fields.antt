@@ -20,36 +20,34 @@ pub measured : {t : List ℕ} {i d : ℕ} {o : Outcome Point} {y : Extent} → F
     (m : ℕ) × (o ≡ whole (point_of d m) (drop y.at t)) × ((y.len ≡ m) × (m ≤ y.at)) × (i ≤ y.at) × (y.at ≤ length t)
 measured {y = y} f = (y.len, f.same, (refl, f.past.2), f.past.0, f.past.1)
 
--- ---- past the header h, which ends at i, where n bytes were counted before it
+-- ---- past what follows the header h, where n bytes were counted before it
 
--- the length counted past it
-abbrev pub Headed : ℕ → ℕ → Extent → Extent → Type 0
-Headed h i from x = (x.at ≡ i) × ((n : ℕ) → (from.len ≡ n) × (n ≤ from.at) → (x.len ≡ n + varint_length h) × (n + varint_length h ≤ x.at))
+abbrev pub Headed : ℕ → ℕ → Extent → Type 0
+Headed h n x = (x.len ≡ n + varint_length h) × (n + varint_length h ≤ x.at)
 
--- a header has a byte, and no more of them in the plain copy than there were
-pub headed : {i most : ℕ} (from x : Extent) (h : ℕ) → (m : ℕ) × ((from.len ≡ m) × (m ≤ from.at)) → i ≤ most → Headed h i from x → (x.at ≤ most) × (1 ≤ x.len) × (x.len ≤ x.at)
-headed from x h b l e = let p = e.1 b.0 b.1 in (omega (arith, e.0), omega (arith, p.0, length_some h), omega (arith, p.0, p.1))
+-- a header has a byte
+pub headed : {most : ℕ} (x : Extent) (h : ℕ) → (m : ℕ) × (Headed h m x) → x.at ≤ most → (x.at ≤ most) × (1 ≤ x.len) × (x.len ≤ x.at)
+headed x h b l = let p = b.1 in (l, omega (arith, p.0, length_some h), omega (arith, p.0, p.1))
 
-module _ {t : List ℕ} {i n : ℕ} {from x : Extent} (h d : ℕ) (e : Headed h i from x) (c : (from.len ≡ n) × (n ≤ from.at)) {s : Result Extent Stop} where
-  pub one_type : (w : Wire) → wire_of (h % 8) ≡ w → BodySizes t x.at w x.len s → Finishes t i d (After t i h d n (wire_of (h % 8))) s
+module _ {t : List ℕ} {x : Extent} (h d n : ℕ) (c : Headed h n x) {s : Result Extent Stop} where
+  pub one_type : (w : Wire) → wire_of (h % 8) ≡ w → BodySizes t x.at w x.len s → Finishes t x.at d (After t x.at h d n (wire_of (h % 8))) s
   one_type w q b =
       let b' = subst (λ (w : Wire). BodySizes t x.at w x.len s) (sym q) b in
-      let f = b' (h / 8) d n ((e.1 n c).0 ∙ ap (λ (m : ℕ). n + m) (sym (header_of_lem h))) in
-      subst (λ (i : ℕ). Finishes t i d (After t i h d n (wire_of (h % 8))) s) e.0 f
+      b' (h / 8) d n (c.0 ∙ ap (λ (m : ℕ). n + m) (sym (header_of_lem h)))
 
-  pub scalar_type : h % 8 < 2 → BodySizes t x.at t_unsigned x.len s × BodySizes t x.at t_signed x.len s → Finishes t i d (After t i h d n (wire_of (h % 8))) s
+  pub scalar_type : h % 8 < 2 → BodySizes t x.at t_unsigned x.len s × BodySizes t x.at t_signed x.len s → Finishes t x.at d (After t x.at h d n (wire_of (h % 8))) s
   scalar_type l b = go (h % 8) refl l
     where
-      go : (k : ℕ) → h % 8 ≡ k → k < 2 → Finishes t i d (After t i h d n (wire_of (h % 8))) s
+      go : (k : ℕ) → h % 8 ≡ k → k < 2 → Finishes t x.at d (After t x.at h d n (wire_of (h % 8))) s
       go zero q l = one_type t_unsigned (ap wire_of q) b.0
       go (suc zero) q l = one_type t_signed (ap wire_of q) b.1
       go (suc (suc n)) q l = absurd (omega arith)
 
   pub array_type : 3 ≤ h % 8 → h % 8 < 5 → BodySizes t x.at t_unsigneds x.len s × BodySizes t x.at t_signeds x.len s →
-      Finishes t i d (After t i h d n (wire_of (h % 8))) s
+      Finishes t x.at d (After t x.at h d n (wire_of (h % 8))) s
   array_type g l b = go (h % 8) refl g l
     where
-      go : (k : ℕ) → h % 8 ≡ k → 3 ≤ k → k < 5 → Finishes t i d (After t i h d n (wire_of (h % 8))) s
+      go : (k : ℕ) → h % 8 ≡ k → 3 ≤ k → k < 5 → Finishes t x.at d (After t x.at h d n (wire_of (h % 8))) s
       go zero q g l = absurd (omega arith)
       go (suc zero) q g l = absurd (omega arith)
       go (suc (suc zero)) q g l = absurd (omega arith)

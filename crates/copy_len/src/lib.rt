@@ -33,8 +33,8 @@ impl Reach for Measured {
         })
     }
 
-    fn past(self, t: &[u8], i: usize, h: u64) -> Result<Measured, Stop> {
-        let Measured(from) = self.headed(i, h);
+    fn past(self, t: &[u8], h: u64) -> Result<Measured, Stop> {
+        let Measured(from) = self;
         match (h % 8) as u8 {
             T_VARINT_UNSIGNED | T_VARINT_SIGNED => Ok(Measured(scalar_len(t, from)?)),
             T_FIXLEN => Ok(Measured(fixlen_len(t, from)?)),

@@ -139,6 +139,9 @@ module _ {A : Type 0} (at : A → ℕ) (counts : A → ℕ → Type 0) (t : List
   stops i d o Short l = l
   stops i d o (Broken j) l = l
 
+  pub placed : {j i : ℕ} (h d n : ℕ) (r : Result A Stop) → j ≡ i → Lands at (λ x. d) counts t j (After t j h d n (wire_of (h % 8))) r → Lands at (λ x. d) counts t i (After t i h d n (wire_of (h % 8))) r
+  placed h d n r e l = subst (λ (i : ℕ). Lands at (λ x. d) counts t i (After t i h d n (wire_of (h % 8))) r) e l
+
   module _ (i h d n : ℕ) (l : i ≤ length t) where
     by_type : (w : Wire) (r : Result (A × ℕ) Stop) → wire_of (h % 8) ≡ w → Walks at counts t i (After t i h d n w) r → Walks at counts t i (After t i h d n (wire_of (h % 8))) r
     by_type w r q g = subst (λ (w : Wire). Walks at counts t i (After t i h d n w) r) (sym q) g

@@ -39,10 +39,10 @@ pub trait Reach: Copy {
         requires { Behind at counts self (length (shortest h)) i }
         ensures { (at result ≡ i) × ((n : ℕ) → counts self n → counts result (n + length (shortest h))) };
 
-    // Past the header h, which ends at i, and what follows it, where that keeps the depth.
-    fn past(self, t: &[u8], i: usize, h: u64) -> Result<Self, Stop>
-        requires { Behind at counts self (length (shortest h)) i × (i ≤ length t.now) × (h % 8 < 6) }
-        ensures { (n : ℕ) → (d : ℕ) → counts self n → Lands at (λ x. d) counts t.now i (reached d n (body base d (h / 8) (wire_of (h % 8)) (drop i t.now)).outcome) result };
+    // Past what follows the header h, which is counted, where that keeps the depth.
+    fn past(self, t: &[u8], h: u64) -> Result<Self, Stop>
+        requires { ((n : ℕ) × counts self (n + length (shortest h))) × (at self ≤ length t.now) × (h % 8 < 6) }
+        ensures { (n : ℕ) → (d : ℕ) → counts self (n + length (shortest h)) → Lands at (λ x. d) counts t.now (at self) (reached d n (body base d (h / 8) (wire_of (h % 8)) (drop (at self) t.now)).outcome) result };
 }
 
 // For a verdict nothing is counted.
@@ -59,12 +59,12 @@ impl Reach for usize {
         i
     }
 
-    fn past(self, t: &[u8], i: usize, h: u64) -> Result<usize, Stop> {
+    fn past(self, t: &[u8], h: u64) -> Result<usize, Stop> {
         match (h % 8) as u8 {
-            T_VARINT_UNSIGNED | T_VARINT_SIGNED => scalar_at(t, i),
-            T_FIXLEN => fixlen_at(t, i),
-            T_VARINTARRAY_UNSIGNED | T_VARINTARRAY_SIGNED => array_at(t, i),
-            _ => float_array_at(t, i),
+            T_VARINT_UNSIGNED | T_VARINT_SIGNED => scalar_at(t, self),
+            T_FIXLEN => fixlen_at(t, self),
+            T_VARINTARRAY_UNSIGNED | T_VARINTARRAY_SIGNED => array_at(t, self),
+            _ => float_array_at(t, self),
         }
     }
 }
@@ -74,12 +74,13 @@ fn body_at<R: Reach>(t: &[u8], from: R, i: usize, h: u64, depth: u32) -> Result<
     requires { Behind R.at R.counts from (length (shortest h)) i × (i ≤ length t.now) }
     ensures { (n : ℕ) → R.counts from n → Walks R.at R.counts t.now i (reached depth n (body base depth (h / 8) (wire_of (h % 8)) (drop i t.now)).outcome) result }
 {
+    let headed = from.headed(i, h);
     match (h % 8) as u8 {
-        T_SEQUENCE_START if depth < MAX_DEPTH => Ok((from.headed(i, h), depth + 1)),
+        T_SEQUENCE_START if depth < MAX_DEPTH => Ok((headed, depth + 1)),
         T_SEQUENCE_START => Err(Stop::Broken(i)),
         T_SEQUENCE_END if 0 < depth => Ok((from.headed(i, T_SEQUENCE_END as u64), depth - 1)),
         T_SEQUENCE_END => Err(Stop::Broken(i)),
-        _ => Ok((from.past(t, i, h)?, depth)),
+        _ => Ok((headed.past(t, h)?, depth)),
     }
 }
 

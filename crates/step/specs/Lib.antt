@@ -1,1 +1,2 @@
+-- A varint's byte, whatever takes the varint: `Takes`.
 pub mod Takes

@@ -11,10 +11,10 @@ ghost use Rattle.passing.specs.Passing.{Reaches, Passes, ends, skips, hop};
 use types::{ARRAY_MAX, ID_MAX};
 use varint::{Acc, LAST_BYTE, Push};
 
-// Why there is no going on: the message ends within what was to be passed; or a byte breaks it. P says where: the bytes left after that byte,
-// or, of a message given whole, its number. It is the error of today's Result, and `Short` and `Broken` are both reasons.
+// Why there is no going on: the message ends within what was to be passed; or a byte breaks it. P says which: that byte's number, or what is
+// known where a part is read, the bytes left after it. It is the error of Results, and `Short` is a reason, not a missing value.
 #[derive(Clone, Copy)]
-pub enum Stop<P> {
+pub enum Stop<P = usize> {
     Short,
     Broken(P),
 }

@@ -9,13 +9,13 @@ use lib.Dec.{leb}
 use lib.ListN.{length, drop, length-drop}
 use lib.Seq.{drop-drop}
 use borrow.Author.Tests.{leb-true, leb-false, le-leb, lt-leb}
-use Rattle.layout.specs.Limits.{base, pick}
+use Rattle.layout.specs.Limits.{base}
 use Rattle.layout.specs.Varint.{Outcome, whole, short, broken, varint}
 use Rattle.layout.specs.Event.{Event}
 use Rattle.layout.specs.Reading.{Reading, raise, given, follow, becoming, low_from}
 use Rattle.layout.specs.Field.{Raw, Field}
 use Rattle.layout.specs.Message.{scalar, elements, payload_from, payload_of, depth_after}
-use Rattle.passing.specs.Passing.{ends, followed, skips}
+use Rattle.passing.specs.Passing.{ends, followed, skips, hop}
 use Rattle.bodies.specs.Bodies.{deep}
 
 -- ---- values that become fields which keep the depth
@@ -68,9 +68,6 @@ ends-elements d p e (suc n) bs h =
     ∙ followed_same (ends d (varint base bs)) _ _ (λ rest. ends-elements d p e n rest h)
 
 -- ---- n bytes
-
-abbrev pub hop : ℕ → ℕ → List ℕ → Outcome ℕ
-hop d n bs = pick (leb n (length bs)) (whole d (drop n bs)) short
 
 pub hops : (d n : ℕ) (bs : List ℕ) → n ≤ length bs → hop d n bs ≡ whole d (drop n bs)
 hops d n bs h = simp (le-leb _ _ h)

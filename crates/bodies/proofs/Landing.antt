@@ -1,12 +1,10 @@
--- Where what follows a header ends, as answers: each case of the layout's `body`, `fixlen` and `float_array_of`.
+-- Where what follows a header ends: each case of the layout's `body`, `fixlen` and `float_array_of`.
 use Prim.Native.Nat.{ℕ, zero, suc, ◌+◌, ◌-◌, ◌*◌, ◌/◌, ◌%◌, ◌≤◌, ◌<◌}
-use mathlib.Core.Path.{◌≡◌, refl, sym, ap, ◌∙◌, subst}
+use mathlib.Core.Path.{◌≡◌, refl, sym, ap, ◌∙◌}
 use mathlib.Core.Bool.{Bool, true, false}
 use mathlib.Core.List.{List}
 use native.Mathlib.Omega.{arith}
 use lib.Dec.{leb}
-use lib.ListN.{length, drop, length-drop}
-use lib.Seq.{drop-drop}
 use borrow.Author.Tests.{eqb-true, eqb-false, leb-true, leb-false, le-leb, lt-leb, eq-eqb, ne_eqb}
 use Rattle.layout.specs.Limits.{base, pick}
 use Rattle.layout.specs.Varint.{Outcome, whole, short, broken, varint}
@@ -15,42 +13,21 @@ use Rattle.layout.specs.Event.{Unsigned, Float}
 use Rattle.layout.specs.Field.{Raw, Field, Width, Subtype, Subtyped, fp32, fp64, bytes_of, subtype_number, subtype_of, known, unknown, float, raw, payload, unsigned_array, float_array}
 use Rattle.layout.specs.Field.{t_fixlen, t_unsigneds, t_floats}
 use Rattle.layout.specs.Message.{checked, count_of, payload_of, fixlen, float_array_of, body, depth_after, elements}
-use Rattle.std.specs.Prelude.{Result, Ok, Err}
 use Rattle.passing.specs.declared.Stop.{Stop}
-use Rattle.passing.specs.declared.Stop.TheVariants.{Short, Broken}
-use Rattle.passing.specs.Passing.{Reaches, Passes, skips, jumped}
+use Rattle.passing.specs.Passing.{Rest, stop_in, hop, skips}
 use Rattle.bodies.specs.Bodies.{deep, fits, after_body, after_word, after_floats}
-use Rattle.passing.proofs.Ends.{before, stopped}
-use Rattle.bodies.proofs.Bodies.{hop, hops, hop_short, ends_low, ends_payload, ends_floats, ends-elements, deep-scalar, deep-becoming}
+use Rattle.passing.proofs.Ends.{stopped}
+use Rattle.bodies.proofs.Bodies.{ends_low, ends_payload, ends_floats, ends-elements, deep-scalar, deep-becoming}
 
 -- ---- answers
 
--- n bytes from a place on
-pub jumps : (t : List ℕ) (at n : ℕ) (r : Result ℕ Stop) (o : ℕ → Outcome ℕ) → at ≤ length t → r ≡ jumped t at n → ((d : ℕ) → o d ≡ hop d n (drop at t)) → Passes t at o r
-jumps t at n r o h e k = subst (Passes t at o) (sym e) (go (leb n (length t - at)) refl)
-  where
-    go : (x : Bool) → leb n (length t - at) ≡ x → Passes t at o (pick x (Ok (at + n)) (Err Short))
-    go true p d =
-        let l : n ≤ length t - at = leb-true _ _ p in
-        record {
-          same = k d ∙ hops d n (drop at t) (omega (arith, length-drop at t)) ∙ ap (λ (l : List ℕ). whole d l) (drop-drop n at t);
-          past = (omega arith, omega arith);
-        }
-    go false p d =
-        let l : length t - at < n = leb-false _ _ p in
-        record { same = k d ∙ hop_short d n (drop at t) (omega (arith, length-drop at t)); past = tt }
-
-pub breaks : (t : List ℕ) (i : ℕ) (o : ℕ → Outcome ℕ) → i ≤ length t → ((d : ℕ) → o d ≡ broken (drop i t)) → Passes t i o (Err (Broken i))
-breaks t i o h k d = record { same = k d; past = h }
-
 -- a value, and what follows it
-then : {t : List ℕ} {at : ℕ} {o : Outcome ℕ} {v i : ℕ} (k : ℕ → List ℕ → Reading Field) (r : Result ℕ Stop) → Reaches t at o (Ok (v, i)) →
-    Passes t i (λ d. deep d (k v (drop i t)).outcome) r → Passes t at (λ d. deep d (given o k).outcome) r
+then : {o : Outcome ℕ} {v : ℕ} {rest : List ℕ} (k : ℕ → List ℕ → Reading Field) → o ≡ whole v rest → (d : ℕ) → deep d (given o k).outcome ≡ deep d (k v rest).outcome
 unfolding given
-then k r q p d = before r (λ j h. (omega (arith, q.past.0, h.0), h.1)) (ap (λ (o : Outcome ℕ). deep d (given o k).outcome) q.same) (p d)
+then k q d = ap (λ (o : Outcome ℕ). deep d (given o k).outcome) q
 
 -- no value found: nothing follows
-stops : {t : List ℕ} {at : ℕ} {o : Outcome ℕ} (k : ℕ → List ℕ → Reading Field) (e : Stop) → Reaches t at o (Err e) → Passes t at (λ d. deep d (given o k).outcome) (Err e)
+stops : {o : Outcome ℕ} (k : ℕ → List ℕ → Reading Field) (e : Stop Rest) → o ≡ stop_in e → (d : ℕ) → deep d (given o k).outcome ≡ stop_in e
 unfolding given deep
 stops k e q d = stopped e (λ (o : Outcome ℕ). deep d (given o k).outcome) refl (λ bs. refl) q
 
@@ -106,25 +83,24 @@ by_subtype : (d id w : ℕ) (bs : List ℕ) (s : Subtyped) → subtype_of (w % 8
 unfolding after_word
 by_subtype d id w bs s e = ap (λ (x : Subtyped). deep d (fixlen base id (w / 8) x bs).outcome) e
 
-module _ {t : List ℕ} {i : ℕ} (w : ℕ) (inside : i ≤ length t) (id : ℕ) where
-  pub bytes_fit : (s : Subtype) (r : Result ℕ Stop) → subtype_of (w % 8) ≡ known s → fits s (w / 8) ≡ true → r ≡ jumped t i (w / 8) →
-      Passes t i (after_word id w (drop i t)) r
-  bytes_fit s r e h j = jumps t i (w / 8) r _ inside j (λ d. by_subtype d id w (drop i t) (known s) e ∙ fits_ends d id (w / 8) (drop i t) s h)
+module _ (id w : ℕ) (bs : List ℕ) where
+  pub bytes_fit : (s : Subtype) → subtype_of (w % 8) ≡ known s → fits s (w / 8) ≡ true → (d : ℕ) → after_word id w bs d ≡ hop d (w / 8) bs
+  bytes_fit s e h d = by_subtype d id w bs (known s) e ∙ fits_ends d id (w / 8) bs s h
 
-  pub bytes_misfit : (s : Subtype) → subtype_of (w % 8) ≡ known s → fits s (w / 8) ≡ false → Passes t i (after_word id w (drop i t)) (Err (Broken i))
-  bytes_misfit s e h = breaks t i _ inside (λ d. by_subtype d id w (drop i t) (known s) e ∙ misfit_breaks d id (w / 8) (drop i t) s h)
+  pub bytes_misfit : (s : Subtype) → subtype_of (w % 8) ≡ known s → fits s (w / 8) ≡ false → (d : ℕ) → after_word id w bs d ≡ broken bs
+  bytes_misfit s e h d = by_subtype d id w bs (known s) e ∙ misfit_breaks d id (w / 8) bs s h
 
-  pub bytes_unknown : subtype_of (w % 8) ≡ unknown → Passes t i (after_word id w (drop i t)) (Err (Broken i))
-  bytes_unknown e = breaks t i _ inside (λ d. by_subtype d id w (drop i t) unknown e ∙ unknown_breaks d id (w / 8) (drop i t))
+  pub bytes_unknown : subtype_of (w % 8) ≡ unknown → (d : ℕ) → after_word id w bs d ≡ broken bs
+  bytes_unknown e d = by_subtype d id w bs unknown e ∙ unknown_breaks d id (w / 8) bs
 
-pub fixlen_then : {t : List ℕ} {at w i : ℕ} → Reaches t at (varint base (drop at t)) (Ok (w, i)) → (r : Result ℕ Stop) (id : ℕ) →
-    Passes t i (after_word id w (drop i t)) r → Passes t at (after_body id t_fixlen (drop at t)) r
-unfolding after_body body after_word
-fixlen_then q r id p = then (λ w rest. fixlen base id (w / 8) (subtype_of (w % 8)) rest) r q p
+module _ (id : ℕ) (bs : List ℕ) where
+  pub fixlen_then : {w : ℕ} {rest : List ℕ} → varint base bs ≡ whole w rest → (d : ℕ) → after_body id t_fixlen bs d ≡ after_word id w rest d
+  unfolding after_body body after_word
+  fixlen_then q d = then (λ w rest. fixlen base id (w / 8) (subtype_of (w % 8)) rest) q d
 
-pub fixlen_stops : {t : List ℕ} {at : ℕ} (e : Stop) → Reaches t at (varint base (drop at t)) (Err e) → (id : ℕ) → Passes t at (after_body id t_fixlen (drop at t)) (Err e)
-unfolding after_body body
-fixlen_stops e q id = stops (λ w rest. fixlen base id (w / 8) (subtype_of (w % 8)) rest) e q
+  pub fixlen_stops : (e : Stop Rest) → varint base bs ≡ stop_in e → (d : ℕ) → after_body id t_fixlen bs d ≡ stop_in e
+  unfolding after_body body
+  fixlen_stops e q d = stops (λ w rest. fixlen base id (w / 8) (subtype_of (w % 8)) rest) e q d
 
 -- ---- arrays
 
@@ -139,32 +115,34 @@ passed ok (whole b bs) a rest e = go (ok b) refl e
 passed ok short a rest e = absurd (let z : ◌≡◌ {A = ℕ} 0 1 = cc in omega arith)
 passed ok (broken bs) a rest e = absurd (let z : ◌≡◌ {A = ℕ} 0 1 = cc in omega arith)
 
-module _ {t : List ℕ} {at n i : ℕ} (q : Reaches t at (count_of base (drop at t)) (Ok (n, i))) where
-  pub count_small : n ≤ base.count
-  count_small = leb-true _ _ (passed (λ n. leb n base.count) (varint base (drop at t)) n (drop i t) q.same)
+pub count_small : (bs : List ℕ) {n : ℕ} {rest : List ℕ} → count_of base bs ≡ whole n rest → n ≤ base.count
+count_small bs {n} {rest} q = leb-true _ _ (passed (λ n. leb n base.count) (varint base bs) n rest q)
 
-  pub array_then : (r : Result ℕ Stop) → Passes t i (λ d. skips base d n (drop i t)) r → (id : ℕ) → Passes t at (after_body id t_unsigneds (drop at t)) r
+module _ (id : ℕ) (bs : List ℕ) where
+  pub array_then : {n : ℕ} {rest : List ℕ} → count_of base bs ≡ whole n rest → (d : ℕ) → after_body id t_unsigneds bs d ≡ skips base d n rest
   unfolding after_body body depth_after
-  array_then r p id =
-      then _ r q
-      (λ d.
-      before r (λ j h. h)
-      (deep-becoming d (unsigned_array id) (λ x. refl) (elements (varint base) (Unsigned id) n (drop i t))
-      ∙ ends-elements d (varint base) (Unsigned id) n (drop i t) (λ bs. refl))
-      (p d))
+  array_then {n} {rest} q d =
+      then _ q d
+      ∙ deep-becoming d (unsigned_array id) (λ x. refl) (elements (varint base) (Unsigned id) n rest)
+      ∙ ends-elements d (varint base) (Unsigned id) n rest (λ bs. refl)
 
-  pub floats_then : (id : ℕ) (r : Result ℕ Stop) → Passes t i (λ d. deep d (given (varint base (drop i t)) (λ w rest. float_array_of id n (w / 8) (subtype_of (w % 8)) rest)).outcome) r →
-      Passes t at (after_body id t_floats (drop at t)) r
+  pub array_stops : (e : Stop Rest) → count_of base bs ≡ stop_in e → (d : ℕ) → after_body id t_unsigneds bs d ≡ stop_in e
   unfolding after_body body
-  floats_then id r p = then _ r q p
+  array_stops e q d = stops _ e q d
 
-pub array_stops : {t : List ℕ} {at : ℕ} (e : Stop) → Reaches t at (count_of base (drop at t)) (Err e) → (id : ℕ) → Passes t at (after_body id t_unsigneds (drop at t)) (Err e)
-unfolding after_body body
-array_stops e q id = stops _ e q
+  pub floats_then : {n w : ℕ} {mid rest : List ℕ} → count_of base bs ≡ whole n mid → varint base mid ≡ whole w rest → (d : ℕ) →
+      after_body id t_floats bs d ≡ after_floats id n w rest d
+  unfolding after_body body after_floats
+  floats_then {n} q u d = then _ q d ∙ then (λ w rest. float_array_of id n (w / 8) (subtype_of (w % 8)) rest) u d
 
-pub floats_stop : {t : List ℕ} {at : ℕ} (e : Stop) → Reaches t at (count_of base (drop at t)) (Err e) → (id : ℕ) → Passes t at (after_body id t_floats (drop at t)) (Err e)
-unfolding after_body body
-floats_stop e q id = stops _ e q
+  pub floats_no_word : {n : ℕ} {mid : List ℕ} → count_of base bs ≡ whole n mid → (e : Stop Rest) → varint base mid ≡ stop_in e → (d : ℕ) →
+      after_body id t_floats bs d ≡ stop_in e
+  unfolding after_body body
+  floats_no_word {n} q e u d = then _ q d ∙ stops (λ w rest. float_array_of id n (w / 8) (subtype_of (w % 8)) rest) e u d
+
+  pub floats_stop : (e : Stop Rest) → count_of base bs ≡ stop_in e → (d : ℕ) → after_body id t_floats bs d ≡ stop_in e
+  unfolding after_body body
+  floats_stop e q d = stops _ e q d
 
 -- the word of a float array: 32 and 65 are the words of the two floats, and every other breaks
 floats_break : (d id c n s : ℕ) (bs : List ℕ) → (s ≡ 0 → n ≡ 4 → ⊥) → (s ≡ 1 → n ≡ 8 → ⊥) → deep d (float_array_of id c n (subtype_of s) bs).outcome ≡ broken bs
@@ -175,29 +153,14 @@ floats_break d id c n (suc (suc zero)) bs a b = refl
 floats_break d id c n (suc (suc (suc zero))) bs a b = refl
 floats_break d id c n (suc (suc (suc (suc s)))) bs a b = refl
 
-module _ {t : List ℕ} {j : ℕ} (w : ℕ) (inside : j ≤ length t) (id c : ℕ) where
-  pub floats_jump : (wd : Width) (r : Result ℕ Stop) → w % 8 ≡ subtype_number (float wd) → w / 8 ≡ bytes_of wd → r ≡ jumped t j (c * bytes_of wd) →
-      Passes t j (after_floats id c w (drop j t)) r
+module _ (w id c : ℕ) (bs : List ℕ) where
+  pub floats_jump : (wd : Width) → w % 8 ≡ subtype_number (float wd) → w / 8 ≡ bytes_of wd → (d : ℕ) → after_floats id c w bs d ≡ hop d (c * bytes_of wd) bs
   unfolding after_floats
-  floats_jump wd r s h k =
-      jumps t j (c * bytes_of wd) r _ inside k
-      (λ d.
-      ap (λ (x : Subtyped). deep d (float_array_of id c (w / 8) x (drop j t)).outcome) (ap subtype_of s ∙ numbered wd)
-      ∙ floats_fit d id (w / 8) (drop j t) wd c h
-      ∙ ap (λ (m : ℕ). hop d (c * m) (drop j t)) h)
+  floats_jump wd s h d =
+      ap (λ (x : Subtyped). deep d (float_array_of id c (w / 8) x bs).outcome) (ap subtype_of s ∙ numbered wd)
+      ∙ floats_fit d id (w / 8) bs wd c h
+      ∙ ap (λ (m : ℕ). hop d (c * m) bs) h
 
-  pub floats_fail : (w ≡ 32 → ⊥) → (w ≡ 65 → ⊥) → Passes t j (after_floats id c w (drop j t)) (Err (Broken j))
+  pub floats_fail : (w ≡ 32 → ⊥) → (w ≡ 65 → ⊥) → (d : ℕ) → after_floats id c w bs d ≡ broken bs
   unfolding after_floats
-  floats_fail a b =
-      breaks t j _ inside
-      (λ d. floats_break d id c (w / 8) (w % 8) (drop j t) (λ x y. a (omega arith)) (λ x y. b (omega arith)))
-
-pub floats_word : {t : List ℕ} {i w j : ℕ} → Reaches t i (varint base (drop i t)) (Ok (w, j)) → (id c : ℕ) (r : Result ℕ Stop) →
-    Passes t j (after_floats id c w (drop j t)) r →
-    Passes t i (λ d. deep d (given (varint base (drop i t)) (λ w rest. float_array_of id c (w / 8) (subtype_of (w % 8)) rest)).outcome) r
-unfolding after_floats
-floats_word q id c r p = then (λ w rest. float_array_of id c (w / 8) (subtype_of (w % 8)) rest) r q p
-
-pub floats_no_word : {t : List ℕ} {i : ℕ} (e : Stop) → Reaches t i (varint base (drop i t)) (Err e) → (id c : ℕ) →
-    Passes t i (λ d. deep d (given (varint base (drop i t)) (λ w rest. float_array_of id c (w / 8) (subtype_of (w % 8)) rest)).outcome) (Err e)
-floats_no_word e q id c = stops _ e q
+  floats_fail a b d = floats_break d id c (w / 8) (w % 8) bs (λ x y. a (omega arith)) (λ x y. b (omega arith))

@@ -1,8 +1,8 @@
-// From a place of a message past what follows a header there: a fixed-length field's word and bytes, an array's count and elements.
+// Past what follows a header, at the start of a message's bytes: a fixed-length field's word and bytes, an array's count and elements.
 // Payloads and float arrays are jumped over. What follows a word stands by itself, for callers that ask for the word too.
 #![tactic(auto)]
 
-ghost use Rattle.std.specs.Prelude.{◌≡◌, ℕ, ◌≤◌, length, drop};
+ghost use Rattle.std.specs.Prelude.{◌≡◌, ℕ, ◌≤◌};
 ghost use Rattle.layout.specs.Limits.{base};
 ghost use Rattle.layout.specs.Field.{t_fixlen, t_unsigneds, t_floats};
 ghost use Rattle.types.specs.Types.{subtype};
@@ -24,53 +24,49 @@ fn fits(t: FixlenType, n: u64) -> bool
 }
 
 // The bytes of a fixed-length field, by its word.
-pub fn bytes_at(t: &[u8], at: usize, word: u64) -> Result<usize, Stop>
-    requires { at ≤ length t.now }
-    ensures { (id : ℕ) → Passes t.now at (after_word id word (drop at t.now)) result }
+pub fn bytes_at(bytes: &[u8], word: u64) -> Result<&[u8], Stop<&[u8]>>
+    ensures { (id : ℕ) → Passes (after_word id word bytes.now) result }
 {
     let n = word / 8;
     match FixlenType::try_from((word % 8) as u8) {
-        Ok(subtype) if fits(subtype, n) => jump(t, at, n),
-        _ => Err(Stop::Broken(at)),
+        Ok(subtype) if fits(subtype, n) => jump(bytes, n),
+        _ => Err(Stop::Broken(bytes)),
     }
 }
 
 // A fixed-length field's word, and its bytes.
-pub fn fixlen_at(t: &[u8], at: usize) -> Result<usize, Stop>
-    requires { at ≤ length t.now }
-    ensures { (id : ℕ) → Passes t.now at (after_body id t_fixlen (drop at t.now)) result }
+pub fn fixlen_at(bytes: &[u8]) -> Result<&[u8], Stop<&[u8]>>
+    ensures { (id : ℕ) → Passes (after_body id t_fixlen bytes.now) result }
 {
-    let (word, i) = varint_at(t, at)?;
-    bytes_at(t, i, word)
+    let (word, rest) = varint_at(bytes)?;
+    bytes_at(rest, word)
 }
 
 // Signed elements end where unsigned ones do.
-pub fn array_at(t: &[u8], at: usize) -> Result<usize, Stop>
-    requires { at ≤ length t.now }
-    ensures { (id : ℕ) → Passes t.now at (after_body id t_unsigneds (drop at t.now)) result }
+pub fn array_at(bytes: &[u8]) -> Result<&[u8], Stop<&[u8]>>
+    ensures { (id : ℕ) → Passes (after_body id t_unsigneds bytes.now) result }
 {
-    let (n, i) = count_at(t, at)?;
-    skip_varints(t, i, n)
+    let (n, rest) = count_at(bytes)?;
+    skip_varints(rest, n)
 }
 
 // The bytes of n floats, by their word.
-pub fn floats_at(t: &[u8], at: usize, n: u64, word: u64) -> Result<usize, Stop>
-    requires { (at ≤ length t.now) × (n ≤ base.count) }
-    ensures { (id : ℕ) → Passes t.now at (after_floats id n word (drop at t.now)) result }
+pub fn floats_at(bytes: &[u8], n: u64, word: u64) -> Result<&[u8], Stop<&[u8]>>
+    requires { n ≤ base.count }
+    ensures { (id : ℕ) → Passes (after_floats id n word bytes.now) result }
 {
     match word {
-        FP32_WORD => jump(t, at, n * 4),
-        FP64_WORD => jump(t, at, n * 8),
-        _ => Err(Stop::Broken(at)),
+        FP32_WORD => jump(bytes, n * 4),
+        FP64_WORD => jump(bytes, n * 8),
+        _ => Err(Stop::Broken(bytes)),
     }
 }
 
 // A float array's count, the word of its floats, and their bytes.
-pub fn float_array_at(t: &[u8], at: usize) -> Result<usize, Stop>
-    requires { at ≤ length t.now }
-    ensures { (id : ℕ) → Passes t.now at (after_body id t_floats (drop at t.now)) result }
+pub fn float_array_at(bytes: &[u8]) -> Result<&[u8], Stop<&[u8]>>
+    ensures { (id : ℕ) → Passes (after_body id t_floats bytes.now) result }
 {
-    let (n, i) = count_at(t, at)?;
-    let (word, j) = varint_at(t, i)?;
-    floats_at(t, j, n, word)
+    let (n, rest) = count_at(bytes)?;
+    let (word, rest) = varint_at(rest)?;
+    floats_at(rest, n, word)
 }

@@ -1,14 +1,13 @@
 -- What a part of a message comes to where only the length of the plain copy is asked for: its end, and how many bytes the plain copy has
--- up to there. And which outcome of that kind an answer stands for: it names places of the message t where the outcome has the bytes left.
-use Rattle.std.specs.Prelude.{ℕ, zero, suc, ◌+◌, ◌≤◌, ◌≡◌, List, length, drop, Result}
+-- up to there. And which outcome of that kind an answer stands for, which has the part's own length.
+use Rattle.std.specs.Prelude.{ℕ, zero, suc, ◌+◌, ◌≡◌, List, length, Result}
 use Rattle.layout.specs.Limits.{Limits, base}
 use Rattle.layout.specs.Varint.{Outcome, whole, short, broken, varint, shortest}
 use Rattle.layout.specs.Field.{Field, Wire, header}
 use Rattle.layout.specs.Message.{body, depth_after}
 use Rattle.layout.specs.Copy.{field_bytes}
 use Rattle.passing.specs.declared.Stop.{Stop}
-use Rattle.passing.specs.Passing.{Comes}
-use Rattle.lengths.specs.declared.Extent.{Extent}
+use Rattle.passing.specs.Passing.{Rest, outcome_in}
 
 -- ---- outcomes
 
@@ -58,20 +57,11 @@ pointed d (broken rest) = broken rest
 
 -- ---- answers
 
--- The place that an answer names is not before `at`. The plain copy is no longer than what it is of.
-abbrev pub fits : List ℕ → ℕ → Extent → Type 0
-fits t at e = (at ≤ e.at) × (e.at ≤ length t) × (e.len ≤ e.at)
+-- a part comes to this answer, wherever in the plain copy: n bytes stand before it
+abbrev pub Sizes : (ℕ → Outcome ℕ) → Result (ℕ × Rest) (Stop Rest) → Type 0
+Sizes o r = (n : ℕ) → o n ≡ outcome_in (λ f. n + f.0) (λ f. f.1) r
 
--- what stands at a place comes to this answer
-abbrev pub Sizes : List ℕ → ℕ → Outcome ℕ → Result Extent Stop → Type 0
-Sizes t at o r = Comes (λ (e : Extent). e.len) (λ (e : Extent). e.at) (fits t at) t o r
-
--- the rest of a field comes to this answer, and the depth d is the same after it
-abbrev pub Finishes : List ℕ → ℕ → ℕ → Outcome Point → Result Extent Stop → Type 0
-Finishes t at d o r = Comes (λ (e : Extent). point_of d e.len) (λ (e : Extent). e.at) (fits t at) t o r
-
--- What follows a header of a type that keeps the depth, whatever its id and the depth, where the plain copy has len bytes up to there, the
--- header's among them.
-abbrev pub BodySizes : List ℕ → ℕ → Wire → ℕ → Result Extent Stop → Type 0
-BodySizes t at w len r =
-    (id d before : ℕ) → len ≡ before + length (header id w) → Finishes t at d (reached d before (body base d id w (drop at t)).outcome) r
+-- What follows a header of a type that keeps the depth comes to this answer, whatever its id and the depth, and wherever in the plain copy: n
+-- bytes stand before the header.
+abbrev pub BodySizes : Wire → List ℕ → Result (ℕ × Rest) (Stop Rest) → Type 0
+BodySizes w bs r = (id d n : ℕ) → reached d n (body base d id w bs).outcome ≡ outcome_in (λ f. point_of d (n + length (header id w) + f.0)) (λ f. f.1) r

@@ -1,9 +1,7 @@
-// From a place of a message past one thing there, as in `passing` and `bodies`, with the length of the plain copy: it goes in up to that
-// place and comes out up to the next. Each varint counts as many bytes as its value needs, all else as many as it has.
-// The length is never more than the place, and so cannot overflow.
+// Past one thing at the start of a message's bytes, as in `passing` and `bodies`, with how many bytes the plain copy has for it: each varint as
+// many as its value needs, all else as many as it has.
 #![tactic(auto)]
 
-ghost use Rattle.std.specs.Prelude.{◌≤◌, length, drop};
 ghost use Rattle.layout.specs.Limits.{base};
 ghost use Rattle.layout.specs.Varint.{varint};
 ghost use Rattle.layout.specs.Field.{t_unsigned, t_signed, t_fixlen, t_unsigneds, t_signeds, t_floats};
@@ -14,136 +12,88 @@ use passing::{Stop, count_at, long_varint_at, varint_at};
 use shortest::long_number_at;
 use varint::{varint_len, width};
 
-// A place, and the length of the plain copy up to there.
-#[derive(Clone, Copy)]
-pub struct Extent {
-    pub at: usize,
-    pub len: usize,
-}
-
 // ---- varints
 
 // Any varint, by its value.
-fn value_len(t: &[u8], from: Extent) -> Result<Extent, Stop>
-    requires { (from.at ≤ length t.now) × (from.len ≤ from.at) }
-    ensures { Sizes t.now from.at (sized varint_length from.len (varint base (drop from.at t.now))) result }
+fn value_len(bytes: &[u8]) -> Result<(usize, &[u8]), Stop<&[u8]>>
+    ensures { Sizes (λ n. sized varint_length n (varint base bytes.now)) result }
 {
-    let (v, i) = long_varint_at(t, from.at)?;
-    Ok(Extent {
-        at: i,
-        len: from.len + varint_len(v),
-    })
+    let (v, rest) = long_varint_at(bytes)?;
+    Ok((varint_len(v), rest))
 }
 
 // Out of line. Most varints are in their shortest form, and so as long as they stand.
-fn long_len(t: &[u8], from: Extent) -> Result<Extent, Stop>
-    requires { (from.at ≤ length t.now) × (from.len ≤ from.at) }
-    ensures { Sizes t.now from.at (sized varint_length from.len (varint base (drop from.at t.now))) result }
+fn long_len(bytes: &[u8]) -> Result<(usize, &[u8]), Stop<&[u8]>>
+    ensures { Sizes (λ n. sized varint_length n (varint base bytes.now)) result }
 {
-    if let Some(end) = long_number_at(t, from.at) {
-        return Ok(Extent {
-            at: end,
-            len: from.len + (end - from.at),
-        });
+    if let Some(end) = long_number_at(bytes, 0) {
+        return Ok((end, &bytes[end..]));
     }
-    value_len(t, from)
+    value_len(bytes)
 }
 
 // Most elements are one byte or two.
-fn element_len(t: &[u8], from: Extent) -> Result<Extent, Stop>
-    requires { (from.at ≤ length t.now) × (from.len ≤ from.at) }
-    ensures { Sizes t.now from.at (sized varint_length from.len (varint base (drop from.at t.now))) result }
+fn element_len(bytes: &[u8]) -> Result<(usize, &[u8]), Stop<&[u8]>>
+    ensures { Sizes (λ n. sized varint_length n (varint base bytes.now)) result }
 {
-    let Extent { at, len } = from;
-    if at < t.len() {
-        if t[at] < 128 {
-            return Ok(Extent {
-                at: at + 1,
-                len: len + 1,
-            });
-        }
-        if at + 1 < t.len() {
-            let b = t[at + 1];
-            if 0 < b {
-                if b < 128 {
-                    return Ok(Extent {
-                        at: at + 2,
-                        len: len + 2,
-                    });
-                }
-            }
-        }
+    match bytes {
+        [b, rest @ ..] if *b < 128 => Ok((1, rest)),
+        [_, b, rest @ ..] if 0 < *b && *b < 128 => Ok((2, rest)),
+        _ => long_len(bytes),
     }
-    long_len(t, from)
 }
 
 // n elements, one by one. So short a loop stands here and in passing's `skip_varints`: one that is handed its step would be no shorter.
-fn elements_len(t: &[u8], from: Extent, n: u64) -> Result<Extent, Stop>
-    requires { (from.at ≤ length t.now) × (from.len ≤ from.at) }
-    ensures { Sizes t.now from.at (varints base from.len n (drop from.at t.now)) result }
+fn elements_len(bytes: &[u8], n: u64) -> Result<(usize, &[u8]), Stop<&[u8]>>
+    ensures { Sizes (λ m. varints base m n bytes.now) result }
 {
-    let mut reached = from;
+    let mut len: usize = 0;
+    let mut rest = bytes;
     for _ in 0..n {
-        reached = element_len(t, reached)?;
+        let (one, after) = element_len(rest)?;
+        len += one;
+        rest = after;
     }
-    Ok(reached)
+    Ok((len, rest))
 }
 
 // ---- what follows a header
 
 // Most scalars are one byte. A signed one is counted as the unsigned one that is read there.
-pub fn scalar_len(t: &[u8], from: Extent) -> Result<Extent, Stop>
-    requires { (from.at ≤ length t.now) × (1 ≤ from.len) × (from.len ≤ from.at) }
-    ensures { BodySizes t.now from.at t_unsigned from.len result × BodySizes t.now from.at t_signed from.len result }
+pub fn scalar_len(bytes: &[u8]) -> Result<(usize, &[u8]), Stop<&[u8]>>
+    ensures { BodySizes t_unsigned bytes.now result × BodySizes t_signed bytes.now result }
 {
-    if from.at < t.len() {
-        if t[from.at] < 128 {
-            return Ok(Extent {
-                at: from.at + 1,
-                len: from.len + 1,
-            });
-        }
+    match bytes {
+        [b, rest @ ..] if *b < 128 => Ok((1, rest)),
+        _ => long_len(bytes),
     }
-    long_len(t, from)
 }
 
 // A word, and the bytes that it says.
-pub fn fixlen_len(t: &[u8], from: Extent) -> Result<Extent, Stop>
-    requires { (from.at ≤ length t.now) × (1 ≤ from.len) × (from.len ≤ from.at) }
-    ensures { BodySizes t.now from.at t_fixlen from.len result }
+pub fn fixlen_len(bytes: &[u8]) -> Result<(usize, &[u8]), Stop<&[u8]>>
+    ensures { BodySizes t_fixlen bytes.now result }
 {
-    let (word, i) = varint_at(t, from.at)?;
-    let j = bytes_at(t, i, word)?;
-    Ok(Extent {
-        at: j,
-        len: from.len + width(word) + (word / 8) as usize,
-    })
+    let (word, rest) = varint_at(bytes)?;
+    let rest = bytes_at(rest, word)?;
+    Ok((width(word) + (word / 8) as usize, rest))
 }
 
 // A count, and so many elements.
-pub fn array_len(t: &[u8], from: Extent) -> Result<Extent, Stop>
-    requires { (from.at ≤ length t.now) × (1 ≤ from.len) × (from.len ≤ from.at) }
-    ensures { BodySizes t.now from.at t_unsigneds from.len result × BodySizes t.now from.at t_signeds from.len result }
+pub fn array_len(bytes: &[u8]) -> Result<(usize, &[u8]), Stop<&[u8]>>
+    ensures { BodySizes t_unsigneds bytes.now result × BodySizes t_signeds bytes.now result }
 {
-    let (n, i) = count_at(t, from.at)?;
-    let counted = Extent {
-        at: i,
-        len: from.len + width(n),
-    };
-    elements_len(t, counted, n)
+    let (n, rest) = count_at(bytes)?;
+    let (len, rest) = elements_len(rest, n)?;
+    Ok((width(n) + len, rest))
 }
 
 // A count, the word of the floats, and their bytes.
-pub fn float_array_len(t: &[u8], from: Extent) -> Result<Extent, Stop>
-    requires { (from.at ≤ length t.now) × (1 ≤ from.len) × (from.len ≤ from.at) }
-    ensures { BodySizes t.now from.at t_floats from.len result }
+pub fn float_array_len(bytes: &[u8]) -> Result<(usize, &[u8]), Stop<&[u8]>>
+    ensures { BodySizes t_floats bytes.now result }
 {
-    let (n, i) = count_at(t, from.at)?;
-    let (word, j) = varint_at(t, i)?;
-    let k = floats_at(t, j, n, word)?;
+    let (n, rest) = count_at(bytes)?;
+    let (word, rest) = varint_at(rest)?;
+    let rest = floats_at(rest, n, word)?;
     let size = (n * (word / 8)) as usize;
-    Ok(Extent {
-        at: k,
-        len: from.len + width(n) + width(word) + size,
-    })
+    Ok((width(n) + width(word) + size, rest))
 }

@@ -1,3 +1,3 @@
--- `Varints` has the laws of one varint from a place on, `Ends` those of an answer taken apart, and of varints in a row.
+-- `Varints` has the laws of one varint, `Ends` those of an answer taken apart, and of varints in a row.
 pub mod Varints
 pub mod Ends

@@ -1,166 +1,141 @@
-// From a place of a message past one thing there: a varint, a header, a count, n varints, n bytes. The layout's reader says what that
-// is (`crates/layout/specs/Message`), and `specs/Passing` which of its outcomes an answer stands for.
+// Past one thing at the start of a message's bytes: a varint, a header, a count, n varints, n bytes. What comes out are the bytes that are left
+// after it. The layout's reader says what that is (`crates/layout/specs/Message`), and `specs/Passing` which of its outcomes an answer stands for.
 #![tactic(auto)]
 
-ghost use Rattle.std.specs.Prelude.{◌≡◌, ◌≤◌, length, drop};
+ghost use Rattle.std.specs.Prelude.{◌≡◌};
 ghost use Rattle.layout.specs.Limits.{base};
 ghost use Rattle.layout.specs.Varint.{varint};
 ghost use Rattle.layout.specs.Message.{header_of, count_of};
-ghost use Rattle.passing.specs.Passing.{Reaches, Passes, ends, skips, jumped};
+ghost use Rattle.passing.specs.Passing.{Reaches, Passes, ends, skips, hop};
 
 use types::{ARRAY_MAX, ID_MAX};
 use varint::{Acc, LAST_BYTE, Push};
 
-// Why there is no going on: the message ends within what was to be passed; or the place after the byte that breaks it.
+// Why there is no going on: the message ends within what was to be passed; or a byte breaks it. P says where: the bytes left after that byte,
+// or, of a message given whole, its number. It is the error of today's Result, and `Short` and `Broken` are both reasons.
 #[derive(Clone, Copy)]
-pub enum Stop {
+pub enum Stop<P> {
     Short,
-    Broken(usize),
+    Broken(P),
 }
 
-// ---- varints: a value and the place after it
+// ---- varints: a value and the bytes after it
 
 // Any varint, out of line.
-pub fn long_varint_at(t: &[u8], at: usize) -> Result<(u64, usize), Stop>
-    requires { at ≤ length t.now }
-    ensures { Reaches t.now at (varint base (drop at t.now)) result }
+pub fn long_varint_at(bytes: &[u8]) -> Result<(u64, &[u8]), Stop<&[u8]>>
+    ensures { Reaches (varint base bytes.now) result }
 {
     let mut acc = Acc::new();
-    for (k, &b) in t[at..].iter().enumerate() {
-        match acc.push(b) {
+    let mut rest = bytes;
+    while let [b, after @ ..] = rest {
+        match acc.push(*b) {
             Push::More(more) => acc = more,
-            Push::Value(v) => return Ok((v, at + k + 1)),
-            Push::Overlong => return Err(Stop::Broken(at + k + 1)),
+            Push::Value(v) => return Ok((v, after)),
+            Push::Overlong => return Err(Stop::Broken(after)),
         }
+        rest = after;
     }
     Err(Stop::Short)
 }
 
 // Most words and counts are one byte.
-pub fn varint_at(t: &[u8], at: usize) -> Result<(u64, usize), Stop>
-    requires { at ≤ length t.now }
-    ensures { Reaches t.now at (varint base (drop at t.now)) result }
+pub fn varint_at(bytes: &[u8]) -> Result<(u64, &[u8]), Stop<&[u8]>>
+    ensures { Reaches (varint base bytes.now) result }
 {
-    if at < t.len() {
-        let b = t[at];
-        if b < 128 {
-            return Ok((b as u64, at + 1));
-        }
+    match bytes {
+        [b, rest @ ..] if *b < 128 => Ok((*b as u64, rest)),
+        _ => long_varint_at(bytes),
     }
-    long_varint_at(t, at)
 }
 
 // A header of one byte or two has a small id.
-pub fn header_at(t: &[u8], at: usize) -> Result<(u64, usize), Stop>
-    requires { at ≤ length t.now }
-    ensures { Reaches t.now at (header_of base (drop at t.now)) result }
+pub fn header_at(bytes: &[u8]) -> Result<(u64, &[u8]), Stop<&[u8]>>
+    ensures { Reaches (header_of base bytes.now) result }
 {
-    if at < t.len() {
-        let b = t[at];
-        if b < 128 {
-            return Ok((b as u64, at + 1));
-        }
-        if at + 1 < t.len() {
-            let c = t[at + 1];
-            if c < 128 {
-                return Ok(((b % 128) as u64 + c as u64 * 128, at + 2));
-            }
-        }
+    match bytes {
+        [b, rest @ ..] if *b < 128 => return Ok((*b as u64, rest)),
+        [b, c, rest @ ..] if *c < 128 => return Ok(((*b % 128) as u64 + *c as u64 * 128, rest)),
+        _ => {}
     }
-    let (h, i) = long_varint_at(t, at)?;
+    let (h, rest) = long_varint_at(bytes)?;
     if (ID_MAX as u64) < h / 8 {
-        return Err(Stop::Broken(i));
+        return Err(Stop::Broken(rest));
     }
-    Ok((h, i))
+    Ok((h, rest))
 }
 
 // An array's count.
-pub fn count_at(t: &[u8], at: usize) -> Result<(u64, usize), Stop>
-    requires { at ≤ length t.now }
-    ensures { Reaches t.now at (count_of base (drop at t.now)) result }
+pub fn count_at(bytes: &[u8]) -> Result<(u64, &[u8]), Stop<&[u8]>>
+    ensures { Reaches (count_of base bytes.now) result }
 {
-    let (n, i) = varint_at(t, at)?;
+    let (n, rest) = varint_at(bytes)?;
     if (ARRAY_MAX as u64) < n {
-        return Err(Stop::Broken(i));
+        return Err(Stop::Broken(rest));
     }
-    Ok((n, i))
+    Ok((n, rest))
 }
 
-// ---- varints whose values are not asked for: the place after them
+// ---- varints whose values are not asked for: the bytes after them
 
 // A varint, out of line: its end, and the rule of the tenth byte.
 #[inline(never)]
-pub fn skip_at(t: &[u8], at: usize) -> Result<usize, Stop>
-    requires { at ≤ length t.now }
-    ensures { Passes t.now at (λ d. ends d (varint base (drop at t.now))) result }
+pub fn skip_at(bytes: &[u8]) -> Result<&[u8], Stop<&[u8]>>
+    ensures { Passes (λ d. ends d (varint base bytes.now)) result }
 {
-    for (k, &b) in t[at..].iter().enumerate() {
-        if k < LAST_BYTE as usize {
-            if b < 128 {
-                return Ok(at + k + 1);
-            }
-        } else if 1 < b {
-            return Err(Stop::Broken(at + k + 1));
-        } else {
-            return Ok(at + k + 1);
+    let mut rest = bytes;
+    for _ in 0..LAST_BYTE {
+        let [b, after @ ..] = rest else {
+            return Err(Stop::Short);
+        };
+        if *b < 128 {
+            return Ok(after);
         }
+        rest = after;
     }
-    Err(Stop::Short)
+    match rest {
+        [] => Err(Stop::Short),
+        [b, after @ ..] if *b <= 1 => Ok(after),
+        [_, after @ ..] => Err(Stop::Broken(after)),
+    }
 }
 
 // Most scalars are one byte.
-pub fn scalar_at(t: &[u8], at: usize) -> Result<usize, Stop>
-    requires { at ≤ length t.now }
-    ensures { Passes t.now at (λ d. ends d (varint base (drop at t.now))) result }
+pub fn scalar_at(bytes: &[u8]) -> Result<&[u8], Stop<&[u8]>>
+    ensures { Passes (λ d. ends d (varint base bytes.now)) result }
 {
-    if at < t.len() {
-        if t[at] < 128 {
-            return Ok(at + 1);
-        }
+    match bytes {
+        [b, rest @ ..] if *b < 128 => Ok(rest),
+        _ => skip_at(bytes),
     }
-    skip_at(t, at)
 }
 
 // Most elements are one byte or two.
-pub fn element_at(t: &[u8], at: usize) -> Result<usize, Stop>
-    requires { at ≤ length t.now }
-    ensures { Passes t.now at (λ d. ends d (varint base (drop at t.now))) result }
+pub fn element_at(bytes: &[u8]) -> Result<&[u8], Stop<&[u8]>>
+    ensures { Passes (λ d. ends d (varint base bytes.now)) result }
 {
-    if at < t.len() {
-        if t[at] < 128 {
-            return Ok(at + 1);
-        }
-        if at + 1 < t.len() {
-            if t[at + 1] < 128 {
-                return Ok(at + 2);
-            }
-        }
+    match bytes {
+        [b, rest @ ..] if *b < 128 => Ok(rest),
+        [_, b, rest @ ..] if *b < 128 => Ok(rest),
+        _ => skip_at(bytes),
     }
-    skip_at(t, at)
 }
 
 // n varints.
-pub fn skip_varints(t: &[u8], at: usize, n: u64) -> Result<usize, Stop>
-    requires { at ≤ length t.now }
-    ensures { Passes t.now at (λ d. skips base d n (drop at t.now)) result }
+pub fn skip_varints(bytes: &[u8], n: u64) -> Result<&[u8], Stop<&[u8]>>
+    ensures { Passes (λ d. skips base d n bytes.now) result }
 {
-    let mut i = at;
+    let mut rest = bytes;
     for _ in 0..n {
-        i = element_at(t, i)?;
+        rest = element_at(rest)?;
     }
-    Ok(i)
+    Ok(rest)
 }
 
 // ---- bytes
 
 // n bytes further, where there are so many.
-pub fn jump(t: &[u8], at: usize, n: u64) -> Result<usize, Stop>
-    requires { at ≤ length t.now }
-    ensures { result ≡ jumped t.now at n }
+pub fn jump(bytes: &[u8], n: u64) -> Result<&[u8], Stop<&[u8]>>
+    ensures { Passes (λ d. hop d n bytes.now) result }
 {
-    if n as usize <= t.len() - at {
-        Ok(at + n as usize)
-    } else {
-        Err(Stop::Short)
-    }
+    bytes.get(n as usize..).ok_or(Stop::Short)
 }

@@ -1,10 +1,9 @@
 -- `lengths::scalar_len` meets its contract.
-use Rattle.lengths.proofs.Answers.{one_sizes, as_scalars}
+use Rattle.lengths.proofs.Answers.{one_sizes, scalar_sizes, as_scalars}
 use Rattle.lengths.proofs.scalar_len.Goals as goal
 
-pub returns-then-t-from-lt128 : goal.returns-then-t-from-lt128
-returns-then-t-from-lt128 c =
-    as_scalars _ (one_sizes (c.requires.0, c.requires.2) c.if-from-t.true c.if-t-from-lt128.true)
+pub returns-in-len1-up : goal.returns-in-len1-up
+returns-in-len1-up c = scalar_sizes _ 1 (one_sizes _ c.in-len1-up.len_at_least c.if-b-lt128.true)
 
-pub returns : goal.returns
-returns c = as_scalars _ c.long_len.ensures
+pub returns-in_default : goal.returns-in_default
+returns-in_default c = as_scalars _ c.long_len.result c.long_len.ensures

@@ -5,10 +5,10 @@ use Rattle.passing.proofs.Ends.{passed_on, checked_stops, checked_passes, checke
 use Rattle.passing.proofs.count_at.Goals as goal
 
 pub returns-in_err-n : goal.returns-in_err-n
-returns-in_err-n c = passed_on (Reaches _ _ _) _ _ c.from_residual.ensures (checked_stops _ _ c.in_err-n.ensures)
+returns-in_err-n c = passed_on (Reaches _) _ _ c.from_residual.ensures (checked_stops _ _ c.in_err-n.ensures)
 
 pub returns-then-n : goal.returns-then-n
-returns-then-n c = checked_fails _ _ _ _ _ _ c.in_ok-n.ensures (lt-leb _ _ c.if-n.true)
+returns-then-n c = checked_fails _ c.in_ok-n.ensures (lt-leb _ _ c.if-n.true)
 
 pub returns : goal.returns
-returns c = checked_passes _ _ _ _ _ _ c.in_ok-n.ensures (le-leb _ _ c.if-n.false)
+returns c = checked_passes _ c.in_ok-n.ensures (le-leb _ _ c.if-n.false)

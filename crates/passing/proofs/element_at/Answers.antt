@@ -1,9 +1,9 @@
 -- `passing::element_at` meets its contract.
-use Rattle.passing.proofs.Varints.{one_passes, two_passes}
+use Rattle.passing.proofs.Varints.{one_ends, two_ends}
 use Rattle.passing.proofs.element_at.Goals as goal
 
-pub returns-then-t-at-lt128 : goal.returns-then-t-at-lt128
-returns-then-t-at-lt128 c = one_passes _ _ c.if-at-t.true c.if-t-at-lt128.true
+pub returns-in-len1-up : goal.returns-in-len1-up
+returns-in-len1-up c d = one_ends d _ c.in-len1-up.len_at_least c.if-b-lt128.true
 
-pub returns-then-t-at-lt128-2 : goal.returns-then-t-at-lt128-2
-returns-then-t-at-lt128-2 c = two_passes _ _ c.if-t-at-lt128.false c.if-at-t-2.true c.if-t-at-lt128-2.true
+pub returns-in-len2-up : goal.returns-in-len2-up
+returns-in-len2-up c d = two_ends d _ c.if-b-lt128.false c.in-len2-up.len_at_least c.if-b-lt128-2.true

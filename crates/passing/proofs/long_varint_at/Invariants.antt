@@ -1,6 +1,10 @@
--- `passing::long_varint_at` meets its contract: what is left of the varint is read from the place reached, after the bytes so far.
-use Rattle.passing.proofs.Varints.{Under, rest_of}
+-- `passing::long_varint_at` meets its contract: what is left of the varint is read from the state reached.
+use lib.ListN.{length}
+use Rattle.passing.proofs.Varints.{Under}
 use Rattle.passing.proofs.long_varint_at.Given as goal
 
-abbrev pub invariant-loop-k : goal.invariant-loop-k
-invariant-loop-k l = Under (rest_of l.t l.at) l.k l.acc
+abbrev pub invariant-loop-rest : goal.invariant-loop-rest
+invariant-loop-rest l = Under l.bytes l.rest l.acc
+
+abbrev pub decreases-loop-rest : goal.decreases-loop-rest
+decreases-loop-rest l = length l.rest

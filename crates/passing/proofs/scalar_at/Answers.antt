@@ -1,6 +1,6 @@
 -- `passing::scalar_at` meets its contract.
-use Rattle.passing.proofs.Varints.{one_passes}
+use Rattle.passing.proofs.Varints.{one_ends}
 use Rattle.passing.proofs.scalar_at.Goals as goal
 
-pub returns-then-t-at-lt128 : goal.returns-then-t-at-lt128
-returns-then-t-at-lt128 c = one_passes _ _ c.if-at-t.true c.if-t-at-lt128.true
+pub returns-in-len1-up : goal.returns-in-len1-up
+returns-in-len1-up c d = one_ends d _ c.in-len1-up.len_at_least c.if-b-lt128.true

@@ -74,8 +74,8 @@ module _ {t r : List ℕ} (w : ℕ) (b : (k : ℕ) → get_or t k 0 < 256) (e : 
   -- by what the code found
   pub text_ends : {s : List ℕ} (x : FixlenType) → (x ≡ Fix.Str) ⊎ (x ≡ Fix.Blob) → subtype_of (w % 8) ≡ known (subtype x) → w / 8 ≤ base.size
       → Ends r (λ bs. length bs ≡ w / 8) s → Ends t (Body t_fixlen) s
-  text_ends Fix.Fp32 h g s j = absurd (elim h [ | inl e ↦ (let z : ◌≡◌ {A = ℕ} 0 1 = cc in omega arith) | inr e ↦ (let z : ◌≡◌ {A = ℕ} 0 1 = cc in omega arith) ])
-  text_ends Fix.Fp64 h g s j = absurd (elim h [ | inl e ↦ (let z : ◌≡◌ {A = ℕ} 0 1 = cc in omega arith) | inr e ↦ (let z : ◌≡◌ {A = ℕ} 0 1 = cc in omega arith) ])
+  text_ends Fix.Fp32 h g s j = absurd (elim h [ inl e ↦ (let z : ◌≡◌ {A = ℕ} 0 1 = cc in omega arith) | inr e ↦ (let z : ◌≡◌ {A = ℕ} 0 1 = cc in omega arith) ])
+  text_ends Fix.Fp64 h g s j = absurd (elim h [ inl e ↦ (let z : ◌≡◌ {A = ℕ} 0 1 = cc in omega arith) | inr e ↦ (let z : ◌≡◌ {A = ℕ} 0 1 = cc in omega arith) ])
   text_ends Fix.Str h g s j = raw_ends string (raw_number (w % 8) string g) s j
   text_ends Fix.Blob h g s j = raw_ends blob (raw_number (w % 8) blob g) s j
 

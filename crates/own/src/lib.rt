@@ -11,9 +11,9 @@ ghost use Rattle.layout.specs.Field.{t_fixlen, t_unsigneds, t_signeds, t_floats}
 ghost use Rattle.shortest.specs.Own.{OwnFields, Numbers, Number, Body, Ends};
 
 use shortest::{float_bytes, is_close, long_number_at};
-use types::{ARRAY_MAX, FIXLEN_MAX, FixlenType, ID_MAX};
 use types::{
-    T_FIXLEN, T_FIXLENARRAY, T_SEQUENCE_START, T_VARINT_SIGNED, T_VARINT_UNSIGNED, T_VARINTARRAY_SIGNED, T_VARINTARRAY_UNSIGNED,
+    ARRAY_MAX, FIXLEN_MAX, FixlenType, ID_MAX, T_FIXLEN, T_FIXLENARRAY, T_SEQUENCE_START,
+    T_VARINT_SIGNED, T_VARINT_UNSIGNED, T_VARINTARRAY_SIGNED, T_VARINTARRAY_UNSIGNED,
 };
 use varint::{Acc, Push};
 
@@ -33,7 +33,8 @@ pub struct Row {
 
 // ---- varints
 
-// Most elements are one byte or two. An answer of a call out of line is taken apart at once, or all would go through memory.
+// Most elements are one byte or two. What the call out of line answers is taken apart at once: handed on, all answers went through memory,
+// and fields with headers of two bytes took 1.8 times as long.
 fn number_at(t: &[u8]) -> Option<&[u8]>
     ensures { IfSome result (λ r. Ends t.now Number r.now) }
 {
@@ -56,6 +57,7 @@ fn scalar_at(t: &[u8], h: u64) -> Option<&[u8]>
 }
 
 // A varint with its value. Out of line its answer would go through memory, and headers of three bytes took 1.5 times as long.
+// Passing's and read_at_once's loops over `push` answer otherwise at each of its three cases: one loop for all would take three closures.
 #[inline(always)]
 fn long_value_at(t: &[u8]) -> Option<(u64, &[u8])>
     ensures { IfSome result (λ r. Ends t.now (λ bs. bs ≡ shortest r.0) r.1.now) }
@@ -105,6 +107,7 @@ fn header_at(t: &[u8]) -> Option<(u64, &[u8])>
     short_value_at(t).or_else(|| long_value_at(t).filter(|(h, _)| *h / 8 <= ID_MAX as u64))
 }
 
+// As passing's `count_at`, and `jump` below as its `jump`, but for the answer: theirs says why there is none, which nobody asks here.
 fn count_at(t: &[u8]) -> Option<(u32, &[u8])>
     ensures { IfSome result (λ r. Ends t.now (λ bs. (r.0 ≤ base.count) × (bs ≡ shortest r.0)) r.1.now) }
 {
@@ -182,7 +185,8 @@ fn float_array_at(t: &[u8]) -> Option<&[u8]>
 
 // ---- fields: the depth behind them, and what is behind them
 
-// What follows the header h. A depth above MAX_DEPTH has no place in a byte.
+// What follows the header h. A depth above MAX_DEPTH has no place in a byte. Bodies and lengths go by the same types, to other answers: one
+// function for the three would take a trait with a member for each type.
 fn body_at(t: &[u8], h: u64, depth: u8) -> Option<(u8, &[u8])>
     requires { h / 8 ≤ base.id }
     ensures { IfSome result (λ r. Ends t.now (λ bs. OwnFields base depth (shortest h ++ bs) r.0) r.1.now) }
@@ -198,12 +202,15 @@ fn body_at(t: &[u8], h: u64, depth: u8) -> Option<(u8, &[u8])>
     }
 }
 
-// Behind scalars of two bytes in a row. Most fields are no longer, and their loop is short by itself.
+// Behind scalars of two bytes in a row. Most fields are no longer, and their loop is short by itself. No `for` over pairs: it would not tell
+// what is behind the last one.
 fn smalls_at(t: &[u8]) -> &[u8]
     ensures { Ends t.now (λ bs. (d : ℕ) → OwnFields base d bs d) result.now }
 {
     let mut rest = t;
-    while let [h @ 0..128, 0..128, behind @ ..] = rest && *h % 8 <= T_VARINT_SIGNED {
+    while let [h @ 0..128, 0..128, behind @ ..] = rest
+        && *h % 8 <= T_VARINT_SIGNED
+    {
         rest = behind;
     }
     rest
@@ -240,8 +247,8 @@ fn field_at(t: &[u8], depth: u8) -> Option<(u8, &[u8])>
     body_at(rest, h, depth)
 }
 
-// How far whole fields in their shortest form go, from this depth on: to 0 where the first isn't so, or isn't whole. Each field says where
-// the next begins.
+// How far whole fields in their shortest form go, from this depth on: no further than they begin, if the first isn't so, or isn't whole.
+// Each field says where the next begins, so no iterator gives them.
 #[inline(never)]
 pub fn fields(bytes: &[u8], depth: u8) -> Run
     ensures { (result.end ≤ length bytes.now) × OwnFields base depth (take result.end bytes.now) result.depth }

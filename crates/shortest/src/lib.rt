@@ -8,7 +8,8 @@ ghost use Rattle.shortest.specs.Own.{Number, Ends, FloatWord};
 use types::{FP32_WORD, FP64_WORD, T_SEQUENCE_END};
 use varint::LAST_BYTE;
 
-// What is behind a varint; none where it is longer than needed, or not whole.
+// What is behind a varint; none where it is longer than needed, or not whole. Passing's loop to a varint's end takes longer ones too: one
+// loop for both would take a flag.
 #[inline(never)]
 pub fn long_number_at(t: &[u8]) -> Option<&[u8]>
     ensures { IfSome result (λ r. Ends t.now Number r.now) }

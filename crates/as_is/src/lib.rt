@@ -7,8 +7,7 @@ ghost use Rattle.layout.specs.Limits.{base};
 ghost use Rattle.machine.specs.Machine.{in_float, idle};
 ghost use Rattle.machine.specs.Calls.{reading};
 ghost use Rattle.types.specs.Types.{width};
-ghost use Rattle.phase.proofs.Phases.{Live};
-ghost use Rattle.istream.specs.Stream.{state_of, stream_in, sound_stream};
+ghost use Rattle.istream.specs.Stream.{stream_in, sound_stream};
 ghost use Rattle.as_is.specs.Ahead.{Ahead};
 
 use istream::IStream;
@@ -56,9 +55,11 @@ fn float_elements(carried: Carried, id: u32, w: FloatType, left: u32, bytes: &[u
     behind(n * size, floats(id, w, left - n as u32), carried)
 }
 
-// From any sound reader; none where it stands within a varint, a float or a payload.
+// From any sound reader; none where it stands within a varint, a float or a payload. A caller may make a reader of any numbers (01), so its
+// type can't say that it is sound: that is tested once, where it comes in. The arms of integers differ in a phase's constructor: one function
+// would take it as a closure, with what it makes, and be no shorter.
 pub fn as_is(reader: IStream, bytes: &[u8]) -> Option<Block>
-    requires { (sound_stream base reader ≡ true) × Live (state_of reader) }
+    requires { sound_stream base reader ≡ true }
     ensures { IfSome result (λ b. (0 < b.len) × Ahead reader bytes.now b.len b.reader) }
 {
     let carried = reader.carried;

@@ -116,13 +116,12 @@ unfolding sized
 stops_sizes bs e q m = stopped e (sized varint_length m) refl (λ bs. refl) q
 
 -- in its shortest form: it is as long as it stands
-pub own_sizes : {bs : List ℕ} {end : ℕ} → Ends bs 0 Number end → (m : ℕ) → sized varint_length m (varint base bs) ≡ whole (m + end) (tail end bs)
-own_sizes {bs} {end} e =
+pub own_sizes : {bs r : List ℕ} → Ends bs Number r → (m : ℕ) → sized varint_length m (varint base bs) ≡ whole (m + (length bs - length r)) r
+own_sizes {bs} {r} e =
     let v : ℕ = e.good.0 in
-    let d : bs ≡ shortest v ++ drop end bs = e.split ∙ ap (λ (l : List ℕ). l ++ drop end bs) e.good.2 in
-    let n : length bs ≡ varint_length v + length (drop end bs) = ap length d ∙ length-append (shortest v) (drop end bs) in
-    let l : varint_length v ≡ end = omega (arith, length-drop end bs, e.inside) in
-    value_sizes bs (ap (varint base) d ∙ (varint_parses base).forth v (drop end bs) e.good.1 ∙ ap (whole v) (sym (tail_is end bs))) l
+    let d : bs ≡ shortest v ++ r = e.split ∙ ap (λ (l : List ℕ). l ++ r) e.good.2 in
+    let n : length bs ≡ varint_length v + length r = ap length d ∙ length-append (shortest v) r in
+    value_sizes bs (ap (varint base) d ∙ (varint_parses base).forth v r e.good.1) (omega arith)
 
 -- of one byte, and of two
 pub one_sizes : (bs : List ℕ) → 1 ≤ length bs → get_or bs 0 0 < 128 → (m : ℕ) → sized varint_length m (varint base bs) ≡ whole (m + 1) (tail 1 bs)

@@ -26,8 +26,8 @@ fn value_len(bytes: &[u8]) -> Result<(usize, &[u8]), Stop<&[u8]>>
 fn long_len(bytes: &[u8]) -> Result<(usize, &[u8]), Stop<&[u8]>>
     ensures { Sizes (λ n. sized varint_length n (varint base bytes.now)) result }
 {
-    if let Some(end) = long_number_at(bytes, 0) {
-        return Ok((end, &bytes[end..]));
+    if let Some(rest) = long_number_at(bytes) {
+        return Ok((bytes.len() - rest.len(), rest));
     }
     value_len(bytes)
 }

@@ -7,7 +7,7 @@ use native.Mathlib.Nat.{mod-eq_of_lt}
 use native.Mathlib.Omega.{arith}
 use lib.Bits.{bit_or}
 use lib.Dec.{ltb}
-use lib.ListN.{length, get_or}
+use lib.ListN.{length, drop, get_or}
 use borrow.Author.Tests.{ltb-true, ltb-false}
 use Rattle.layout.specs.Limits.{base, last_byte, last_bound}
 use Rattle.layout.specs.Varint.{digit, shortest}
@@ -18,7 +18,7 @@ use Rattle.varint.proofs.Digits.{joined}
 use Rattle.varint.proofs.Laws.{pushed-ends, pushed_on, pushed_last, pushed-over}
 use Rattle.shortest.specs.Own.{Ends}
 use Rattle.shortest.proofs.Spans.{ends_as}
-use Rattle.shortest.proofs.Varints.{one, Under, under_more, under_value}
+use Rattle.shortest.proofs.Varints.{Under, under_start, under_more, under_value, under_one}
 
 record Last (a : Acc) (b v : ℕ) : Type 0 where
   below : b < 128
@@ -62,26 +62,37 @@ module _ (a : Acc) (b : ℕ) (k : a.taken ≤ last_byte base) (s : a.value < 128
       go false p y q true r = absurd (let f = pushed_last base a b (ltb-false _ _ p) (ltb-true _ _ r) ∙ e in let z : ◌≡◌ {A = ℕ} 0 1 = cc in omega arith)
       go false p y q false r = absurd (let f = pushed-over base a b (ltb-false _ _ p) (ltb-false _ _ r) ∙ e in let z : ◌≡◌ {A = ℕ} 0 1 = cc in omega arith)
 
-abbrev pub Coming : List ℕ → ℕ → ℕ → Acc → Type 0
-Coming t at i a = Under t at i a.taken a.value
+-- k bytes came to this state, and the varint of any number above 0 may follow
+abbrev pub Coming : List ℕ → ℕ → Acc → Type 0
+Coming t k a = (a.taken ≡ k) × Under t k a.value
 
-module _ {t : List ℕ} {at i : ℕ} {a : Acc} (u : Coming t at i a) (h : i < length t) where
-  pub coming_more : (n : Acc) → get_or t i 0 < 256 → pushed base a (get_or t i 0) ≡ More n → Coming t at (i + 1) n
+pub coming_start : (t : List ℕ) (a : Acc) → a ≡ record { value = 0; taken = 0 } → Coming t 0 a
+coming_start t a e = subst (Coming t 0) (sym e) (refl, under_start t)
+
+module _ {t : List ℕ} {k : ℕ} {a : Acc} (c : Coming t k a) (h : k < length t) where
+  few : a.taken ≤ last_byte base
+  few = omega (arith, c.0, c.1.few)
+
+  small : a.value < 128 ^ a.taken
+  small = subst (λ (j : ℕ). a.value < 128 ^ j) (sym c.0) c.1.small
+
+  came : (v : ℕ) → v ≡ a.value + digit a.taken (get_or t k 0) → a.value + digit k (get_or t k 0) ≡ v
+  came v e = sym (e ∙ ap (λ (j : ℕ). a.value + digit j (get_or t k 0)) c.0)
+
+  pub coming_more : (n : Acc) → get_or t k 0 < 256 → pushed base a (get_or t k 0) ≡ More n → Coming t (k + 1) n
   coming_more n g e =
-      let m = was_more a (get_or t i 0) u.few u.small n e in
-      subst (λ (k : ℕ). Under t at (i + 1) k n.value) (sym m.taken)
-      (subst (λ (v : ℕ). Under t at (i + 1) (a.taken + 1) v) (sym m.is) (under_more u h m.few m.above g))
+      let m = was_more a (get_or t k 0) few small n e in
+      (omega (arith, m.taken, c.0), subst (Under t (k + 1)) (came n.value m.is) (under_more c.1 h (omega (arith, m.few, c.0)) m.above g))
 
-  pub coming_value : (v : ℕ) → pushed base a (get_or t i 0) ≡ Value v → 0 < get_or t i 0 → Ends t at (λ bs. bs ≡ shortest v) (i + 1)
+  pub coming_value : (v : ℕ) → pushed base a (get_or t k 0) ≡ Value v → 0 < get_or t k 0 → Ends t (λ bs. bs ≡ shortest v) (drop (k + 1) t)
   coming_value v e g =
-      let m = was_last a (get_or t i 0) u.few u.small v e in
-      ends_as (under_value u h m.below g) (λ bs q. q ∙ ap shortest (sym m.is))
+      let m = was_last a (get_or t k 0) few small v e in
+      ends_as (under_value c.1 h m.below g) (λ bs q. q ∙ ap shortest (came v m.is))
 
-  pub coming_one : (v : ℕ) → pushed base a (get_or t i 0) ≡ Value v → i ≡ at → Ends t at (λ bs. bs ≡ shortest v) (i + 1)
+  pub coming_one : (v : ℕ) → pushed base a (get_or t k 0) ≡ Value v → k ≡ 0 → Ends t (λ bs. bs ≡ shortest v) (drop (k + 1) t)
   coming_one v e g =
-      let m = was_last a (get_or t i 0) u.few u.small v e in
-      let z : a.taken ≡ 0 = omega (arith, u.place) in
-      let s : a.value < 128 ^ 0 = subst (λ (k : ℕ). a.value < 128 ^ k) z u.small in
-      let d : digit a.taken (get_or t i 0) ≡ digit 0 (get_or t i 0) = ap (λ (k : ℕ). digit k (get_or t i 0)) z in
-      let f : get_or t i 0 ≡ v = omega (arith, m.is, mod-eq_of_lt m.below) in
-      subst (λ (j : ℕ). Ends t j (λ bs. bs ≡ shortest v) (i + 1)) g (ends_as (one t i h m.below) (λ bs q. q ∙ ap shortest f))
+      let m = was_last a (get_or t k 0) few small v e in
+      let s : a.value < 128 ^ 0 = subst (λ (j : ℕ). a.value < 128 ^ j) g c.1.small in
+      let d : digit k (get_or t k 0) ≡ digit 0 (get_or t k 0) = ap (λ (j : ℕ). digit j (get_or t k 0)) g in
+      let f : get_or t k 0 ≡ v = omega (arith, came v m.is, mod-eq_of_lt m.below) in
+      ends_as (under_one c.1 h g m.below) (λ bs q. q ∙ ap shortest f)

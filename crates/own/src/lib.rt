@@ -11,7 +11,10 @@ ghost use Rattle.layout.specs.Field.{t_fixlen, t_unsigneds, t_signeds, t_floats}
 ghost use Rattle.shortest.specs.Own.{OwnFields, Numbers, Number, Body, Ends};
 
 use shortest::{float_bytes, is_close, long_number_at};
-use types::{ARRAY_MAX, FIXLEN_MAX, ID_MAX};
+use types::{
+    ARRAY_MAX, FIXLEN_MAX, FixlenType, ID_MAX, T_FIXLEN, T_FIXLENARRAY, T_SEQUENCE_START,
+    T_VARINT_SIGNED, T_VARINT_UNSIGNED, T_VARINTARRAY_SIGNED, T_VARINTARRAY_UNSIGNED,
+};
 use varint::{Acc, Push};
 
 // Fields: the place after them, and the depth there.
@@ -30,47 +33,46 @@ pub struct Row {
 
 // ---- varints
 
-// Most elements are one byte or two.
-fn number_at(t: &[u8], at: usize) -> Option<usize>
-    ensures { IfSome result (Ends t.now at Number) }
+// Most elements are one byte or two. What the call out of line answers is taken apart at once: handed on, all answers went through memory,
+// and fields with headers of two bytes took 1.8 times as long.
+fn number_at(t: &[u8]) -> Option<&[u8]>
+    ensures { IfSome result (λ r. Ends t.now Number r.now) }
 {
-    let b = *t.get(at)?;
-    if b < 128 {
-        return Some(at + 1);
+    match t {
+        [0..128, rest @ ..] => Some(rest),
+        [_, 1..128, rest @ ..] => Some(rest),
+        _ => Some(long_number_at(t)?),
     }
-    if let Some(1..128) = t.get(at + 1) {
-        return Some(at + 2);
-    }
-    long_number_at(t, at)
 }
 
 // The value behind the header h: behind a header of one byte or two most are short as well.
-fn scalar_at(t: &[u8], at: usize, h: u64) -> Option<usize>
-    ensures { IfSome result (Ends t.now at Number) }
+fn scalar_at(t: &[u8], h: u64) -> Option<&[u8]>
+    ensures { IfSome result (λ r. Ends t.now Number r.now) }
 {
     if h < 16384 {
-        number_at(t, at)
+        number_at(t)
     } else {
-        long_number_at(t, at)
+        Some(long_number_at(t)?)
     }
 }
 
 // A varint with its value. Out of line its answer would go through memory, and headers of three bytes took 1.5 times as long.
+// Passing's and read_at_once's loops over `push` answer otherwise at each of its three cases: one loop for all would take three closures.
 #[inline(always)]
-fn long_value_at(t: &[u8], at: usize) -> Option<(u64, usize)>
-    ensures { IfSome result (λ r. Ends t.now at (λ bs. bs ≡ shortest r.0) r.1) }
+fn long_value_at(t: &[u8]) -> Option<(u64, &[u8])>
+    ensures { IfSome result (λ r. Ends t.now (λ bs. bs ≡ shortest r.0) r.1.now) }
 {
     let mut acc = Acc::new();
-    for i in at..t.len() {
-        match acc.push(t[i]) {
+    for (k, &b) in t.iter().enumerate() {
+        match acc.push(b) {
             Push::More(more) => {
                 acc = more;
             }
             Push::Value(v) => {
-                return if t[i] == 0 && at < i {
+                return if b == 0 && 0 < k {
                     None
                 } else {
-                    Some((v, i + 1))
+                    Some((v, &t[k + 1..]))
                 };
             }
             Push::Overlong => {
@@ -82,207 +84,183 @@ fn long_value_at(t: &[u8], at: usize) -> Option<(u64, usize)>
 }
 
 // The value of one byte or two: most headers, words and counts are no longer.
-fn short_value_at(t: &[u8], at: usize) -> Option<(u64, usize)>
-    ensures { IfSome result (λ r. Ends t.now at (λ bs. (r.0 / 8 ≤ base.id) × (bs ≡ shortest r.0)) r.1) }
+fn short_value_at(t: &[u8]) -> Option<(u64, &[u8])>
+    ensures { IfSome result (λ r. Ends t.now (λ bs. (r.0 / 8 ≤ base.id) × (bs ≡ shortest r.0)) r.1.now) }
 {
-    let b = *t.get(at)?;
-    if b < 128 {
-        return Some((u64::from(b), at + 1));
-    }
-    let c = *t.get(at + 1)?;
-    if 0 < c && c < 128 {
-        Some((u64::from(b % 128) + u64::from(c) * 128, at + 2))
-    } else {
-        None
+    match t {
+        [b @ 0..128, rest @ ..] => Some((u64::from(*b), rest)),
+        [b, c @ 1..128, rest @ ..] => Some((u64::from(*b % 128) + u64::from(*c) * 128, rest)),
+        _ => None,
     }
 }
 
-fn value_at(t: &[u8], at: usize) -> Option<(u64, usize)>
-    ensures { IfSome result (λ r. Ends t.now at (λ bs. bs ≡ shortest r.0) r.1) }
+fn value_at(t: &[u8]) -> Option<(u64, &[u8])>
+    ensures { IfSome result (λ r. Ends t.now (λ bs. bs ≡ shortest r.0) r.1.now) }
 {
-    short_value_at(t, at).or_else(|| long_value_at(t, at))
+    short_value_at(t).or_else(|| long_value_at(t))
 }
 
 // A header of one byte or two has a small id.
-fn header_at(t: &[u8], at: usize) -> Option<(u64, usize)>
-    ensures { IfSome result (λ r. Ends t.now at (λ bs. (r.0 / 8 ≤ base.id) × (bs ≡ shortest r.0)) r.1) }
+fn header_at(t: &[u8]) -> Option<(u64, &[u8])>
+    ensures { IfSome result (λ r. Ends t.now (λ bs. (r.0 / 8 ≤ base.id) × (bs ≡ shortest r.0)) r.1.now) }
 {
-    short_value_at(t, at).or_else(|| long_value_at(t, at).filter(|(h, _)| *h / 8 <= ID_MAX as u64))
+    short_value_at(t).or_else(|| long_value_at(t).filter(|(h, _)| *h / 8 <= ID_MAX as u64))
 }
 
-fn count_at(t: &[u8], at: usize) -> Option<(u32, usize)>
-    ensures { IfSome result (λ r. Ends t.now at (λ bs. (r.0 ≤ base.count) × (bs ≡ shortest r.0)) r.1) }
+// As passing's `count_at`, and `jump` below as its `jump`, but for the answer: theirs says why there is none, which nobody asks here.
+fn count_at(t: &[u8]) -> Option<(u32, &[u8])>
+    ensures { IfSome result (λ r. Ends t.now (λ bs. (r.0 ≤ base.count) × (bs ≡ shortest r.0)) r.1.now) }
 {
-    let (n, i) = value_at(t, at)?;
+    let (n, rest) = value_at(t)?;
     if n <= ARRAY_MAX as u64 {
-        Some((n as u32, i))
+        Some((n as u32, rest))
     } else {
         None
     }
 }
 
-fn row_at(t: &[u8], at: usize, most: u32) -> Row
-    requires { at ≤ length t.now }
-    ensures { (result.count ≤ most) × Ends t.now at (Numbers base result.count) result.end }
+// How many numbers stand at the start, `most` at most, and what is behind them.
+fn numbers_at(t: &[u8], most: u32) -> (u32, &[u8])
+    ensures { (result.0 ≤ most) × Ends t.now (Numbers base result.0) result.1.now }
 {
-    let mut end = at;
+    let mut rest = t;
     for count in 0..most {
-        let Some(next) = number_at(t, end) else {
-            return Row { end, count };
+        let Some(next) = number_at(rest) else {
+            return (count, rest);
         };
-        end = next;
+        rest = next;
     }
-    Row { end, count: most }
+    (most, rest)
 }
 
 // The array's elements that stand whole and in their shortest form at the start, `most` at most.
 pub fn elements(bytes: &[u8], most: u32) -> Row
     ensures { (result.end ≤ length bytes.now) × (result.count ≤ most) × Numbers base result.count (take result.end bytes.now) }
 {
-    row_at(bytes, 0, most)
+    let (count, rest) = numbers_at(bytes, most);
+    Row {
+        end: bytes.len() - rest.len(),
+        count,
+    }
 }
 
 // ---- what follows a header
 
-fn jump(t: &[u8], at: usize, n: u64) -> Option<usize>
-    requires { at ≤ length t.now }
-    ensures { IfSome result (Ends t.now at (λ bs. length bs ≡ n)) }
+fn jump(t: &[u8], n: u64) -> Option<&[u8]>
+    ensures { IfSome result (λ r. Ends t.now (λ bs. length bs ≡ n) r.now) }
 {
-    if n as usize <= t.len() - at {
-        Some(at + n as usize)
-    } else {
-        None
-    }
+    t.get(n as usize..)
 }
 
-fn fixlen_at(t: &[u8], at: usize) -> Option<usize>
-    ensures { IfSome result (Ends t.now at (Body t_fixlen)) }
+fn fixlen_at(t: &[u8]) -> Option<&[u8]>
+    ensures { IfSome result (λ r. Ends t.now (Body t_fixlen) r.now) }
 {
-    let (word, i) = value_at(t, at)?;
+    let (word, rest) = value_at(t)?;
     if let Some(n) = float_bytes(word) {
-        return jump(t, i, n);
+        return jump(rest, n);
     }
     let n = word / 8;
-    match word % 8 {
-        2 | 3 if n <= FIXLEN_MAX as u64 => jump(t, i, n),
+    match FixlenType::try_from((word % 8) as u8) {
+        Ok(FixlenType::Str | FixlenType::Blob) if n <= FIXLEN_MAX as u64 => jump(rest, n),
         _ => None,
     }
 }
 
 // Signed elements are in their shortest form where unsigned ones are.
-fn array_at(t: &[u8], at: usize) -> Option<usize>
-    ensures { IfSome result (Ends t.now at (λ bs. Body t_unsigneds bs × Body t_signeds bs)) }
+fn array_at(t: &[u8]) -> Option<&[u8]>
+    ensures { IfSome result (λ r. Ends t.now (λ bs. Body t_unsigneds bs × Body t_signeds bs) r.now) }
 {
-    let (n, i) = count_at(t, at)?;
-    let row = row_at(t, i, n);
-    if row.count == n { Some(row.end) } else { None }
+    let (n, rest) = count_at(t)?;
+    let (count, rest) = numbers_at(rest, n);
+    if count == n { Some(rest) } else { None }
 }
 
-fn float_array_at(t: &[u8], at: usize) -> Option<usize>
-    ensures { IfSome result (Ends t.now at (Body t_floats)) }
+fn float_array_at(t: &[u8]) -> Option<&[u8]>
+    ensures { IfSome result (λ r. Ends t.now (Body t_floats) r.now) }
 {
-    let (n, i) = count_at(t, at)?;
-    let (word, j) = value_at(t, i)?;
-    jump(t, j, u64::from(n) * float_bytes(word)?)
+    let (n, rest) = count_at(t)?;
+    let (word, rest) = value_at(rest)?;
+    jump(rest, u64::from(n) * float_bytes(word)?)
 }
 
-// ---- fields
+// ---- fields: the depth behind them, and what is behind them
 
-// What follows the header h. A depth above MAX_DEPTH has no place in a byte.
-fn body_at(t: &[u8], at: usize, h: u64, depth: u8) -> Option<Run>
-    requires { (at ≤ length t.now) × (h / 8 ≤ base.id) }
-    ensures { IfSome result (λ r. Ends t.now at (λ bs. OwnFields base depth (shortest h ++ bs) r.depth) r.end) }
+// What follows the header h. A depth above MAX_DEPTH has no place in a byte. Bodies and lengths go by the same types, to other answers: one
+// function for the three would take a trait with a member for each type.
+fn body_at(t: &[u8], h: u64, depth: u8) -> Option<(u8, &[u8])>
+    requires { h / 8 ≤ base.id }
+    ensures { IfSome result (λ r. Ends t.now (λ bs. OwnFields base depth (shortest h ++ bs) r.0) r.1.now) }
 {
-    match h % 8 {
-        0 | 1 => Some(Run {
-            end: scalar_at(t, at, h)?,
-            depth,
-        }),
-        2 => Some(Run {
-            end: fixlen_at(t, at)?,
-            depth,
-        }),
-        3 | 4 => Some(Run {
-            end: array_at(t, at)?,
-            depth,
-        }),
-        5 => Some(Run {
-            end: float_array_at(t, at)?,
-            depth,
-        }),
-        6 => Some(Run {
-            end: at,
-            depth: depth.checked_add(1)?,
-        }),
-        _ if is_close(h) => Some(Run {
-            end: at,
-            depth: depth.checked_sub(1)?,
-        }),
+    match (h % 8) as u8 {
+        T_VARINT_UNSIGNED | T_VARINT_SIGNED => Some((depth, scalar_at(t, h)?)),
+        T_FIXLEN => Some((depth, fixlen_at(t)?)),
+        T_VARINTARRAY_UNSIGNED | T_VARINTARRAY_SIGNED => Some((depth, array_at(t)?)),
+        T_FIXLENARRAY => Some((depth, float_array_at(t)?)),
+        T_SEQUENCE_START => Some((depth.checked_add(1)?, t)),
+        _ if is_close(h) => Some((depth.checked_sub(1)?, t)),
         _ => None,
     }
 }
 
-// The place after scalars of two bytes in a row. Most fields are no longer, and their loop is short by itself. How many there are is found
-// on the way, so no `for` counts them.
-fn smalls_at(t: &[u8], at: usize) -> usize
-    requires { at ≤ length t.now }
-    ensures { Ends t.now at (λ bs. (d : ℕ) → OwnFields base d bs d) result }
+// Behind scalars of two bytes in a row. Most fields are no longer, and their loop is short by itself. No `for` over pairs: it would not tell
+// what is behind the last one.
+fn smalls_at(t: &[u8]) -> &[u8]
+    ensures { Ends t.now (λ bs. (d : ℕ) → OwnFields base d bs d) result.now }
 {
-    let mut end = at;
-    while end + 1 < t.len() && t[end] < 128 && t[end] % 8 < 2 && t[end + 1] < 128 {
-        end += 2;
+    let mut rest = t;
+    while let [h @ 0..128, 0..128, behind @ ..] = rest
+        && *h % 8 <= T_VARINT_SIGNED
+    {
+        rest = behind;
     }
-    end
+    rest
 }
 
 // An open of one byte, or a close.
-fn sequence_at(t: &[u8], at: usize, depth: u8) -> Option<Run>
-    ensures { IfSome result (λ r. (at < r.end) × Ends t.now at (λ bs. OwnFields base depth bs r.depth) r.end) }
+fn sequence_at(t: &[u8], depth: u8) -> Option<(u8, &[u8])>
+    ensures { IfSome result (λ r. (length r.1.now < length t.now) × Ends t.now (λ bs. OwnFields base depth bs r.0) r.1.now) }
 {
-    let h = *t.get(at)?;
-    if 128 <= h {
+    let [h @ 0..128, rest @ ..] = t else {
         return None;
+    };
+    if *h % 8 == T_SEQUENCE_START {
+        return Some((depth.checked_add(1)?, rest));
     }
-    if h % 8 == 6 {
-        return Some(Run {
-            end: at + 1,
-            depth: depth.checked_add(1)?,
-        });
-    }
-    if is_close(u64::from(h)) {
-        return Some(Run {
-            end: at + 1,
-            depth: depth.checked_sub(1)?,
-        });
+    if is_close(u64::from(*h)) {
+        return Some((depth.checked_sub(1)?, rest));
     }
     None
 }
 
 // One field, or more where they are small.
-fn field_at(t: &[u8], at: usize, depth: u8) -> Option<Run>
-    requires { at ≤ length t.now }
-    ensures { IfSome result (λ r. (at < r.end) × Ends t.now at (λ bs. OwnFields base depth bs r.depth) r.end) }
+fn field_at(t: &[u8], depth: u8) -> Option<(u8, &[u8])>
+    ensures { IfSome result (λ r. (length r.1.now < length t.now) × Ends t.now (λ bs. OwnFields base depth bs r.0) r.1.now) }
 {
-    let end = smalls_at(t, at);
-    if at < end {
-        return Some(Run { end, depth });
+    let rest = smalls_at(t);
+    if rest.len() < t.len() {
+        return Some((depth, rest));
     }
-    if let Some(run) = sequence_at(t, at, depth) {
-        return Some(run);
+    if let Some(behind) = sequence_at(t, depth) {
+        return Some(behind);
     }
-    let (h, i) = header_at(t, at)?;
-    body_at(t, i, h, depth)
+    let (h, rest) = header_at(t)?;
+    body_at(rest, h, depth)
 }
 
-// How far whole fields in their shortest form go, from this depth on; no further than 0 where the first isn't so, or isn't whole. Each field
-// says where the next begins.
+// How far whole fields in their shortest form go, from this depth on: no further than they begin, if the first isn't so, or isn't whole.
+// Each field says where the next begins, so no iterator gives them.
 #[inline(never)]
 pub fn fields(bytes: &[u8], depth: u8) -> Run
     ensures { (result.end ≤ length bytes.now) × OwnFields base depth (take result.end bytes.now) result.depth }
 {
-    let mut run = Run { end: 0, depth };
-    while let Some(next) = field_at(bytes, run.end, run.depth) {
-        run = next;
+    let mut rest = bytes;
+    let mut reached = depth;
+    while let Some((next, behind)) = field_at(rest, reached) {
+        reached = next;
+        rest = behind;
     }
-    run
+    Run {
+        end: bytes.len() - rest.len(),
+        depth: reached,
+    }
 }

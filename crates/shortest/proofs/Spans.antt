@@ -1,58 +1,46 @@
--- Bytes from one place of a slice to another: one after another, and from the start on.
+-- A slice taken from the front: one part after another, and how far it came.
 use Prim.Native.Nat.{ℕ, zero, suc, ◌+◌, ◌-◌, ◌≤◌, ◌<◌}
 use mathlib.Core.Path.{◌≡◌, refl, sym, ap, ◌∙◌, subst}
 use mathlib.Core.List.{List, [], ◌∷◌, ◌++◌, append_assoc}
-use native.Mathlib.Numerals.{add-one}
 use native.Mathlib.Omega.{arith}
 use lib.ListN.{length, take, drop, get_or, length-append, length-drop, take-append-drop}
-use lib.Seq.{drop-cons, drop-drop, length-take-le, take_at}
+use lib.Seq.{length-take-le, take_all, take_at}
 use Rattle.layout.specs.Message.{Bytes}
 use Rattle.shortest.specs.Own.{Ends}
 
--- ---- from one place to another
+-- ---- from the front up to the rest
 
--- one byte
-pub one_byte : (t : List ℕ) (i : ℕ) → i < length t → drop i t ≡ get_or t i 0 ∷ drop (i + 1) t
-one_byte t i h = drop-cons t i 0 h ∙ ap (λ (j : ℕ). get_or t i 0 ∷ drop j t) (sym (add-one i))
+module _ {P : List ℕ → Type 0} where
+  pub here : (t : List ℕ) → P [] → Ends t P t
+  here t p = record { bytes = []; split = refl; good = p }
 
-module _ {t : List ℕ} {P : List ℕ → Type 0} where
-  pub here : (at : ℕ) → at ≤ length t → P [] → Ends t at P at
-  here at h p = record { inside = h; bytes = []; split = refl; good = p }
+  pub ends_as : {Q : List ℕ → Type 0} {t r : List ℕ} → Ends t P r → ((bs : List ℕ) → P bs → Q bs) → Ends t Q r
+  ends_as e f = record { bytes = e.bytes; split = e.split; good = f e.bytes e.good }
 
-  pub byte_at : (i : ℕ) → i < length t → P (get_or t i 0 ∷ []) → Ends t i P (i + 1)
-  byte_at i h p = record { inside = omega arith; bytes = get_or t i 0 ∷ []; split = one_byte t i h; good = p }
-
-  pub ends_as : {Q : List ℕ → Type 0} {at i : ℕ} → Ends t at P i → ((bs : List ℕ) → P bs → Q bs) → Ends t at Q i
-  ends_as e f = record { inside = e.inside; bytes = e.bytes; split = e.split; good = f e.bytes e.good }
-
-  pub ends_then : {Q R : List ℕ → Type 0} {at i j : ℕ} → Ends t at P i → Ends t i Q j → ((xs ys : List ℕ) → P xs → Q ys → R (xs ++ ys)) → Ends t at R j
+  pub ends_then : {Q R : List ℕ → Type 0} {t r s : List ℕ} → Ends t P r → Ends r Q s → ((xs ys : List ℕ) → P xs → Q ys → R (xs ++ ys)) → Ends t R s
   ends_then e u f =
       record {
-        inside = u.inside;
         bytes = e.bytes ++ u.bytes;
         split = e.split ∙ ap (λ (l : List ℕ). e.bytes ++ l) u.split ∙ sym (append_assoc e.bytes u.bytes _);
         good = f e.bytes u.bytes e.good u.good;
       }
 
-  -- as many bytes as lie between
-  pub ends_past : {at i : ℕ} → at ≤ length t → (e : Ends t at P i) → at + length e.bytes ≡ i
-  ends_past {at} {i} h e =
-      let n : length (drop at t) ≡ length e.bytes + length (drop i t) = ap length e.split ∙ length-append e.bytes (drop i t) in
-      omega (arith, e.inside, length-drop at t, length-drop i t)
+  -- how many bytes they are
+  pub ends_long : {t r : List ℕ} → (e : Ends t P r) → length e.bytes + length r ≡ length t
+  ends_long {r = r} e = sym (ap length e.split ∙ length-append e.bytes r)
 
-  -- from the start on
-  pub ends_take : {i : ℕ} → Ends t 0 P i → P (take i t)
-  ends_take {i} e = subst P (sym (ap (take i) e.split ∙ take_at e.bytes (drop i t) i (omega (arith, ends_past (omega arith) e)))) e.good
+  -- by their number
+  pub ends_take : {t r : List ℕ} → Ends t P r → P (take (length t - length r) t)
+  ends_take {t} {r} e =
+      subst P (sym (ap (take (length t - length r)) e.split ∙ take_at e.bytes r (length t - length r) (omega (arith, ends_long e)))) e.good
+
+-- .. the rest being as the code takes it
+pub ends_behind : {P : List ℕ → Type 0} {t : List ℕ} (n : ℕ) → Ends t P (drop n t) → Ends t P (take (length t - n) (drop n t))
+ends_behind {P} {t} n e = subst (Ends t P) (sym (take_all (length t - n) (drop n t) (omega (arith, length-drop n t)))) e
 
 -- n bytes
-pub bytes_at : (t : List ℕ) (at n : ℕ) → at ≤ length t → n ≤ length t - at → Ends t at (λ bs. length bs ≡ n) (at + n)
-bytes_at t at n h l =
-    record {
-      inside = omega arith;
-      bytes = take n (drop at t);
-      split = sym (take-append-drop n (drop at t)) ∙ ap (λ (l : List ℕ). take n (drop at t) ++ l) (drop-drop n at t);
-      good = length-take-le n (drop at t) (omega (arith, length-drop at t));
-    }
+pub bytes_at : (t : List ℕ) (n : ℕ) → n ≤ length t → Ends t (λ bs. length bs ≡ n) (drop n t)
+bytes_at t n l = record { bytes = take n t; split = sym (take-append-drop n t); good = length-take-le n t l }
 
 -- ---- the bytes of a slice are bytes
 
@@ -69,7 +57,14 @@ pub bytes_front : (xs ys : List ℕ) → Bytes (xs ++ ys) → Bytes xs
 bytes_front [] ys a = tt
 bytes_front (x ∷ xs) ys a = (a.0, bytes_front xs ys a.1)
 
--- .. and those between two places
-pub ends_bytes : {t : List ℕ} {P : List ℕ → Type 0} {at i : ℕ} → Bytes t → Ends t at P i → Ends t at (λ bs. P bs × Bytes bs) i
-ends_bytes {t} {P} {at} {i} a e =
-    record { inside = e.inside; bytes = e.bytes; split = e.split; good = (e.good, bytes_front e.bytes (drop i t) (subst Bytes e.split (bytes_drop at t a))) }
+pub bytes_behind : (xs ys : List ℕ) → Bytes (xs ++ ys) → Bytes ys
+bytes_behind [] ys a = a
+bytes_behind (x ∷ xs) ys a = bytes_behind xs ys a.1
+
+-- .. and those of a part, and of what is behind it
+module _ {P : List ℕ → Type 0} {t r : List ℕ} (a : Bytes t) (e : Ends t P r) where
+  pub ends_bytes : Ends t (λ bs. P bs × Bytes bs) r
+  ends_bytes = record { bytes = e.bytes; split = e.split; good = (e.good, bytes_front e.bytes r (subst Bytes e.split a)) }
+
+  pub rest_bytes : Bytes r
+  rest_bytes = bytes_behind e.bytes r (subst Bytes e.split a)

@@ -1,5 +1,5 @@
--- Bytes that are whole fields, or an array's elements, in their shortest form; and what a place says of the bytes before it.
-use Rattle.std.specs.Prelude.{ℕ, ◌+◌, ◌*◌, ◌^◌, ◌≤◌, ◌<◌, ◌≡◌, List, ◌++◌, length, drop}
+-- Bytes that are whole fields, or an array's elements, in their shortest form; and what the rest of a slice says of the bytes before it.
+use Rattle.std.specs.Prelude.{ℕ, ◌+◌, ◌*◌, ◌^◌, ◌≤◌, ◌<◌, ◌≡◌, List, ◌++◌, length}
 use Rattle.layout.specs.Limits.{Limits, base}
 use Rattle.layout.specs.Varint.{shortest}
 use Rattle.layout.specs.Field.{Width, Wire, Field, bytes_of, float, subtype_number, header, each}
@@ -29,11 +29,10 @@ Number bs = (v : ℕ) × (v < 2 ^ base.bits) × (bs ≡ shortest v)
 abbrev pub Body : Wire → List ℕ → Type 0
 Body w bs = (id d : ℕ) → id ≤ base.id → OwnFields base d (header id w ++ bs) d
 
--- the bytes of t from one place up to another in it are such
-pub record Ends (t : List ℕ) (at : ℕ) (P : List ℕ → Type 0) (i : ℕ) : Type 0 where
-  pub inside : i ≤ length t
+-- the bytes of t before the last ones r are such
+pub record Ends (t : List ℕ) (P : List ℕ → Type 0) (r : List ℕ) : Type 0 where
   pub bytes : List ℕ
-  pub split : drop at t ≡ bytes ++ drop i t
+  pub split : t ≡ bytes ++ r
   pub good : P bytes
 
 -- the word of a float of n bytes

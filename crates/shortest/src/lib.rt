@@ -5,20 +5,25 @@ ghost use Rattle.std.specs.Prelude.{◌≡◌, ◌+◌, ◌*◌, eqb, IfSome};
 ghost use Rattle.layout.specs.Field.{Width, bytes_of, float, subtype_number, wire_number, t_end};
 ghost use Rattle.shortest.specs.Own.{Number, Ends, FloatWord};
 
+use types::{FP32_WORD, FP64_WORD, T_SEQUENCE_END};
 use varint::LAST_BYTE;
 
-// The place after a varint; none where it is longer than needed, or not whole.
+// What is behind a varint; none where it is longer than needed, or not whole. Passing's loop to a varint's end takes longer ones too: one
+// loop for both would take a flag.
 #[inline(never)]
-pub fn long_number_at(t: &[u8], at: usize) -> Option<usize>
-    ensures { IfSome result (Ends t.now at Number) }
+pub fn long_number_at(t: &[u8]) -> Option<&[u8]>
+    ensures { IfSome result (λ r. Ends t.now Number r.now) }
 {
-    for i in at..t.len() {
-        let b = t[i];
-        if i - at == LAST_BYTE as usize {
-            return if b == 1 { Some(i + 1) } else { None };
+    for (k, &b) in t.iter().enumerate() {
+        if k == LAST_BYTE as usize {
+            return if b == 1 { Some(&t[k + 1..]) } else { None };
         }
         if b < 128 {
-            return if b == 0 && at < i { None } else { Some(i + 1) };
+            return if b == 0 && 0 < k {
+                None
+            } else {
+                Some(&t[k + 1..])
+            };
         }
     }
     None
@@ -30,8 +35,8 @@ pub fn float_bytes(word: u64) -> Option<u64>
     ensures each { (w : Width) → word ≡ bytes_of w * 8 + subtype_number (float w) → result ≡ Some (bytes_of w) }
 {
     match word {
-        32 => Some(4),
-        65 => Some(8),
+        FP32_WORD => Some(4),
+        FP64_WORD => Some(8),
         _ => None,
     }
 }
@@ -40,5 +45,5 @@ pub fn float_bytes(word: u64) -> Option<u64>
 pub fn is_close(h: u64) -> bool
     ensures { result ≡ eqb h (0 * 8 + wire_number t_end) }
 {
-    h == 7
+    h == u64::from(T_SEQUENCE_END)
 }

@@ -1,5 +1,4 @@
--- `own::fields` meets its contract: whole fields in their shortest form stand from the start to the place reached.
-use native.Mathlib.Omega.{arith}
+-- `own::fields` meets its contract: whole fields in their shortest form stand before the rest.
 use Rattle.layout.specs.Limits.{base}
 use Rattle.shortest.proofs.Spans.{here}
 use Rattle.own.proofs.Runs.{fields_none}
@@ -7,7 +6,7 @@ use Rattle.own.proofs.Parts.{ran_next}
 use Rattle.own.proofs.fields.Goals as goal
 
 pub loop-next-init : goal.loop-next-init
-loop-next-init c = here 0 (omega arith) (fields_none base _)
+loop-next-init c = here _ (fields_none base _)
 
 pub loop-next-preserved : goal.loop-next-preserved
 loop-next-preserved c = ran_next c.loop-next.invariant c.in-Some.ensures.1

@@ -2,5 +2,5 @@
 use Rattle.own.proofs.Values.{Coming}
 use Rattle.own.proofs.long_value_at.Given as goal
 
-abbrev pub invariant-loop-i : goal.invariant-loop-i
-invariant-loop-i l = Coming l.t l.at l.i l.acc
+abbrev pub invariant-loop-k : goal.invariant-loop-k
+invariant-loop-k l = Coming l.t l.k l.acc

@@ -5,9 +5,12 @@ use borrow.Author.Tests.{eqb-true}
 use Rattle.own.proofs.Parts.{small_open, small_close}
 use Rattle.own.proofs.sequence_at.Goals as goal
 
-pub returns-then-h-eq6 : goal.returns-then-h-eq6
-returns-then-h-eq6 c = rw c.in_ok-checked_add.ensures.1 (small_open c.args.depth c.in_ok-h.ensures.lookup.3 c.if-h-ge128.false c.if-h-eq6.true (omega (arith, c.in_ok-checked_add.ensures.0)))
+pub returns-then-h-eq-T_SEQUENCE_START : goal.returns-then-h-eq-T_SEQUENCE_START
+returns-then-h-eq-T_SEQUENCE_START c =
+    rw c.in_ok-checked_add.ensures.1
+    (small_open _ c.args.depth c.in-0-to-127.len_at_least (omega arith) c.if-h-eq-T_SEQUENCE_START.true (omega (arith, c.in_ok-checked_add.ensures.0)))
 
 pub returns-then-is_close : goal.returns-then-is_close
 returns-then-is_close c =
-    rw c.in_ok-checked_sub.ensures.1 (small_close c.args.depth c.in_ok-h.ensures.lookup.3 (sym c.from.ensures ∙ eqb-true _ _ (sym c.if-is_close.ensures)) c.in_ok-checked_sub.ensures.0)
+    rw c.in_ok-checked_sub.ensures.1
+    (small_close _ c.args.depth c.in-0-to-127.len_at_least (sym c.from.ensures ∙ eqb-true _ _ (sym c.if-is_close.ensures)) c.in_ok-checked_sub.ensures.0)

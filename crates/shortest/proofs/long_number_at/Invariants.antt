@@ -2,5 +2,5 @@
 use Rattle.shortest.proofs.Varints.{Going}
 use Rattle.shortest.proofs.long_number_at.Given as goal
 
-abbrev pub invariant-loop-i : goal.invariant-loop-i
-invariant-loop-i l = Going l.t l.at l.i
+abbrev pub invariant-loop-k : goal.invariant-loop-k
+invariant-loop-k l = Going l.t l.k

@@ -5,6 +5,7 @@ use mathlib.Core.Bool.{Bool, true}
 use Prim.Native.Nat.{ℕ, ◌+◌, ◌^◌, ◌≤◌, ◌<◌}
 use native.Mathlib.Omega.{arith}
 use lib.ListN.{length, length-append}
+use Rattle.std.specs.Prelude.{Option, Some}
 use Rattle.layout.specs.Limits.{base, longest}
 use Rattle.layout.specs.Varint.{shortest}
 use Rattle.varint.proofs.Shortest.{length-longest, length_some}
@@ -54,7 +55,7 @@ module _ (b : List ℕ) (pos n header : ℕ) (b1 : List ℕ) (mid : ℕ) (r : ro
         omega arith
 
     -- an array's, for which there was room
-    pub array_made : (t : Bool) → t ≡ true → (u b3 : List ℕ) (end : ℕ) → (end ≡ reached b2 at u) × (b3 ≡ put b2 at u) × (at + length u ≤ length b2) → PutsWhole t b pos (shortest header ++ (shortest v ++ u)) b3 end
+    pub array_made : (t : Bool) → t ≡ true → (u b3 : List ℕ) (end : ℕ) → (end ≡ reached b2 at u) × (b3 ≡ put b2 at u) × (at + length u ≤ length b2) → PutsWhole t b pos (shortest header ++ (shortest v ++ u)) b3 (Some end)
     array_made t e u b3 end (p, q, k) =
         let l = length_some header in
         let a = length-append (shortest header) (shortest v ++ u) in
@@ -62,7 +63,7 @@ module _ (b : List ℕ) (pos n header : ℕ) (b1 : List ℕ) (mid : ℕ) (r : ro
 
 -- ---- by the number of the header, as it is made
 
-module _ (b : List ℕ) (pos h n : ℕ) (places d : List ℕ) (end : ℕ) (e : h ≡ n) (f : h < 2 ^ base.bits) where
+module _ (b : List ℕ) (pos h n : ℕ) (places d : List ℕ) (end : Option ℕ) (e : h ≡ n) (f : h < 2 ^ base.bits) where
   pub pair_whole : (v : ℕ) → v < 2 ^ base.bits → PutsIf (roomy_at (length b) pos places 0) b pos (shortest h ++ shortest v) d end → PutsWhole (roomy_at (length b) pos places 0) b pos (shortest n ++ shortest v) d end
   pair_whole v g w =
       let a = length-append (shortest h) (shortest v) in
@@ -81,5 +82,5 @@ module _ (b : List ℕ) (pos h n : ℕ) (places d : List ℕ) (end : ℕ) (e : h
       subst (λ (y : ℕ). PutsWhole (roomy_at (length b) pos places (length u)) b pos (shortest n ++ (shortest y ++ u)) d end) r
       (subst (λ (x : ℕ). PutsWhole (roomy_at (length b) pos places (length u)) b pos (shortest x ++ (shortest v ++ u)) d end) e (whole (clean places) b pos (length u) _ d end (omega arith) (omega arith) w))
 
-pub row-whole : {A : Type 0} (t : Bool) (b : List ℕ) (pos h n : ℕ) (f : A → List ℕ) (l : List A) (d : List ℕ) (end : ℕ) → h ≡ n → PutsWhole t b pos (row_of h f l) d end → PutsWhole t b pos (row_of n f l) d end
+pub row-whole : {A : Type 0} (t : Bool) (b : List ℕ) (pos h n : ℕ) (f : A → List ℕ) (l : List A) (d : List ℕ) (end : Option ℕ) → h ≡ n → PutsWhole t b pos (row_of h f l) d end → PutsWhole t b pos (row_of n f l) d end
 row-whole t b pos h n f l d end e w = subst (λ (x : ℕ). PutsWhole t b pos (row_of x f l) d end) e w

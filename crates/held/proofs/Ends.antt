@@ -52,8 +52,8 @@ module _ (pos : ℕ) (b o : List ℕ) (place : ℕ) (c' : Cursor) (b' : List ℕ
   ended total r q h = (h ∙ ap (λ (n : ℕ). reaches pos (length b) n place) q, left_any)
 
   -- before the buffer's end: all of it is out
-  pub stops_short : pos ≤ length b → c'.skip ≡ 0 → c'.pos < length b → Ended pos b o place (Ok (Through c'.pos)) b'
-  stops_short i z h = let (p, m) = ends_at in (reaches_through pos (length b) (length o) place c'.pos (omega arith) (omega arith) (omega arith), left_any)
+  pub stops_short : c'.skip ≡ 0 → c'.pos < length b → Ended pos b o place (Ok (Through c'.pos)) b'
+  stops_short z h = let (p, m) = ends_at in (reaches_through pos (length b) (length o) place c'.pos (omega arith) (omega arith) (omega arith), left_any)
 
   -- there is more of it than the place and the room
   pub goes_on : (out : ℕ) → out ≡ place + (length b - pos) → place + (length b - pos) < length o → Ended pos b o place (Ok (Full out)) b'

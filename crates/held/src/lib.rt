@@ -54,7 +54,6 @@ impl Held {
 
     // Those headers, from a place in the call's output on.
     pub fn put(self, buf: &mut [u8], pos: usize, place: usize) -> Cursor
-        requires { pos ≤ length buf.old }
         ensures { Emitted (start_at pos place) buf.old (headers_of self.count self.places) result buf.new }
     {
         let mut cursor = Cursor { pos, skip: place };
@@ -66,10 +65,9 @@ impl Held {
 
     // Whether there is room for those headers, two varints, however long, and `more` bytes.
     pub fn has_room(self, size: usize, pos: usize, more: usize) -> bool
-        requires { pos ≤ size }
         ensures { result ≡ leb (length (headers_of self.count self.places) + pair_most + more) (size - pos) }
     {
-        let room = size - pos;
+        let room = size.saturating_sub(pos);
         let head = self.len() + PAIR_MAX;
         if room < head {
             return false;
@@ -93,7 +91,6 @@ impl Held {
         second: u64,
         place: usize,
     ) -> Cursor
-        requires { pos ≤ length buf.old }
         ensures { Emitted (start_at pos place) buf.old (head_of self.count self.places header second) result buf.new }
     {
         let behind = self.put(buf, pos, place);

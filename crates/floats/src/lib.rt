@@ -141,7 +141,6 @@ fn put_fittings<T: Float>(buf: &mut [u8], pos: usize, items: &[T]) -> usize
 // The elements: the rest of the first that is not all out, as many whole ones as there is room for, which go as a block, and what goes of
 // the next.
 pub fn put_floats<T: Float>(cursor: Cursor, buf: &mut [u8], items: &[T]) -> Cursor
-    requires { cursor.pos ≤ length buf.old }
     ensures { Emitted cursor buf.old (each (λ x. low_bytes T.BYTES (T.bits x)) items.now) result buf.new }
 {
     let Cursor { pos, skip } = cursor;
@@ -151,6 +150,9 @@ pub fn put_floats<T: Float>(cursor: Cursor, buf: &mut [u8], items: &[T]) -> Curs
         return Cursor { pos, skip: part };
     }
     let at = put_part(buf, pos, items[whole].bits(), bytes, part);
+    if buf.len() <= at {
+        return Cursor { pos: at, skip: 0 };
+    }
     let next = whole + 1;
     let last = next + ((buf.len() - at) / bytes).min(items.len() - next);
     let end = put_fittings(buf, at, &items[next..last]);

@@ -4,7 +4,7 @@
 
 ghost use Rattle.std.specs.Prelude.{List, ℕ, ◌≡◌, ◌+◌, ◌-◌, ◌*◌, ◌≤◌, ◌<◌, ltb, length};
 ghost use Rattle.layout.specs.Varint.{shortest};
-ghost use Rattle.layout.specs.Field.{Field, unsigned_array, signed_array, each};
+ghost use Rattle.layout.specs.Field.{Field, unsigned_array, signed_array, each, wire_number, t_unsigneds, t_signeds};
 ghost use Rattle.layout.specs.Copy.{field_bytes};
 ghost use Rattle.layout.specs.Limits.{pick};
 ghost use Rattle.layout.specs.Zigzag.{zigzag};
@@ -37,7 +37,7 @@ pub trait Integer: Copy {
 impl Integer for u64 {
     const WIRE: u8 = T_VARINTARRAY_UNSIGNED;
 
-    ghost WIRE = { 3 };
+    ghost WIRE = { wire_number t_unsigneds };
 
     ghost number = { λ x. x };
 
@@ -53,7 +53,7 @@ impl Integer for u64 {
 impl Integer for i64 {
     const WIRE: u8 = T_VARINTARRAY_SIGNED;
 
-    ghost WIRE = { 4 };
+    ghost WIRE = { wire_number t_signeds };
 
     ghost number = { zigzag };
 

@@ -14,6 +14,7 @@ use elements::{Out, evenly_out};
 use emit::{Cursor, put_part};
 use event::{fp32_bits, fp64_bits};
 use low_bytes::put_low;
+use types::{FP32_WORD, FP64_WORD};
 
 // A float of an array, by value or as its bits: how many bytes it takes, the word before them in an array, and those bits. A NaN's are the
 // one pattern that the logic knows.
@@ -41,11 +42,11 @@ pub trait Float: Copy {
 impl Float for u32 {
     const BYTES: usize = 4;
 
-    ghost BYTES = { 4 };
+    ghost BYTES = { bytes_of fp32 };
 
-    const WORD: u64 = 4 * 8;
+    const WORD: u64 = FP32_WORD;
 
-    ghost WORD = { 32 };
+    ghost WORD = { word_number fp32 };
 
     ghost width = { fp32 };
 
@@ -63,11 +64,11 @@ impl Float for u32 {
 impl Float for u64 {
     const BYTES: usize = 8;
 
-    ghost BYTES = { 8 };
+    ghost BYTES = { bytes_of fp64 };
 
-    const WORD: u64 = 8 * 8 + 1;
+    const WORD: u64 = FP64_WORD;
 
-    ghost WORD = { 65 };
+    ghost WORD = { word_number fp64 };
 
     ghost width = { fp64 };
 
@@ -85,11 +86,11 @@ impl Float for u64 {
 impl Float for f32 {
     const BYTES: usize = 4;
 
-    ghost BYTES = { 4 };
+    ghost BYTES = { bytes_of fp32 };
 
-    const WORD: u64 = 4 * 8;
+    const WORD: u64 = FP32_WORD;
 
-    ghost WORD = { 32 };
+    ghost WORD = { word_number fp32 };
 
     ghost width = { fp32 };
 
@@ -107,11 +108,11 @@ impl Float for f32 {
 impl Float for f64 {
     const BYTES: usize = 8;
 
-    ghost BYTES = { 8 };
+    ghost BYTES = { bytes_of fp64 };
 
-    const WORD: u64 = 8 * 8 + 1;
+    const WORD: u64 = FP64_WORD;
 
-    ghost WORD = { 65 };
+    ghost WORD = { word_number fp64 };
 
     ghost width = { fp64 };
 

@@ -20,7 +20,7 @@ use Rattle.at_ease.proofs.AtOnce.{has_room, made-whole, whole}
 -- a varint ends where it should, where there is room for the longest
 module _ (b : List ℕ) (pos v : ℕ) (d : List ℕ) (end n : ℕ) (h : pos + longest base + n ≤ length b) (f : v < 2 ^ base.bits) (w : Puts b pos (shortest v) d end) where
   ends : (end ≡ pos + length (shortest v)) × (length d ≡ length b)
-  ends = let r = w.0 ∙ reached_is b pos (shortest v) in let l = length-longest base v f in (omega arith, same_size b pos (shortest v) d end (omega arith) w)
+  ends = let r = w.0 ∙ reached_is b pos (shortest v) in let l = length-longest base v f in (omega arith, same_size b pos (shortest v) d end w)
 
   fits : end + n ≤ length d
   fits = let (p, q) = ends in let l = length-longest base v f in omega arith
@@ -36,14 +36,14 @@ module _ (b : List ℕ) (pos n header : ℕ) (b1 : List ℕ) (mid : ℕ) (r : ro
   second_fits = let h = second in omega arith
 
   pub pair_made : (s b2 : List ℕ) (end : ℕ) → Puts b1 mid s b2 end → Puts b pos (shortest header ++ s) b2 end
-  pair_made s b2 end g = let h = room in in_a_row b pos (shortest header) b1 mid (omega arith) w s b2 end g
+  pair_made s b2 end g = in_a_row b pos (shortest header) b1 mid w s b2 end g
 
   module _ (v : ℕ) (b2 : List ℕ) (at : ℕ) (g : v < 2 ^ base.bits) (m : Puts b1 mid (shortest v) b2 at) where
     pub rest-fits : at + n ≤ length b2
     rest-fits = fits b1 mid v b2 at n second g m
 
     pub row_made : (u b3 : List ℕ) (end : ℕ) → Puts b2 at u b3 end → Puts b pos (shortest header ++ (shortest v ++ u)) b3 end
-    row_made u b3 end k = let h = second in pair_made (shortest v ++ u) b3 end (in_a_row b1 mid (shortest v) b2 at (omega arith) m u b3 end k)
+    row_made u b3 end k = pair_made (shortest v ++ u) b3 end (in_a_row b1 mid (shortest v) b2 at m u b3 end k)
 
     row_fits : (u : List ℕ) → at + length u ≤ length b2 → pos + length (shortest header ++ (shortest v ++ u)) ≤ length b
     row_fits u k =

@@ -28,7 +28,7 @@ pub fn put_varint_field(
     let Cursor { pos, skip: place } = start;
     if place == 0 && held.has_room(size, pos, 0) {
         let behind = held.put(start, buf);
-        let end = put_pair(buf, behind.pos, [0; LAZY_SEQ_DEPTH], header, value);
+        let end = put_pair(buf, behind.pos, [0; LAZY_SEQ_DEPTH], header, value).unwrap();
         return Ok(Reach::Through(end));
     }
     held.put_head(start, buf, header, value);
@@ -50,7 +50,7 @@ pub fn put_fixlen_field(
     let Cursor { pos, skip: place } = start;
     if place == 0 && held.has_room(size, pos, bytes.len()) {
         let behind = held.put(start, buf);
-        let end = put_field(buf, behind.pos, [0; LAZY_SEQ_DEPTH], header, word, bytes);
+        let end = put_field(buf, behind.pos, [0; LAZY_SEQ_DEPTH], header, word, bytes).unwrap();
         return Ok(Reach::Through(end));
     }
     let head = held.put_head(start, buf, header, word);

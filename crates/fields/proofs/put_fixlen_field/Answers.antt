@@ -13,8 +13,13 @@ use Rattle.held.specs.Headers.{headers_of, head_of}
 use Rattle.at_ease.specs.AtOnce.{pair_most}
 use Rattle.held.proofs.Ends.{ended, ended_as, grouped}
 use Rattle.at_ease.proofs.AtOnce.{clean_zeros}
-use Rattle.fields.proofs.Behind.{behind}
+use Rattle.fields.proofs.Behind.{written, behind}
 use Rattle.fields.proofs.put_fixlen_field.Goals as goal
+
+pub unwrap-end-requires : goal.unwrap-end-requires
+unwrap-end-requires c =
+    let m : length (headers_of c.args.held.count c.args.held.places) + pair_most + length c.args.bytes.now ≤ length c.args.buf.now - c.args.start.pos = leb-true _ _ (sym c.has_room.ensures ∙ c.if-has_room.true) in
+    written c.args.start c.args.buf.now (headers_of c.args.held.count c.args.held.places) (shortest c.args.header ++ (shortest c.args.word ++ c.args.bytes.now)) (length c.args.bytes.now) _ _ _ _ _ c.if-place-eq0.true (omega arith) c.put-behind.ensures clean_zeros c.put_field.ensures
 
 pub returns-then-has_room : goal.returns-then-has_room
 returns-then-has_room c =
@@ -23,7 +28,7 @@ returns-then-has_room c =
     let lw = length-longest base c.args.word c.ranges.word.fits in
     let d = length-append (shortest c.args.header) (shortest c.args.word ++ c.args.bytes.now) in
     let o = length-append (shortest c.args.word) c.args.bytes.now in
-    behind c.args.start c.args.buf.now (headers_of c.args.held.count c.args.held.places) (shortest c.args.header ++ (shortest c.args.word ++ c.args.bytes.now)) (length c.args.bytes.now) _ _ _ _ _ c.if-place-eq0.true (omega arith) (omega arith) c.put-behind.ensures clean_zeros c.put_field-end.ensures
+    behind c.args.start c.args.buf.now (headers_of c.args.held.count c.args.held.places) (shortest c.args.header ++ (shortest c.args.word ++ c.args.bytes.now)) (length c.args.bytes.now) _ _ _ _ _ c.if-place-eq0.true (omega arith) c.put-behind.ensures clean_zeros c.put_field.ensures _ c.unwrap-end.ensures (omega arith)
 
 pub returns : goal.returns
 returns c =

@@ -80,8 +80,7 @@ impl OStream {
         ensures { result_of result buf.new ≡ written (end_call self (length buf.old)) self buf.old place }
     {
         if place == 0 {
-            let end = close_at_once(buf, self.offset, self.nest());
-            if self.offset < end {
+            if let Some(end) = close_at_once(buf, self.offset, self.nest()) {
                 self.depth = self.depth - 1;
                 return self.done(end);
             }

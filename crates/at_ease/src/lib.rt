@@ -75,16 +75,16 @@ pub fn has_room(size: usize, pos: usize, more: usize) -> bool
     more <= size - PAIR_MAX - pos
 }
 
-// The one byte of a close.
-pub fn put_end(buf: &mut [u8], pos: usize, places: [u32; LAZY_SEQ_DEPTH]) -> usize
+// The one byte of a close, where it can be written and no place is in use; where it ends.
+pub fn put_end(buf: &mut [u8], pos: usize, places: [u32; LAZY_SEQ_DEPTH]) -> Option<usize>
     ensures { PutsIf (ltb pos (length buf.old) && clean places) buf.old pos (7 ∷ []) buf.new result }
 {
     if buf.len() <= pos {
-        return pos;
+        return None;
     }
     if !unused_zero(places, 0) {
-        return pos;
+        return None;
     }
     buf[pos] = T_SEQUENCE_END;
-    pos + 1
+    Some(pos + 1)
 }

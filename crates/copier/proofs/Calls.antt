@@ -21,7 +21,6 @@ use Rattle.phase.proofs.Phases.{Live}
 use Rattle.istream.proofs.Calls.{stream_back}
 use Rattle.phase.proofs.Phases.{both}
 use Rattle.putting.specs.Put.{put, reached}
-use Rattle.putting.proofs.Writes.{length-put, reached_le}
 use Rattle.ostream.specs.Stream as writer
 use Rattle.copying.specs.Owed as copying
 use Rattle.copying.specs.Owed.{nothing, owes, rest, further, depth_by, depth_once, agrees}
@@ -138,13 +137,10 @@ module _ (k : Copier) (c b : List ℕ) (end len : ℕ) (b' : List ℕ) (x : Outp
       let f : length (rest (owed_of k.owed k.place)) ≤ length b - k.writer.offset = omega (arith, long) in
       let d = ready_depth k (length b) lv g in
       let q =
-      copy_settles base (copy_of k) c b (ready_within k (length b) g) f ∙ ap (λ (n : ℕ). copy base (settled (copy_of k) n) c (put b k.writer.offset (rest (owed_of k.owed k.place)))) ends
+      copy_settles base (copy_of k) c b f ∙ ap (λ (n : ℕ). copy base (settled (copy_of k) n) c (put b k.writer.offset (rest (owed_of k.owed k.place)))) ends
       ∙ ap (λ (y : List ℕ). copy base (settled (copy_of k) end) c y) puts
       ∙ ap (λ (n : ℕ). copy base (record { reader = state_of k.reader; depth = n; pos = end; owed = nothing }) c b') d in
       ap ended_in q ∙ ran
-
-pub ends-within : (b : List ℕ) (pos end : ℕ) (b' l : List ℕ) → pos ≤ length b → (end ≡ reached b pos l) × (b' ≡ put b pos l) → end ≤ length b'
-ends-within b pos end b' l h (p, q) = subst (λ (y : List ℕ). end ≤ length y) (sym q) (subst (λ (n : ℕ). n ≤ length (put b pos l)) (sym p) (subst (λ (n : ℕ). reached b pos l ≤ n) (sym (length-put b pos l h)) (reached_le b pos l h)))
 
 -- ---- the refusals
 

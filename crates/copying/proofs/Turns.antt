@@ -20,7 +20,7 @@ use Rattle.machine.specs.Calls as calls
 use Rattle.machine.specs.Run.{spot_of}
 use Rattle.machine.proofs.Calls.{FairSpot, fair_walk, weight, light, Closes, closes, scan_is}
 use Rattle.putting.specs.Put.{put, reached}
-use Rattle.putting.proofs.Writes.{length-put, put-none, reached_is}
+use Rattle.putting.proofs.Writes.{same_length, put-none, reached_is}
 use Rattle.copying.specs.Owed.{Owed, nothing, rest, depth_once}
 use Rattle.copying.specs.Copy.{Copy, full, Copied, after, settled, filled, gone, handed, stuck, heard, fits, all_of, copies, turns_for, copy}
 
@@ -299,12 +299,12 @@ pub copy_full : (L : Limits) (k : Copy) (c b : List ℕ) → length b - k.pos < 
 copy_full L k c b h = copy_is L k c b ∙ turn_full L (turns_for c - 1) k c b h
 
 -- What is owed fits: the call goes on as one that finds it out.
-pub copy_settles : (L : Limits) (k : Copy) (c b : List ℕ) → k.pos ≤ length b → length (rest k.owed) ≤ length b - k.pos
+pub copy_settles : (L : Limits) (k : Copy) (c b : List ℕ) → length (rest k.owed) ≤ length b - k.pos
     → copy L k c b ≡ copy L (settled k (reached b k.pos (rest k.owed))) c (put b k.pos (rest k.owed))
-copy_settles L k c b p h =
+copy_settles L k c b h =
     let pos = reached b k.pos (rest k.owed) in
     let d = put b k.pos (rest k.owed) in
-    let n : length d ≡ length b = length-put b k.pos (rest k.owed) p in
+    let n : length d ≡ length b = same_length b k.pos (rest k.owed) in
     copy_is L k c b ∙ turn_goes L (turns_for c - 1) k c b h
     ∙ ap (λ (m : ℕ). goes L (turns_for c - 1) (m - pos) (settled k pos) c d) (sym n)
     ∙ sym (turn_free L (turns_for c - 1) (settled k pos) c d refl)

@@ -117,7 +117,7 @@ one_event L s d a e s' r pos c b h =
     copy-turn L k (a ++ c) b r.fair refl (not_stuck s room a c r.moves (omega arith))
     ∙ ap (λ (x : Called). heard k (a ++ c) b x (λ e. copy L (gone k x.state (all_of s e)) (drop x.read (a ++ c)) b)) q
     ∙ ap (λ (l : List ℕ). after (length a) (copy L o l b)) (drop-append_seam a c)
-    ∙ ap (after (length a)) (copy_settles L o c b (omega arith) (omega arith))
+    ∙ ap (after (length a)) (copy_settles L o c b (omega arith))
     ∙ ap (λ (l : List ℕ). after (length a) (copy L (settled o (reached b pos l)) c (put b pos l))) out
     ∙ ap (λ (p : ℕ). after (length a) (copy L (settled o p) c (put b pos a))) (put_all b pos a h)
 

@@ -17,8 +17,8 @@ use Rattle.layout.specs.Field.{each}
 use Rattle.varint.proofs.Shortest.{drop-shortest, length-longest, length_some}
 use Rattle.varint.proofs.Digits.{pow128}
 use Rattle.emit.specs.declared.Cursor.{Cursor}
-use Rattle.putting.specs.Put.{reached, Puts}
-use Rattle.putting.proofs.Writes.{reached_is, reached_le}
+use Rattle.putting.specs.Put.{Puts}
+use Rattle.putting.proofs.Writes.{reached_is}
 use Rattle.putting.proofs.Turns.{Left, start, none_left, no_room, followed, followed_by, same_size}
 use Rattle.emit.proofs.Segments.{some_left}
 use Rattle.emit.specs.Cursor.{Emitted}
@@ -115,54 +115,42 @@ module _ {A : Type 0} (f : A → List ℕ) (l : List A) where
 -- ---- one element more, less the bytes of it that are out
 
 module _ {A : Type 0} (f : A → List ℕ) (l : List A) (b : List ℕ) (pos : ℕ) (o d : List ℕ) (at i : ℕ) where
-  left_next : (part : ℕ) (x : A) (s d' : List ℕ) (end : ℕ) → Left b pos o d at (drop part (each f (drop i l))) → at ≤ length d → i < length l → part ≤ length (f (get_or l i x)) → s ≡ drop part (f (get_or l i x))
-      → Puts d at s d' end → Left b pos o d' end (each f (drop (i + 1) l)) × (end ≤ length d')
-  left_next part x s d' end w h k j q g =
+  left_next : (part : ℕ) (x : A) (s d' : List ℕ) (end : ℕ) → Left b pos o d at (drop part (each f (drop i l))) → i < length l → part ≤ length (f (get_or l i x)) → s ≡ drop part (f (get_or l i x))
+      → Puts d at s d' end → Left b pos o d' end (each f (drop (i + 1) l))
+  left_next part x s d' end w k j q g =
       let e : drop part (each f (drop i l)) ≡ s ++ each f (drop (i + 1) l) = ap (drop part) (each_at f l i x k) ∙ drop-append-le part (f (get_or l i x)) (each f (drop (i + 1) l)) j ∙ ap (λ (u : List ℕ). u ++ each f (drop (i + 1) l)) (sym q) in
-      let m = followed_by b pos o d at s (each f (drop (i + 1) l)) d' end (subst (λ (u : List ℕ). Left b pos o d at u) e w) h g in
-      let r : reached d at s ≤ length d = reached_le d at s h in
-      let v : end ≡ reached d at s = g.0 in
-      let y : length d ≡ length b = w.size in
-      let z : length d' ≡ length b = m.size in
-      (m, omega arith)
+      followed_by b pos o d at s (each f (drop (i + 1) l)) d' end (subst (λ (u : List ℕ). Left b pos o d at u) e w) g
 
 -- ---- the loop that writes: the elements of l from the i-th on are left to write
 
-pub record Going {A : Type 0} (f : A → List ℕ) (l : List A) (b : List ℕ) (pos : ℕ) (d : List ℕ) (at i : ℕ) : Type 0 where
-  pub left : Left b pos (each f l) d at (each f (drop i l))
-  pub inside : at ≤ length d
+abbrev pub Going : {A : Type 0} → (A → List ℕ) → List A → List ℕ → ℕ → List ℕ → ℕ → ℕ → Type 0
+Going f l b pos d at i = Left b pos (each f l) d at (each f (drop i l))
 
-module _ {A : Type 0} (f : A → List ℕ) (l : List A) (b : List ℕ) (pos : ℕ) where
-  pub going_start : pos ≤ length b → Going f l b pos b pos 0
-  going_start h = record { left = start b pos (each f l); inside = h }
+module _ {A : Type 0} (f : A → List ℕ) (l : List A) (b : List ℕ) (pos : ℕ) (d : List ℕ) (at i : ℕ) (w : Going f l b pos d at i) where
+  pub going_next : (x : A) (s d' : List ℕ) (end : ℕ) → i < length l → s ≡ f (get_or l i x) → Puts d at s d' end → Going f l b pos d' end (i + 1)
+  going_next x s d' end h q g = left_next f l b pos (each f l) d at i 0 x s d' end w h (omega arith) q g
 
-  module _ (d : List ℕ) (at i : ℕ) (w : Going f l b pos d at i) where
-    pub going_next : (x : A) (s d' : List ℕ) (end : ℕ) → i < length l → s ≡ f (get_or l i x) → Puts d at s d' end → Going f l b pos d' end (i + 1)
-    going_next x s d' end h q g = let (m, t) = left_next f l b pos (each f l) d at i 0 x s d' end w.left w.inside h (omega arith) q g in record { left = m; inside = t }
+  pub going_end : length l ≤ i → Puts b pos (each f l) d at
+  going_end h = none_left b pos (each f l) d at (each f (drop i l)) w (ap length (each_end f l i h))
 
-    pub going_end : length l ≤ i → Puts b pos (each f l) d at
-    going_end h = none_left b pos (each f l) d at (each f (drop i l)) w.left (ap length (each_end f l i h))
-
-    pub going_full : length d ≤ at → Puts b pos (each f l) d at
-    going_full h = no_room b pos (each f l) d at (each f (drop i l)) w.left h
+  pub going_full : length d ≤ at → Puts b pos (each f l) d at
+  going_full h = no_room b pos (each f l) d at (each f (drop i l)) w h
 
 -- ---- that loop from a place on, where the first `part` bytes of the i-th are out
 
 pub record Resumed {A : Type 0} (f : A → List ℕ) (l : List A) (c : Cursor) (b d : List ℕ) (at i part : ℕ) : Type 0 where
   pub left : Left b c.pos (drop c.skip (each f l)) d at (drop part (each f (drop i l)))
-  pub inside : at ≤ length d
   pub short : (x : A) → i < length l → part < length (f (get_or l i x))
   pub rest : part - length (each f (drop i l)) ≡ c.skip - length (each f l)
 
 module _ {A : Type 0} (f : A → List ℕ) (l : List A) (c : Cursor) (b : List ℕ) where
-  pub resumed_start : (whole part : ℕ) → c.pos ≤ length b → OutAfter f l c.skip whole part → Resumed f l c b b c.pos whole part
-  resumed_start whole part h w =
+  pub resumed_start : (whole part : ℕ) → OutAfter f l c.skip whole part → Resumed f l c b b c.pos whole part
+  resumed_start whole part w =
       let s : length (each f (take whole l)) + part ≡ c.skip = w.sum in
       let a = half_lengths f l whole in
       let e : drop c.skip (each f l) ≡ drop part (each f (drop whole l)) = ap (λ (k : ℕ). drop k (each f l)) (sym s) ∙ ap (drop (length (each f (take whole l)) + part)) (halves f l whole) ∙ drop-append-add (each f (take whole l)) (each f (drop whole l)) part in
       record {
         left = subst (λ (t : List ℕ). Left b c.pos (drop c.skip (each f l)) b c.pos t) e (start b c.pos (drop c.skip (each f l)));
-        inside = h;
         short = w.short;
         rest = omega arith;
       }
@@ -171,10 +159,10 @@ module _ {A : Type 0} (f : A → List ℕ) (l : List A) (c : Cursor) (b : List �
     pub resumed_next : ((x : A) → 1 ≤ length (f x)) → (x : A) (s d' : List ℕ) (end : ℕ) → i < length l → s ≡ drop part (f (get_or l i x)) → Puts d at s d' end → Resumed f l c b d' end (i + 1) 0
     resumed_next some x s d' end h q g =
         let k = w.short x h in
-        let (m, t) = left_next f l b c.pos _ d at i part x s d' end w.left w.inside h (omega arith) q g in
+        let m = left_next f l b c.pos _ d at i part x s d' end w.left h (omega arith) q g in
         let n = from_here f l i x h in
         let o : part - length (each f (drop i l)) ≡ c.skip - length (each f l) = w.rest in
-        record { left = m; inside = t; short = λ u j. some (get_or l (i + 1) u); rest = omega arith }
+        record { left = m; short = λ u j. some (get_or l (i + 1) u); rest = omega arith }
 
     whole : Puts b c.pos (drop c.skip (each f l)) d at → (n : ℕ) → n ≡ c.skip - length (each f l) → Emitted c b (each f l) (record { pos = at; skip = n }) d
     whole (p, q) n e = some_left c b (each f l) _ at n d e refl p q
@@ -199,22 +187,17 @@ module _ {A : Type 0} (f : A → List ℕ) (l : List A) (c : Cursor) (b : List �
     resumed_run some n d' end g =
         let s : List ℕ = each f (take n (drop i l)) in
         let e : each f (drop i l) ≡ s ++ each f (drop (i + n) l) = halves f (drop i l) n ∙ ap (λ (u : List A). s ++ each f u) (drop-drop n i l) in
-        let m = followed_by b c.pos _ d at s (each f (drop (i + n) l)) d' end (subst (λ (u : List ℕ). Left b c.pos (drop c.skip (each f l)) d at u) e w.left) w.inside g in
-        let r : reached d at s ≤ length d = reached_le d at s w.inside in
-        let v : end ≡ reached d at s = g.0 in
-        let y : length d ≡ length b = w.left.size in
-        let z : length d' ≡ length b = m.size in
+        let m = followed_by b c.pos _ d at s (each f (drop (i + n) l)) d' end (subst (λ (u : List ℕ). Left b c.pos (drop c.skip (each f l)) d at u) e w.left) g in
         let o : 0 - length (each f (drop i l)) ≡ c.skip - length (each f l) = w.rest in
-        record { left = m; inside = omega arith; short = λ u j. some (get_or l (i + n) u); rest = omega arith }
+        record { left = m; short = λ u j. some (get_or l (i + n) u); rest = omega arith }
 
     -- as many of k bytes each as there is room for: they fit, and where others follow there is no room for one of those
-    module _ (k : ℕ) (j : 0 < k) (e : (x : A) → length (f x) ≡ k) (n : ℕ) (q : n ≡ min ((length d - at) / k) (length l - i)) where
+    module _ (inside : at ≤ length d) (k : ℕ) (j : 0 < k) (e : (x : A) → length (f x) ≡ k) (n : ℕ) (q : n ≡ min ((length d - at) / k) (length l - i)) where
       many : length (take n (drop i l)) ≡ n
       many = length-take-le n (drop i l) (let a = length-drop i l in omega arith)
 
       pub run_fits : at + k * length (take n (drop i l)) ≤ length d
       run_fits =
-          let h : at ≤ length d = w.inside in
           let a = div-add-mod' (length d - at) k in
           let m : n * k ≤ (length d - at) / k * k = mul-le-mul_right k (omega arith) in
           let t : k * length (take n (drop i l)) ≡ n * k = ap (λ (y : ℕ). k * y) many ∙ mul_comm k n in
@@ -222,32 +205,31 @@ module _ {A : Type 0} (f : A → List ℕ) (l : List A) (c : Cursor) (b : List �
 
       pub run_ends : i + n < length l → (d' : List ℕ) (end : ℕ) → Puts d at (each f (take n (drop i l))) d' end → length d' ≤ end + k
       run_ends h d' end g =
-          let u : at ≤ length d = w.inside in
           let a = div-add-mod' (length d - at) k in
           let b = mod-lt (length d - at) j in
           let p : n ≡ (length d - at) / k = omega arith in
           let t : n * k ≡ (length d - at) / k * k = ap (λ (y : ℕ). y * k) p in
           let c = length-each f k e (take n (drop i l)) ∙ ap (λ (y : ℕ). y * k) many in
           let r : end ≡ at + min (length (each f (take n (drop i l)))) (length d - at) = g.0 ∙ reached_is d at _ in
-          let z = same_size d at _ d' end u g in
+          let z = same_size d at _ d' end g in
           omega arith
 
-    -- one more, in which the buffer ends
-    pub resumed_last : ((x : A) → 1 ≤ length (f x)) → (k : ℕ) → ((x : A) → length (f x) ≡ k) → (x : A) (s d' : List ℕ) (end : ℕ) → i < length l → s ≡ f (get_or l i x) → length d ≤ at + k → Puts d at s d' end → Emitted c b (each f l) (record { pos = end; skip = 0 }) d'
-    resumed_last some k j x s d' end h q m g = go (leb (length l) (i + 1)) refl
+    -- the buffer ends here
+    pub resumed_stop : length d ≤ at → Emitted c b (each f l) (record { pos = at; skip = 0 }) d
+    resumed_stop h = go (leb (length l) i) refl
       where
-        n : Resumed f l c b d' end (i + 1) 0
-        n = resumed_next d at i 0 w some x s d' end h q g
+        go : (t : Bool) → leb (length l) i ≡ t → Emitted c b (each f l) (record { pos = at; skip = 0 }) d
+        go true e = resumed_end d at i 0 w (leb-true _ _ e)
+        go false e = resumed_full d at i 0 w (leb-false _ _ e) h
 
-        go : (t : Bool) → leb (length l) (i + 1) ≡ t → Emitted c b (each f l) (record { pos = end; skip = 0 }) d'
-        go true e = resumed_end d' end (i + 1) 0 n (leb-true _ _ e)
-        go false e =
-            let r : end ≡ at + min (length s) (length d - at) = g.0 ∙ reached_is d at s in
-            let y : length d ≡ length b = w.left.size in
-            let z : length d' ≡ length b = n.left.size in
-            let p : at ≤ length d = w.inside in
-            let u : length s ≡ k = ap length q ∙ j (get_or l i x) in
-            resumed_full d' end (i + 1) 0 n (leb-false _ _ e) (omega arith)
+  -- one more, in which the buffer ends
+  pub resumed_last : (d : List ℕ) (at i : ℕ) → Resumed f l c b d at i 0 → ((x : A) → 1 ≤ length (f x)) → (k : ℕ) → ((x : A) → length (f x) ≡ k) → (x : A) (s d' : List ℕ) (end : ℕ) → i < length l
+      → s ≡ f (get_or l i x) → length d ≤ at + k → Puts d at s d' end → Emitted c b (each f l) (record { pos = end; skip = 0 }) d'
+  resumed_last d at i w some k j x s d' end h q m g =
+      let r : end ≡ at + min (length s) (length d - at) = g.0 ∙ reached_is d at s in
+      let z = same_size d at s d' end g in
+      let u : length s ≡ k = ap length q ∙ j (get_or l i x) in
+      resumed_stop d' end (i + 1) (resumed_next d at i 0 w some x s d' end h q g) (omega arith)
 
   -- what is left goes by another loop
   pub resumed_went : (d : List ℕ) (at i : ℕ) → Resumed f l c b d at i 0 → (d' : List ℕ) (end : ℕ) → Puts d at (each f (drop i l)) d' end → Emitted c b (each f l) (record { pos = end; skip = 0 }) d'
@@ -265,7 +247,7 @@ module _ {A : Type 0} (number : A → ℕ) (l : List A) (c : Cursor) (b : List �
   pub head_bits : n < 2 ^ 64 → part * 7 < 64
   head_bits h = let k = head_short in let m = length-longest base n h in omega arith
 
-  pub head_out : c.pos ≤ length b → (d : List ℕ) (end : ℕ) → Puts b c.pos (shortest (n / 2 ^ (part * 7))) d end → Resumed (λ x. shortest (number x)) l c b d end (whole + 1) 0
-  head_out h d end g =
+  pub head_out : (d : List ℕ) (end : ℕ) → Puts b c.pos (shortest (n / 2 ^ (part * 7))) d end → Resumed (λ x. shortest (number x)) l c b d end (whole + 1) 0
+  head_out d end g =
       let s : shortest (n / 2 ^ (part * 7)) ≡ drop part (shortest (number (get_or l whole x))) = sym (drop_shifted part n head_short) ∙ ap (λ (v : ℕ). drop part (shortest v)) e in
-      resumed_next (λ x. shortest (number x)) l c b b c.pos whole part (resumed_start (λ x. shortest (number x)) l c b whole part h w) (λ y. length_some (number y)) x _ d end i s g
+      resumed_next (λ x. shortest (number x)) l c b b c.pos whole part (resumed_start (λ x. shortest (number x)) l c b whole part w) (λ y. length_some (number y)) x _ d end i s g

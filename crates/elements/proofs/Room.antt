@@ -44,7 +44,7 @@ module _ {A : Type 0} (f : A → List ℕ) (m : ℕ) (l : List A) (b : List ℕ)
         let c : length (each f (drop i l)) ≡ length (s ++ each f (drop (i + 1) l)) = ap length e in
         let p : at + length (each f (drop i l)) ≡ pos + length (each f l) = w.sums in
         record {
-          left = followed_by b pos (each f l) d at s _ d' end (subst (λ (k : List ℕ). Left b pos (each f l) d at k) e w.left) (omega arith) g;
+          left = followed_by b pos (each f l) d at s _ d' end (subst (λ (k : List ℕ). Left b pos (each f l) d at k) e w.left) g;
           room = omega arith;
           sums = omega arith;
         }

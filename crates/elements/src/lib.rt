@@ -4,7 +4,7 @@
 
 ghost use Rattle.std.specs.Prelude.{List, ℕ, ◌≡◌, ◌+◌, ◌-◌, ◌*◌, ◌≤◌, ◌<◌, ltb, length};
 ghost use Rattle.layout.specs.Varint.{shortest};
-ghost use Rattle.layout.specs.Field.{Field, unsigned_array, signed_array, each};
+ghost use Rattle.layout.specs.Field.{Field, unsigned_array, signed_array, each, wire_number, t_unsigneds, t_signeds};
 ghost use Rattle.layout.specs.Copy.{field_bytes};
 ghost use Rattle.layout.specs.Limits.{pick};
 ghost use Rattle.layout.specs.Zigzag.{zigzag};
@@ -37,7 +37,7 @@ pub trait Integer: Copy {
 impl Integer for u64 {
     const WIRE: u8 = T_VARINTARRAY_UNSIGNED;
 
-    ghost WIRE = { 3 };
+    ghost WIRE = { wire_number t_unsigneds };
 
     ghost number = { λ x. x };
 
@@ -53,7 +53,7 @@ impl Integer for u64 {
 impl Integer for i64 {
     const WIRE: u8 = T_VARINTARRAY_SIGNED;
 
-    ghost WIRE = { 4 };
+    ghost WIRE = { wire_number t_signeds };
 
     ghost number = { zigzag };
 
@@ -96,10 +96,9 @@ pub fn put_fittings<T: Integer>(buf: &mut [u8], pos: usize, items: &[T]) -> usiz
 
 // The varint of v from pos on, with a test for the buffer's end at each byte only where it is near.
 fn put_next(buf: &mut [u8], pos: usize, v: u64) -> usize
-    requires { pos ≤ length buf.old }
     ensures { Puts buf.old pos (shortest v) buf.new result }
 {
-    if VARINT_MAX <= buf.len() - pos {
+    if VARINT_MAX <= buf.len().saturating_sub(pos) {
         return put_fitting(buf, pos, v);
     }
     put_whole(buf, pos, v)
@@ -139,7 +138,6 @@ pub fn counted(out: Out, n: usize, most: usize) -> usize
 
 // The elements' varints until the buffer is full.
 fn put_until_full<T: Integer>(buf: &mut [u8], pos: usize, items: &[T]) -> usize
-    requires { pos ≤ length buf.old }
     ensures { Puts buf.old pos (each (λ x. shortest (T.number x)) items.now) buf.new result }
 {
     let mut at = pos;
@@ -154,7 +152,6 @@ fn put_until_full<T: Integer>(buf: &mut [u8], pos: usize, items: &[T]) -> usize
 
 // The elements' varints, from the first byte on that is not out.
 pub fn put_varints<T: Integer>(cursor: Cursor, buf: &mut [u8], items: &[T]) -> Cursor
-    requires { cursor.pos ≤ length buf.old }
     ensures { Emitted cursor buf.old (each (λ x. shortest (T.number x)) items.now) result buf.new }
 {
     let Cursor { pos, skip } = cursor;

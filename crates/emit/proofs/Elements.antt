@@ -9,7 +9,7 @@ use lib.ListN.{length, drop, get_or, length-append, drop_of_length-le}
 use lib.Seq.{drop-cons}
 use Rattle.layout.specs.Field.{each}
 use Rattle.emit.specs.declared.Cursor.{Cursor}
-use Rattle.emit.proofs.Segments.{none_left, joined, stays_in}
+use Rattle.emit.proofs.Segments.{none_left, joined}
 use Rattle.emit.specs.Cursor.{Emitted}
 
 -- ---- the bytes of a list's elements
@@ -57,26 +57,18 @@ module _ {A : Type 0} (f : A → List ℕ) (m : ℕ) (l : List A) where
 
 -- ---- what is owed: s, from c and b on, comes to the same as o from c₀ and b₀ on
 
-pub record Owing (c₀ : Cursor) (b₀ o : List ℕ) (c : Cursor) (b s : List ℕ) : Type 0 where
-  pub inside : c.pos ≤ length b
-  pub size : length b ≡ length b₀
-  pub whole : (c' : Cursor) (b' : List ℕ) → Emitted c b s c' b' → Emitted c₀ b₀ o c' b'
+abbrev pub Owing : Cursor → List ℕ → List ℕ → Cursor → List ℕ → List ℕ → Type 0
+Owing c₀ b₀ o c b s = (c' : Cursor) (b' : List ℕ) → Emitted c b s c' b' → Emitted c₀ b₀ o c' b'
 
-pub owing_start : (c : Cursor) (b o : List ℕ) → c.pos ≤ length b → Owing c b o c b o
-owing_start c b o h = record { inside = h; size = refl; whole = λ c' b' e. e }
+pub owing_start : (c : Cursor) (b o : List ℕ) → Owing c b o c b o
+owing_start c b o c' b' e = e
 
 module _ (c₀ : Cursor) (b₀ o : List ℕ) (c : Cursor) (b s : List ℕ) (w : Owing c₀ b₀ o c b s) where
   pub owing_next : (x t : List ℕ) (c1 : Cursor) (b1 : List ℕ) → s ≡ x ++ t → Emitted c b x c1 b1 → Owing c₀ b₀ o c1 b1 t
-  owing_next x t c1 b1 e h =
-      let i = stays_in c b x c1 b1 w.inside h in
-      record {
-        inside = i.0;
-        size = i.1 ∙ w.size;
-        whole = λ c' b' g. w.whole c' b' (subst (λ (l : List ℕ). Emitted c b l c' b') (sym e) (joined c b x c1 b1 t c' b' w.inside h g));
-      }
+  owing_next x t c1 b1 e h c' b' g = w c' b' (subst (λ (l : List ℕ). Emitted c b l c' b') (sym e) (joined c b x c1 b1 t c' b' h g))
 
   pub owing_end : s ≡ [] → Emitted c₀ b₀ o c b
-  owing_end e = w.whole c b (subst (λ (l : List ℕ). Emitted c b l c b) (sym e) (nothing c b))
+  owing_end e = w c b (subst (λ (l : List ℕ). Emitted c b l c b) (sym e) (nothing c b))
     where
       nothing : (c : Cursor) (b : List ℕ) → Emitted c b [] c b
       nothing c b = none_left c b [] c.skip (omega arith) (omega arith)

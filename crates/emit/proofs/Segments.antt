@@ -7,7 +7,6 @@ use lib.ListN.{length, drop, length-append}
 use Rattle.emit.specs.declared.Cursor.{Cursor}
 use Rattle.putting.specs.Put.{put, reached}
 use Rattle.emit.specs.Cursor.{placed, moved, Emitted}
-use Rattle.putting.proofs.Writes.{reached_le, length-put}
 use Rattle.putting.proofs.Places.{same_where_out, stays_where_out, put_from_twice, reached_from_twice}
 
 -- ---- one segment
@@ -36,38 +35,22 @@ none_left c b s n e h = (cursor_as _ _ _ _ (sym (stays_where_out b c.pos c.skip 
 
 -- ---- segments in a row
 
-module _ (c : Cursor) (b s : List ℕ) (h : c.pos ≤ length b) where
-  pub length-placed : length (placed c b s) ≡ length b
-  unfolding placed
-  length-placed = length-put b c.pos (drop c.skip s) h
-
-  pub moved_le : (moved c b s).pos ≤ length (placed c b s)
+module _ (c : Cursor) (b s t : List ℕ) where
+  moved-moved : moved (moved c b s) (placed c b s) t ≡ moved c b (s ++ t)
   unfolding moved placed
-  moved_le = let r = reached_le b c.pos (drop c.skip s) h in let l = length-put b c.pos (drop c.skip s) h in omega arith
+  moved-moved = cursor_as _ _ _ _ (reached_from_twice b c.pos c.skip s t) (omega (arith, length-append s t))
 
-  pub moved-moved : (t : List ℕ) → moved (moved c b s) (placed c b s) t ≡ moved c b (s ++ t)
+  placed-placed : placed (moved c b s) (placed c b s) t ≡ placed c b (s ++ t)
   unfolding moved placed
-  moved-moved t = cursor_as _ _ _ _ (reached_from_twice b c.pos c.skip s h t) (omega (arith, length-append s t))
-
-  pub placed-placed : (t : List ℕ) → placed (moved c b s) (placed c b s) t ≡ placed c b (s ++ t)
-  unfolding moved placed
-  placed-placed t = put_from_twice b c.pos c.skip s h t
+  placed-placed = put_from_twice b c.pos c.skip s t
 
 -- two segments are one, by what calls answer: c1 and b1 after s, c2 and b2 after t
-pub joined : (c : Cursor) (b s : List ℕ) (c1 : Cursor) (b1 t : List ℕ) (c2 : Cursor) (b2 : List ℕ) → c.pos ≤ length b → Emitted c b s c1 b1 → Emitted c1 b1 t c2 b2
-    → Emitted c b (s ++ t) c2 b2
-joined c b s c1 b1 t c2 b2 h (e, f) (g, k) = (
-  g ∙ ap (λ (d : Cursor). moved d b1 t) e ∙ ap (λ (l : List ℕ). moved (moved c b s) l t) f ∙ moved-moved c b s h t,
-  k ∙ ap (λ (d : Cursor). placed d b1 t) e ∙ ap (λ (l : List ℕ). placed (moved c b s) l t) f ∙ placed-placed c b s h t,
+pub joined : (c : Cursor) (b s : List ℕ) (c1 : Cursor) (b1 t : List ℕ) (c2 : Cursor) (b2 : List ℕ) → Emitted c b s c1 b1 → Emitted c1 b1 t c2 b2 → Emitted c b (s ++ t) c2 b2
+joined c b s c1 b1 t c2 b2 (e, f) (g, k) = (
+  g ∙ ap (λ (d : Cursor). moved d b1 t) e ∙ ap (λ (l : List ℕ). moved (moved c b s) l t) f ∙ moved-moved c b s t,
+  k ∙ ap (λ (d : Cursor). placed d b1 t) e ∙ ap (λ (l : List ℕ). placed (moved c b s) l t) f ∙ placed-placed c b s t,
 )
 
-pub stays_in : (c : Cursor) (b s : List ℕ) (c1 : Cursor) (b1 : List ℕ) → c.pos ≤ length b → Emitted c b s c1 b1 → (c1.pos ≤ length b1) × (length b1 ≡ length b)
-stays_in c b s c1 b1 h (e, f) = (
-  subst (λ (d : Cursor). d.pos ≤ length b1) (sym e) (subst (λ (l : List ℕ). (moved c b s).pos ≤ length l) (sym f) (moved_le c b s h)),
-  ap length f ∙ length-placed c b s h,
-)
-
-pub joined-three : (c : Cursor) (b s : List ℕ) (c1 : Cursor) (b1 t : List ℕ) (c2 : Cursor) (b2 u : List ℕ) (c3 : Cursor) (b3 : List ℕ) → c.pos ≤ length b → Emitted c b s c1 b1
+pub joined-three : (c : Cursor) (b s : List ℕ) (c1 : Cursor) (b1 t : List ℕ) (c2 : Cursor) (b2 u : List ℕ) (c3 : Cursor) (b3 : List ℕ) → Emitted c b s c1 b1
     → Emitted c1 b1 t c2 b2 → Emitted c2 b2 u c3 b3 → Emitted c b (s ++ (t ++ u)) c3 b3
-joined-three c b s c1 b1 t c2 b2 u c3 b3 h e f g =
-    joined c b s c1 b1 (t ++ u) c3 b3 h e (joined c1 b1 t c2 b2 u c3 b3 (stays_in c b s c1 b1 h e).0 f g)
+joined-three c b s c1 b1 t c2 b2 u c3 b3 e f g = joined c b s c1 b1 (t ++ u) c3 b3 e (joined c1 b1 t c2 b2 u c3 b3 f g)

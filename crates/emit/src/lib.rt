@@ -115,29 +115,10 @@ impl Cursor {
     pub fn put_bytes(self, buf: &mut [u8], bytes: &[u8]) -> Cursor
         ensures { Emitted self buf.old bytes.now result buf.new }
     {
-        let pos = self.pos;
-        let skip = self.skip;
-        let end = put_rest(buf, pos, bytes, skip);
-        if bytes.len() < skip {
-            return Cursor {
-                pos: end,
-                skip: skip - bytes.len(),
-            };
+        let Cursor { pos, skip } = self;
+        Cursor {
+            pos: put_rest(buf, pos, bytes, skip),
+            skip: skip.saturating_sub(bytes.len()),
         }
-        Cursor { pos: end, skip: 0 }
-    }
-
-    // A float of 32 bits.
-    pub fn put_fp32(self, buf: &mut [u8], bits: u32) -> Cursor
-        ensures { Emitted self buf.old (low_bytes 4 bits) result buf.new }
-    {
-        self.put_bytes(buf, &bits.to_le_bytes())
-    }
-
-    // A float of 64 bits.
-    pub fn put_fp64(self, buf: &mut [u8], bits: u64) -> Cursor
-        ensures { Emitted self buf.old (low_bytes 8 bits) result buf.new }
-    {
-        self.put_bytes(buf, &bits.to_le_bytes())
     }
 }

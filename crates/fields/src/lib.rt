@@ -1,12 +1,13 @@
 // A field of one varint or of fixed length, and the markers of a sequence, from any place on and behind the headers that are held back.
 #![tactic(auto)]
 
-ghost use Rattle.std.specs.Prelude.{◌≡◌, ◌++◌, ◌≤◌, length};
+ghost use Rattle.std.specs.Prelude.{◌≡◌, ◌++◌};
 ghost use Rattle.layout.specs.Varint.{shortest};
 ghost use Rattle.layout.specs.Field.{low_bytes, end};
 ghost use Rattle.layout.specs.Copy.{field_bytes};
 ghost use Rattle.held.specs.Headers.{headers_of, head_of, Ended};
 
+use emit::Cursor;
 use held::{Held, tagged};
 use outcomes::{Reach, finish};
 use types::{Error, LAZY_SEQ_DEPTH, T_SEQUENCE_END};
@@ -15,74 +16,65 @@ use write_at_once::{put_field, put_pair};
 
 // The held headers, a header and one varint: where there is room for the longest that they can be, at once.
 pub fn put_varint_field(
+    start: Cursor,
     buf: &mut [u8],
-    pos: usize,
     held: Held,
     header: u64,
     value: u64,
-    place: usize,
 ) -> Result<Reach, Error>
-    requires { pos ≤ length buf.old }
-    ensures { Ended pos buf.old (head_of held.count held.places header value) place result buf.new }
+    ensures { Ended start.pos buf.old (head_of held.count held.places header value) start.skip result buf.new }
 {
     let size = buf.len();
+    let Cursor { pos, skip: place } = start;
     if place == 0 && held.has_room(size, pos, 0) {
-        let behind = held.put(buf, pos, 0);
-        let end = put_pair(buf, behind.pos, [0; LAZY_SEQ_DEPTH], header, value);
+        let behind = held.put(start, buf);
+        let end = put_pair(buf, behind.pos, [0; LAZY_SEQ_DEPTH], header, value).unwrap();
         return Ok(Reach::Through(end));
     }
-    held.put_head(buf, pos, header, value, place);
+    held.put_head(start, buf, header, value);
     finish(pos, size, held.head_len(header, value), place)
 }
 
 // The held headers, a header, a word and bytes, likewise.
 pub fn put_fixlen_field(
+    start: Cursor,
     buf: &mut [u8],
-    pos: usize,
     held: Held,
     header: u64,
     word: u64,
     bytes: &[u8],
-    place: usize,
 ) -> Result<Reach, Error>
-    requires { pos ≤ length buf.old }
-    ensures { Ended pos buf.old (headers_of held.count held.places ++ (shortest header ++ (shortest word ++ bytes.now))) place result buf.new }
+    ensures { Ended start.pos buf.old (headers_of held.count held.places ++ (shortest header ++ (shortest word ++ bytes.now))) start.skip result buf.new }
 {
     let size = buf.len();
+    let Cursor { pos, skip: place } = start;
     if place == 0 && held.has_room(size, pos, bytes.len()) {
-        let behind = held.put(buf, pos, 0);
-        let end = put_field(buf, behind.pos, [0; LAZY_SEQ_DEPTH], header, word, bytes);
+        let behind = held.put(start, buf);
+        let end = put_field(buf, behind.pos, [0; LAZY_SEQ_DEPTH], header, word, bytes).unwrap();
         return Ok(Reach::Through(end));
     }
-    let head = held.put_head(buf, pos, header, word, place);
+    let head = held.put_head(start, buf, header, word);
     head.put_bytes(buf, bytes);
     let total = held.head_len(header, word) + bytes.len();
     finish(pos, size, total, place)
 }
 
 // The held headers and one more.
-pub fn put_marker(
-    buf: &mut [u8],
-    pos: usize,
-    held: Held,
-    header: u64,
-    place: usize,
-) -> Result<Reach, Error>
-    requires { pos ≤ length buf.old }
-    ensures { Ended pos buf.old (headers_of held.count held.places ++ shortest header) place result buf.new }
+pub fn put_marker(start: Cursor, buf: &mut [u8], held: Held, header: u64) -> Result<Reach, Error>
+    ensures { Ended start.pos buf.old (headers_of held.count held.places ++ shortest header) start.skip result buf.new }
 {
     let size = buf.len();
-    let behind = held.put(buf, pos, place);
+    let behind = held.put(start, buf);
     behind.put_varint(buf, header);
-    finish(pos, size, held.len() + varint_len(header), place)
+    let total = held.len() + varint_len(header);
+    finish(start.pos, size, total, start.skip)
 }
 
 // The held headers and a close, whose id is 0.
-pub fn put_close(buf: &mut [u8], pos: usize, held: Held, place: usize) -> Result<Reach, Error>
-    requires { pos ≤ length buf.old }
-    ensures { Ended pos buf.old (headers_of held.count held.places ++ field_bytes (end 0)) place result buf.new }
+pub fn put_close(start: Cursor, buf: &mut [u8], held: Held) -> Result<Reach, Error>
+    ensures { Ended start.pos buf.old (headers_of held.count held.places ++ field_bytes (end 0)) start.skip result buf.new }
 {
-    put_marker(buf, pos, held, tagged(0, T_SEQUENCE_END), place)
+    put_marker(start, buf, held, tagged(0, T_SEQUENCE_END))
 }
 
 // The four bytes of a number, low byte first.

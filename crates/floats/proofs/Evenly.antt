@@ -18,7 +18,7 @@ pub sizes : (n : ℕ) (w : Width) → n ≡ bytes_of w → (0 < n) × (n ≤ 8)
 sizes n fp32 e = (omega arith, omega arith)
 sizes n fp64 e = (omega arith, omega arith)
 
-module _ {A : Type 0} (bits : A → ℕ) (k : ℕ) (j : (0 < k) × (k ≤ 8)) (l : List A) (c : Cursor) (b : List ℕ) (h : c.pos ≤ length b) (whole part : ℕ) (q : (whole ≤ length l) × (whole * k + part ≡ c.skip) × (whole < length l → part < k)) where
+module _ {A : Type 0} (bits : A → ℕ) (k : ℕ) (j : (0 < k) × (k ≤ 8)) (l : List A) (c : Cursor) (b : List ℕ) (whole part : ℕ) (q : (whole ≤ length l) × (whole * k + part ≡ c.skip) × (whole < length l → part < k)) where
   f : A → List ℕ
   f x = low_bytes k (bits x)
 
@@ -30,7 +30,7 @@ module _ {A : Type 0} (bits : A → ℕ) (k : ℕ) (j : (0 < k) × (k ≤ 8)) (l
 
   pub evenly_start : Resumed (λ x. low_bytes k (bits x)) l c b b c.pos whole part
   evenly_start =
-      resumed_start (λ x. low_bytes k (bits x)) l c b whole part h (out_evenly (λ x. low_bytes k (bits x)) l k (omega arith) sized c.skip whole part q.0 q.1 q.2)
+      resumed_start (λ x. low_bytes k (bits x)) l c b whole part (out_evenly (λ x. low_bytes k (bits x)) l k (omega arith) sized c.skip whole part q.0 q.1 q.2)
 
   -- the first's rest is out, over d up to `at`
   module _ (i : whole < length l) (x : A) (n : ℕ) (e : n ≡ bits (get_or l whole x)) (d : List ℕ) (at : ℕ) (g : Puts b c.pos (drop part (low_bytes k n)) d at) where
@@ -39,9 +39,9 @@ module _ {A : Type 0} (bits : A → ℕ) (k : ℕ) (j : (0 < k) × (k ≤ 8)) (l
         resumed_next (λ x. low_bytes k (bits x)) l c b b c.pos whole part evenly_start some x _ d at i (ap (λ (v : ℕ). drop part (low_bytes k v)) e) g
 
     -- as many as there is room for
-    module _ (m t : ℕ) (u : m ≡ min ((length d - at) / k) (length l - (whole + 1))) (r : t ≡ m) where
+    module _ (inside : at ≤ length d) (m t : ℕ) (u : m ≡ min ((length d - at) / k) (length l - (whole + 1))) (r : t ≡ m) where
       pub block_fits : at + k * length (take t (drop (whole + 1) l)) ≤ length d
-      block_fits = rw r (run_fits (λ x. low_bytes k (bits x)) l c b d at (whole + 1) evenly_begun k j.0 sized m u)
+      block_fits = rw r (run_fits (λ x. low_bytes k (bits x)) l c b d at (whole + 1) evenly_begun inside k j.0 sized m u)
 
       -- they are out too, over d' up to `end`
       module _ (d' : List ℕ) (end : ℕ) (y : Puts d at (each (λ x. low_bytes k (bits x)) (take t (drop (whole + 1) l))) d' end) where
@@ -54,5 +54,5 @@ module _ {A : Type 0} (bits : A → ℕ) (k : ℕ) (j : (0 < k) × (k ≤ 8)) (l
         pub evenly_last : whole + 1 + m < length l → (x' : A) (n' : ℕ) → n' ≡ bits (get_or l (whole + 1 + m) x') → (d'' : List ℕ) (stop : ℕ) → Puts d' end (low_bytes k n') d'' stop
             → Emitted c b (each (λ x. low_bytes k (bits x)) l) (record { pos = stop; skip = 0 }) d''
         evenly_last a x' n' e' d'' stop z =
-            let s = run_ends (λ x. low_bytes k (bits x)) l c b d at (whole + 1) evenly_begun k j.0 sized m u a d' end block in
+            let s = run_ends (λ x. low_bytes k (bits x)) l c b d at (whole + 1) evenly_begun inside k j.0 sized m u a d' end block in
             resumed_last (λ x. low_bytes k (bits x)) l c b d' end (whole + 1 + m) evenly_ran some k sized x' _ d'' stop a (ap (low_bytes k) e') s z

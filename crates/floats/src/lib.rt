@@ -14,6 +14,7 @@ use elements::{Out, evenly_out};
 use emit::{Cursor, put_part};
 use event::{fp32_bits, fp64_bits};
 use low_bytes::put_low;
+use types::{FP32_WORD, FP64_WORD};
 
 // A float of an array, by value or as its bits: how many bytes it takes, the word before them in an array, and those bits. A NaN's are the
 // one pattern that the logic knows.
@@ -41,11 +42,11 @@ pub trait Float: Copy {
 impl Float for u32 {
     const BYTES: usize = 4;
 
-    ghost BYTES = { 4 };
+    ghost BYTES = { bytes_of fp32 };
 
-    const WORD: u64 = 4 * 8;
+    const WORD: u64 = FP32_WORD;
 
-    ghost WORD = { 32 };
+    ghost WORD = { word_number fp32 };
 
     ghost width = { fp32 };
 
@@ -63,11 +64,11 @@ impl Float for u32 {
 impl Float for u64 {
     const BYTES: usize = 8;
 
-    ghost BYTES = { 8 };
+    ghost BYTES = { bytes_of fp64 };
 
-    const WORD: u64 = 8 * 8 + 1;
+    const WORD: u64 = FP64_WORD;
 
-    ghost WORD = { 65 };
+    ghost WORD = { word_number fp64 };
 
     ghost width = { fp64 };
 
@@ -85,11 +86,11 @@ impl Float for u64 {
 impl Float for f32 {
     const BYTES: usize = 4;
 
-    ghost BYTES = { 4 };
+    ghost BYTES = { bytes_of fp32 };
 
-    const WORD: u64 = 4 * 8;
+    const WORD: u64 = FP32_WORD;
 
-    ghost WORD = { 32 };
+    ghost WORD = { word_number fp32 };
 
     ghost width = { fp32 };
 
@@ -107,11 +108,11 @@ impl Float for f32 {
 impl Float for f64 {
     const BYTES: usize = 8;
 
-    ghost BYTES = { 8 };
+    ghost BYTES = { bytes_of fp64 };
 
-    const WORD: u64 = 8 * 8 + 1;
+    const WORD: u64 = FP64_WORD;
 
-    ghost WORD = { 65 };
+    ghost WORD = { word_number fp64 };
 
     ghost width = { fp64 };
 
@@ -141,7 +142,6 @@ fn put_fittings<T: Float>(buf: &mut [u8], pos: usize, items: &[T]) -> usize
 // The elements: the rest of the first that is not all out, as many whole ones as there is room for, which go as a block, and what goes of
 // the next.
 pub fn put_floats<T: Float>(cursor: Cursor, buf: &mut [u8], items: &[T]) -> Cursor
-    requires { cursor.pos ≤ length buf.old }
     ensures { Emitted cursor buf.old (each (λ x. low_bytes T.BYTES (T.bits x)) items.now) result buf.new }
 {
     let Cursor { pos, skip } = cursor;
@@ -151,6 +151,9 @@ pub fn put_floats<T: Float>(cursor: Cursor, buf: &mut [u8], items: &[T]) -> Curs
         return Cursor { pos, skip: part };
     }
     let at = put_part(buf, pos, items[whole].bits(), bytes, part);
+    if buf.len() <= at {
+        return Cursor { pos: at, skip: 0 };
+    }
     let next = whole + 1;
     let last = next + ((buf.len() - at) / bytes).min(items.len() - next);
     let end = put_fittings(buf, at, &items[next..last]);

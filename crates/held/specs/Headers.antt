@@ -4,7 +4,6 @@ use Rattle.layout.specs.Limits.{base, longest, pick}
 use Rattle.layout.specs.Varint.{shortest}
 use Rattle.layout.specs.Field.{header, each, t_begin}
 use Rattle.putting.specs.Put.{put}
-use Rattle.emit.specs.declared.Cursor.{Cursor}
 use Rattle.types.specs.declared.Error.{Error}
 use Rattle.outcomes.specs.declared.Reach.{Reach}
 use Rattle.outcomes.specs.Outcome.{reaches}
@@ -25,10 +24,6 @@ headers_of held places = each (λ id. header id t_begin) (take held places)
 -- with the header and one more varint of the field after them
 abbrev pub head_of : ℕ → List ℕ → ℕ → ℕ → List ℕ
 head_of held places header second = headers_of held places ++ (shortest header ++ shortest second)
-
--- where the emission of a call's output starts
-abbrev pub start_at : ℕ → ℕ → Cursor
-start_at pos place = record { pos = pos; skip = place }
 
 -- the buffer after a call: as many of the bytes still to go as there is room for, from the position on
 unfoldable pub buffer_after : ℕ → List ℕ → List ℕ → ℕ → List ℕ

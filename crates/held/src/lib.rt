@@ -5,7 +5,7 @@ ghost use Rattle.std.specs.Prelude.{◌≡◌, ◌+◌, ◌-◌, ◌*◌, ◌≤
 ghost use Rattle.emit.specs.Cursor.{Emitted};
 ghost use Rattle.places.specs.Places.{lazy_depth};
 ghost use Rattle.at_ease.specs.AtOnce.{pair_most};
-ghost use Rattle.held.specs.Headers.{held_most, head_most, headers_of, head_of, start_at};
+ghost use Rattle.held.specs.Headers.{held_most, head_most, headers_of, head_of};
 
 use at_ease::PAIR_MAX;
 use emit::Cursor;
@@ -52,12 +52,11 @@ impl Held {
         len
     }
 
-    // Those headers, from a place in the call's output on.
-    pub fn put(self, buf: &mut [u8], pos: usize, place: usize) -> Cursor
-        requires { pos ≤ length buf.old }
-        ensures { Emitted (start_at pos place) buf.old (headers_of self.count self.places) result buf.new }
+    // Those headers.
+    pub fn put(self, start: Cursor, buf: &mut [u8]) -> Cursor
+        ensures { Emitted start buf.old (headers_of self.count self.places) result buf.new }
     {
-        let mut cursor = Cursor { pos, skip: place };
+        let mut cursor = start;
         for &id in &self.places[..self.count as usize] {
             cursor = cursor.put_varint(buf, tagged(id, T_SEQUENCE_START));
         }
@@ -66,10 +65,9 @@ impl Held {
 
     // Whether there is room for those headers, two varints, however long, and `more` bytes.
     pub fn has_room(self, size: usize, pos: usize, more: usize) -> bool
-        requires { pos ≤ size }
         ensures { result ≡ leb (length (headers_of self.count self.places) + pair_most + more) (size - pos) }
     {
-        let room = size - pos;
+        let room = size.saturating_sub(pos);
         let head = self.len() + PAIR_MAX;
         if room < head {
             return false;
@@ -85,18 +83,10 @@ impl Held {
     }
 
     // Those bytes.
-    pub fn put_head(
-        self,
-        buf: &mut [u8],
-        pos: usize,
-        header: u64,
-        second: u64,
-        place: usize,
-    ) -> Cursor
-        requires { pos ≤ length buf.old }
-        ensures { Emitted (start_at pos place) buf.old (head_of self.count self.places header second) result buf.new }
+    pub fn put_head(self, start: Cursor, buf: &mut [u8], header: u64, second: u64) -> Cursor
+        ensures { Emitted start buf.old (head_of self.count self.places header second) result buf.new }
     {
-        let behind = self.put(buf, pos, place);
+        let behind = self.put(start, buf);
         let head = behind.put_varint(buf, header);
         head.put_varint(buf, second)
     }

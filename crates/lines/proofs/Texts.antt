@@ -1,5 +1,5 @@
 -- Texts put one after another are one text.
-use mathlib.Core.Path.{◌≡◌, refl, sym, ap, ◌∙◌, subst}
+use mathlib.Core.Path.{◌≡◌, refl, sym, ap, ◌∙◌}
 use mathlib.Core.Bool.{Bool, true, false}
 use mathlib.Core.List.{List, [], ◌∷◌, ◌++◌, append-nil}
 use native.Mathlib.Numerals.{add-one}
@@ -10,40 +10,17 @@ use lib.Dec.{leb}
 use lib.ListN.{length, take, drop, get_or, length-take, drop_of_length-le}
 use borrow.Author.Tests.{leb-true, leb-false}
 use Rattle.layout.specs.Field.{each}
-use Rattle.putting.proofs.Writes.{put-none, put_full, reached_is, length-put}
+use Rattle.putting.proofs.Writes.{put-none, reached_is}
 use Rattle.emit.proofs.Elements.{each_append}
-use Rattle.putting.proofs.Turns.{start, followed, followed_by}
+use Rattle.putting.proofs.Turns.{in_a_row}
 use Rattle.event_list.specs.Lines.{decimal, byte_line}
 use Rattle.putting.specs.Put.{Puts}
 
 pub nothing : (b : List ℕ) (at : ℕ) → Puts b at [] b at
 nothing b at = let e : at ≡ at + min 0 (length b - at) = omega arith in (e ∙ sym (reached_is b at []), sym (put-none b at [] refl))
 
--- beyond the buffer's end nothing is put
-pub beyond : (b : List ℕ) (at : ℕ) (s : List ℕ) → length b ≤ at → Puts b at s b at
-beyond b at s h = let e : at ≡ at + min (length s) (length b - at) = omega arith in (e ∙ sym (reached_is b at s), sym (put_full b at s h))
-
 pub joined : (b : List ℕ) (at : ℕ) (s : List ℕ) (c : List ℕ) (m : ℕ) (t d : List ℕ) (r : ℕ) → Puts b at s c m → Puts c m t d r → Puts b at (s ++ t) d r
-joined b at s c m t d r p q = go (leb at (length b)) refl
-  where
-    go : (x : Bool) → leb at (length b) ≡ x → Puts b at (s ++ t) d r
-    go true e = followed b at (s ++ t) c m t d r (followed_by b at (s ++ t) b at s t c m (start b at (s ++ t)) (leb-true _ _ e) p) q
-    go false e =
-        let h : length b ≤ at = omega (arith, leb-false at (length b) e) in
-        let w : Puts b at s b at = beyond b at s h in
-        let cm : c ≡ b = p.1 ∙ sym w.1 in
-        let mm : m ≡ at = p.0 ∙ sym w.0 in
-        let v : Puts b at t b at = beyond b at t h in
-        let z : Puts b at (s ++ t) b at = beyond b at (s ++ t) h in
-        let q' : Puts b at t d r = subst (λ (k : ℕ). Puts b k t d r) mm (subst (λ (l : List ℕ). Puts l m t d r) cm q) in
-        (q'.0 ∙ sym v.0 ∙ z.0, q'.1 ∙ sym v.1 ∙ z.1)
-
-pub length_kept : (b : List ℕ) (at : ℕ) (s b' : List ℕ) (r : ℕ) → Puts b at s b' r → length b' ≡ length b
-length_kept b at s b' r p = go (leb at (length b)) refl
-  where
-    go : (x : Bool) → leb at (length b) ≡ x → length b' ≡ length b
-    go true e = ap length p.1 ∙ length-put b at s (leb-true _ _ e)
-    go false e = ap length (p.1 ∙ put_full b at s (omega (arith, leb-false at (length b) e)))
+joined b at s c m t d r p q = in_a_row b at s c m p t d r q
 
 pub each_none : (f : ℕ → List ℕ) → each f [] ≡ []
 unfolding each

@@ -1,5 +1,5 @@
 -- Writing at once: what the tests of a field that holds nothing say of the state, and a call that is made so.
-use mathlib.Core.Path.{◌≡◌, refl, sym, ap, ◌∙◌}
+use mathlib.Core.Path.{◌≡◌, sym, ap, ◌∙◌}
 use mathlib.Core.List.{List, [], ◌∷◌, ◌++◌}
 use mathlib.Core.Bool.{Bool, true, ◌&&◌}
 use Prim.Native.Nat.{ℕ, ◌+◌, ◌≤◌, ◌<◌}
@@ -7,16 +7,15 @@ use native.Mathlib.Omega.{arith}
 use lib.Dec.{leb, eqb}
 use lib.ListN.{length, take, drop}
 use borrow.Author.Tests.{leb-true, ltb-true, le-leb, le-ltb}
-use Rattle.std.specs.Prelude.{Ok}
+use Rattle.std.specs.Prelude.{Option, Some}
 use Rattle.layout.specs.Limits.{base}
 use Rattle.places.specs.Places.{clean}
 use Rattle.at_ease.specs.AtOnce.{pair_most, roomy_at, easy_at, easy_with, closes_at, holds_at, PutsWhole}
 use Rattle.held.proofs.Ends.{at_once}
 use Rattle.at_ease.proofs.AtOnce.{has_room, went}
 use Rattle.ostream.specs.declared.OStream.{OStream}
-use Rattle.ostream.specs.declared.Answer.TheVariants.{Done}
 use Rattle.ostream.specs.declared.Written.{Written}
-use Rattle.ostream.specs.Stream.{every, sound_stream, lazy_depth, held_bytes, at}
+use Rattle.ostream.specs.Stream.{every, sound_stream, lazy_depth, held_bytes}
 use Rattle.ostream.specs.Private.{through_to}
 use Rattle.ostream.specs.Calls.{unsound, id_too_large, array_too_long, field_tests}
 use Rattle.ostream.specs.Emission.{Call, accepted, judged, result_of, written}
@@ -103,9 +102,9 @@ abbrev pub Serves : Bool → Call → List ℕ → OStream → Type 0
 Serves t k o next = t ≡ true → (judged k.tests ≡ accepted) × (o ≡ k.output) × (next ≡ k.done)
 
 -- a call whose output goes at once
-pub goes_at_once : (k : Call) (s : OStream) (b o : List ℕ) (place end : ℕ) (b' : List ℕ) (next : OStream) (t : Bool) (r : Written) → PutsWhole t b s.offset o b' end → s.offset < end → place ≡ 0 → Serves t k o next → r ≡ through_to next end → result_of r b' ≡ written k s b place
-goes_at_once k s b o place end b' next t r w h z serves e =
-    let g = went t b s.offset o b' end w h in
+pub goes_at_once : (k : Call) (s : OStream) (b o : List ℕ) (place : ℕ) (found : Option ℕ) (end : ℕ) (b' : List ℕ) (next : OStream) (t : Bool) (r : Written) → PutsWhole t b s.offset o b' found → found ≡ Some end → place ≡ 0 → Serves t k o next → r ≡ through_to next end → result_of r b' ≡ written k s b place
+goes_at_once k s b o place found end b' next t r w h z serves e =
+    let g = went t b s.offset o b' found end w h in
     let q = serves g.0 in
     settles k s b place _ o next _ b' q.1 q.2 q.0 (at_once s.offset b o place end b' z g.2 g.1) e
 

@@ -85,8 +85,7 @@ impl OStream {
         ensures { result_of result buf.new ≡ written (array_call self (length buf.old) id (length items.now) (field_bytes (T.array id items.now))) self buf.old place }
     {
         if place == 0 {
-            let end = integers_at_once(buf, self.offset, self.nest(), id, items);
-            if self.offset < end {
+            if let Some(end) = integers_at_once(buf, self.offset, self.nest(), id, items) {
                 return self.done(end);
             }
         }

@@ -27,8 +27,7 @@ impl OStream {
         ensures { result_of result buf.new ≡ written (raw_call self (length buf.old) id bytes.now subtype) self buf.old place }
     {
         if place == 0 {
-            let end = field_at_once(buf, self.offset, self.nest(), id, subtype, bytes);
-            if self.offset < end {
+            if let Some(end) = field_at_once(buf, self.offset, self.nest(), id, subtype, bytes) {
                 return self.done(end);
             }
         }

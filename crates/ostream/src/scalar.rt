@@ -23,8 +23,7 @@ impl OStream {
         ensures { result_of result buf.new ≡ written (varint_call self (length buf.old) id wire value) self buf.old place }
     {
         if place == 0 {
-            let end = pair_at_once(buf, self.offset, self.nest(), id, wire, value);
-            if self.offset < end {
+            if let Some(end) = pair_at_once(buf, self.offset, self.nest(), id, wire, value) {
                 return self.done(end);
             }
         }

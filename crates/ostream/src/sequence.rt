@@ -8,6 +8,7 @@ ghost use Rattle.ostream.specs.Calls.{begin_call, end_call, end_keep_call};
 use crate::{Answer, OStream, Written};
 use at_ease::can_hold;
 use checks::{check_begin, check_end};
+use emit::Cursor;
 use fields::{put_close, put_marker};
 use held::tagged;
 use places::{add_id, drop_id};
@@ -66,7 +67,11 @@ impl OStream {
             return self.alter(place, self.hold(id));
         }
         let header = tagged(id, T_SEQUENCE_START);
-        let outcome = put_marker(buf, self.offset, self.held(), header, place);
+        let start = Cursor {
+            pos: self.offset,
+            skip: place,
+        };
+        let outcome = put_marker(start, buf, self.held(), header);
         self.settle(size, outcome, self.depth + 1)
     }
 
@@ -75,8 +80,7 @@ impl OStream {
         ensures { result_of result buf.new ≡ written (end_call self (length buf.old)) self buf.old place }
     {
         if place == 0 {
-            let end = close_at_once(buf, self.offset, self.nest());
-            if self.offset < end {
+            if let Some(end) = close_at_once(buf, self.offset, self.nest()) {
                 self.depth = self.depth - 1;
                 return self.done(end);
             }
@@ -104,7 +108,11 @@ impl OStream {
         ensures { result_of result buf.new ≡ written (end_keep_call self (length buf.old)) self buf.old place }
     {
         let size = buf.len();
-        let outcome = put_close(buf, self.offset, self.held(), place);
+        let start = Cursor {
+            pos: self.offset,
+            skip: place,
+        };
+        let outcome = put_close(start, buf, self.held());
         self.settle(size, outcome, self.depth - 1)
     }
 

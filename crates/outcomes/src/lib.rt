@@ -1,7 +1,7 @@
 // How far a call's output goes, by numbers alone: all of it out, up to the buffer's end, or refused for the place to go on from.
 #![tactic(auto)]
 
-ghost use Rattle.std.specs.Prelude.{◌≡◌, ◌≤◌};
+ghost use Rattle.std.specs.Prelude.{◌≡◌};
 ghost use Rattle.outcomes.specs.Outcome.{reaches};
 
 use types::Error;
@@ -13,18 +13,17 @@ pub enum Reach {
     Full(usize),
 }
 
-// What a call comes to whose output has `total` bytes, those from the place on being out as far as there is room. (`fields` and
-// `arrays` call it with the position that they require themselves.)
+// What a call comes to whose output has `total` bytes, those from the place on being out as far as there is room. (Beyond the
+// buffer's end there is none.)
 #[tactic(auto, unfolding(crate::specs::Outcome::reaches))]
 pub fn finish(pos: usize, size: usize, total: usize, place: usize) -> Result<Reach, Error>
-    requires { pos ≤ size }
     ensures { result ≡ reaches pos size total place }
 {
     if total < place {
         return Err(Error::PlaceBeyond);
     }
     let owed = total - place;
-    let room = size - pos;
+    let room = size.saturating_sub(pos);
     let out = owed.min(room);
     if owed <= room {
         Ok(Reach::Through(pos + out))

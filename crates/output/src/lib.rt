@@ -5,7 +5,7 @@ ghost use Rattle.std.specs.Prelude.{◌≡◌, ◌+◌, ◌≤◌, length, drop}
 ghost use Rattle.putting.specs.Put.{put, reached, Puts};
 ghost use Rattle.output.specs.Output.{output_bytes, output_most};
 
-use emit::{Cursor, put_fitting};
+use emit::{Cursor, put_fitting, put_part};
 use varint::{VARINT_MAX, varint_len};
 
 // The bytes that an event is written as: varints one after another, or a float's four or eight low bytes.
@@ -64,7 +64,6 @@ impl Output {
 
     // Its bytes from the place on, as far as there is room from pos on; where they end.
     pub fn put(self, buf: &mut [u8], pos: usize, place: usize) -> usize
-        requires { pos ≤ length buf.old }
         ensures { Puts buf.old pos (drop place (output_bytes self)) buf.new result }
     {
         let cursor = Cursor { pos, skip: place };
@@ -76,8 +75,8 @@ impl Output {
                 let next = cursor.put_varint(buf, a).put_varint(buf, b);
                 next.put_varint(buf, c).pos
             }
-            Output::Four(bits) => cursor.put_fp32(buf, bits).pos,
-            Output::Eight(bits) => cursor.put_fp64(buf, bits).pos,
+            Output::Four(bits) => put_part(buf, pos, u64::from(bits), 4, place),
+            Output::Eight(bits) => put_part(buf, pos, bits, 8, place),
         }
     }
 }

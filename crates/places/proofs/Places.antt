@@ -2,15 +2,15 @@
 use mathlib.Core.Path.{◌≡◌, refl, sym, ap, ◌∙◌}
 use mathlib.Core.List.{List, [], ◌∷◌, ◌++◌}
 use mathlib.Core.Bool.{Bool, true, false, ◌&&◌}
-use Prim.Native.Nat.{ℕ, suc, ◌+◌, ◌-◌, ◌≤◌, ◌<◌}
+use Prim.Native.Nat.{ℕ, suc, ◌+◌, ◌-◌, ◌≤◌, ◌<◌, min}
 use native.Mathlib.Numerals.{add-one}
 use native.Mathlib.Omega.{arith}
-use lib.ListN.{length, drop, get_or, set, replicate, length-replicate, replicate-append-replicate, length-append, length-drop, get_or-replicate, get_or-append}
+use lib.ListN.{length, drop, get_or, set, replicate, length-replicate, replicate-append-replicate, length-append, length-drop, drop_of_length-le, get_or-replicate, get_or-append}
 use lib.Seq.{drop-cons, set_at, append_snoc, get_or-append-add, get_or-drop, get_or-set_same, get_or-set_other}
 use Rattle.std.specs.Prelude.{IsTrue, ◌↔◌}
 use Rattle.std.specs.List.{All, AllPass, list_all}
 use Rattle.std.proofs.lemmas.List.Sums.{AllPass-from_list_all, list_all-from_AllPass}
-use borrow.Author.Tests.{le-leb, leb-true, eq-eqb, eqb-true}
+use borrow.Author.Tests.{le-leb, leb-true, leb-false, eq-eqb, eqb-true}
 use lib.Dec.{leb, eqb}
 use Rattle.places.specs.Places.{every, zeroed}
 
@@ -38,6 +38,16 @@ all_legal most xs r h = passes_every (λ x. leb x most) xs r (λ t k d l. le-leb
 
 pub all_zero : (xs : List ℕ) (r : Bool) → IsTrue r ↔ All (λ x. x ≡ 0) xs → r ≡ every (λ x. eqb x 0) xs
 all_zero xs r h = passes_every (λ x. eqb x 0) xs r (λ t k d l. eq-eqb _ _ (h.0 t k d l), λ a. h.1 (λ k d l. eqb-true _ _ (a k d l)))
+
+pub drop_min : (n : ℕ) (xs : List ℕ) → drop (min n (length xs)) xs ≡ drop n xs
+drop_min n xs = go (leb n (length xs)) refl
+  where
+    go : (t : Bool) → leb n (length xs) ≡ t → drop (min n (length xs)) xs ≡ drop n xs
+    go true e = let h : n ≤ length xs = leb-true _ _ e in let m : min n (length xs) ≡ n = omega arith in ap (λ (k : ℕ). drop k xs) m
+    go false e =
+        let h : length xs < n = leb-false _ _ e in
+        let m : min n (length xs) ≡ length xs = omega arith in
+        ap (λ (k : ℕ). drop k xs) m ∙ drop_of_length-le xs {i = length xs} (omega arith) ∙ sym (drop_of_length-le xs {i = n} (omega arith))
 
 -- ---- clearing and dropping
 

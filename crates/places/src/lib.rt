@@ -7,20 +7,20 @@ ghost use Rattle.places.specs.Places.{lazy_depth, every, zeroed, sound_for};
 
 use types::{ID_MAX, LAZY_SEQ_DEPTH, MAX_DEPTH};
 
-// Whether the first n ids are legal. (`sound_for` has tested n.)
+// Whether the first n ids are legal.
 fn ids_legal(pending: [u32; LAZY_SEQ_DEPTH], n: usize) -> bool
-    requires { n ≤ lazy_depth }
     ensures { result ≡ every (λ x. leb x base.id) (take n pending) }
 {
-    pending[..n].iter().all(|id| *id <= ID_MAX)
+    pending[..n.min(LAZY_SEQ_DEPTH)]
+        .iter()
+        .all(|id| *id <= ID_MAX)
 }
 
-// Whether the places from n on are zero. (`sound_for` has tested n; `at_ease` and `write_at_once` ask from 0 on.)
+// Whether the places from n on are zero.
 pub fn unused_zero(pending: [u32; LAZY_SEQ_DEPTH], n: usize) -> bool
-    requires { n ≤ lazy_depth }
     ensures { result ≡ every (λ x. eqb x 0) (drop n pending) }
 {
-    pending[n..].iter().all(|id| *id == 0)
+    pending[n.min(LAZY_SEQ_DEPTH)..].iter().all(|id| *id == 0)
 }
 
 // The first n of some places zeroed, and the others left as they are, whatever they hold. (n is how many a sound state holds.)
@@ -43,15 +43,15 @@ pub fn add_id(places: [u32; LAZY_SEQ_DEPTH], n: u16, id: u32) -> [u32; LAZY_SEQ_
     more
 }
 
-// The places without the last of the first n: that one zero, the others left as they are. (The writer drops one only where one is held,
-// in a sound state.)
+// The places without the last of the first n: that one zero, the others left as they are.
 pub fn drop_id(places: [u32; LAZY_SEQ_DEPTH], n: u16) -> [u32; LAZY_SEQ_DEPTH]
-    requires { (0 < n) × (n ≤ lazy_depth) }
     ensures { result ≡ set places (n - 1) 0 }
 {
     let mut fewer = places;
-    let last = n as usize - 1;
-    fewer[last] = 0;
+    let last = (n as usize).saturating_sub(1);
+    if last < LAZY_SEQ_DEPTH {
+        fewer[last] = 0;
+    }
     fewer
 }
 
@@ -74,18 +74,11 @@ impl Nest {
             depth,
             held,
         } = self;
-        if size < offset {
-            return false;
-        }
-        if (LAZY_SEQ_DEPTH as u16) < held {
-            return false;
-        }
-        if depth < held {
-            return false;
-        }
-        if (MAX_DEPTH as u16) < depth {
-            return false;
-        }
-        ids_legal(places, held as usize) && unused_zero(places, held as usize)
+        offset <= size
+            && held <= LAZY_SEQ_DEPTH as u16
+            && held <= depth
+            && depth <= MAX_DEPTH as u16
+            && ids_legal(places, held as usize)
+            && unused_zero(places, held as usize)
     }
 }

@@ -9,7 +9,7 @@ use lib.ListN.{length, drop, length-drop, drop_of_length-le}
 use lib.Seq.{drop-append-le, drop-append-add}
 use borrow.Author.Tests.{leb-true, leb-false}
 use Rattle.putting.specs.Put.{put, reached, put_from, reached_from}
-use Rattle.putting.proofs.Writes.{put-put, put-none, reached_is, reached-reached}
+use Rattle.putting.proofs.Writes.{put-none, reached_is, put_twice, reached_twice}
 
 -- ---- a segment that is out already
 
@@ -39,9 +39,9 @@ drop-append p s t = go (leb p (length s)) refl
         let e : drop p s ≡ [] = drop_of_length-le s {i = p} (omega arith) in
         ap (λ (l : List ℕ). l ++ drop (p - length s) t) e ∙ sym (drop-append-add s t (p - length s)) ∙ ap (λ (k : ℕ). drop k (s ++ t)) (sym m)
 
-module _ (d : List ℕ) (at skip : ℕ) (s : List ℕ) (h : at ≤ length d) where
+module _ (d : List ℕ) (at skip : ℕ) (s : List ℕ) where
   pub put_from_twice : (t : List ℕ) → put_from (put_from d at skip s) (reached_from d at skip s) (skip - length s) t ≡ put_from d at skip (s ++ t)
-  put_from_twice t = put-put d at (drop skip s) (drop (skip - length s) t) h ∙ ap (put d at) (drop-append skip s t)
+  put_from_twice t = put_twice d at (drop skip s) (drop (skip - length s) t) ∙ ap (put d at) (drop-append skip s t)
 
   pub reached_from_twice : (t : List ℕ) → reached_from (put_from d at skip s) (reached_from d at skip s) (skip - length s) t ≡ reached_from d at skip (s ++ t)
-  reached_from_twice t = reached-reached d at (drop skip s) (drop (skip - length s) t) h ∙ ap (reached d at) (drop-append skip s t)
+  reached_from_twice t = reached_twice d at (drop skip s) (drop (skip - length s) t) ∙ ap (reached d at) (drop-append skip s t)

@@ -9,7 +9,7 @@ use lib.ListN.{length, drop, get_or, set, length-set, length-drop}
 use lib.Seq.{drop-cons}
 use borrow.Author.Tests.{leb-true, leb-false}
 use Rattle.putting.specs.Put.{put, reached, Puts}
-use Rattle.putting.proofs.Writes.{put-none, put_full, put_cons, put-put, reached_is, reached_cons, reached-reached, length-put}
+use Rattle.putting.proofs.Writes.{put-none, put_full, put_cons, reached_is, reached_cons, same_length, put_twice, reached_twice}
 
 -- o from pos on over b, where s is left to write from `at` on over d
 pub record Left (b : List ℕ) (pos : ℕ) (o d : List ℕ) (at : ℕ) (s : List ℕ) : Type 0 where
@@ -44,12 +44,12 @@ pub followed : (b : List ℕ) (pos : ℕ) (o d : List ℕ) (at : ℕ) (s d' : Li
 followed b pos o d at s d' end l (e, f) = (e ∙ l.ends, f ∙ l.same)
 
 -- the first part of what is left is written in one go
-pub followed_by : (b : List ℕ) (pos : ℕ) (o d : List ℕ) (at : ℕ) (s t d' : List ℕ) (end : ℕ) → Left b pos o d at (s ++ t) → at ≤ length d → Puts d at s d' end → Left b pos o d' end t
-followed_by b pos o d at s t d' end l h (e, f) =
+pub followed_by : (b : List ℕ) (pos : ℕ) (o d : List ℕ) (at : ℕ) (s t d' : List ℕ) (end : ℕ) → Left b pos o d at (s ++ t) → Puts d at s d' end → Left b pos o d' end t
+followed_by b pos o d at s t d' end l (e, f) =
     record {
-      size = ap length f ∙ length-put d at s h ∙ l.size;
-      same = ap (λ (k : ℕ). put d' k t) e ∙ ap (λ (x : List ℕ). put x (reached d at s) t) f ∙ put-put d at s t h ∙ l.same;
-      ends = ap (λ (k : ℕ). reached d' k t) e ∙ ap (λ (x : List ℕ). reached x (reached d at s) t) f ∙ reached-reached d at s t h ∙ l.ends;
+      size = ap length f ∙ same_length d at s ∙ l.size;
+      same = ap (λ (k : ℕ). put d' k t) e ∙ ap (λ (x : List ℕ). put x (reached d at s) t) f ∙ put_twice d at s t ∙ l.same;
+      ends = ap (λ (k : ℕ). reached d' k t) e ∙ ap (λ (x : List ℕ). reached x (reached d at s) t) f ∙ reached_twice d at s t ∙ l.ends;
     }
 
 -- a write of a list that is spelled otherwise
@@ -57,12 +57,12 @@ pub whole_as : (b : List ℕ) (pos : ℕ) (s t d : List ℕ) (end : ℕ) → s �
 whole_as b pos s t d end e (p, q) = (p ∙ ap (reached b pos) e, q ∙ ap (put b pos) e)
 
 -- two writes in a row
-module _ (b : List ℕ) (pos : ℕ) (s b1 : List ℕ) (mid : ℕ) (h : pos ≤ length b) (w : Puts b pos s b1 mid) where
+module _ (b : List ℕ) (pos : ℕ) (s b1 : List ℕ) (mid : ℕ) (w : Puts b pos s b1 mid) where
   pub in_a_row : (t b2 : List ℕ) (end : ℕ) → Puts b1 mid t b2 end → Puts b pos (s ++ t) b2 end
-  in_a_row t b2 end g = followed b pos (s ++ t) b1 mid t b2 end (followed_by b pos (s ++ t) b pos s t b1 mid (start b pos (s ++ t)) h w) g
+  in_a_row t b2 end g = followed b pos (s ++ t) b1 mid t b2 end (followed_by b pos (s ++ t) b pos s t b1 mid (start b pos (s ++ t)) w) g
 
   pub same_size : length b1 ≡ length b
-  same_size = ap length w.1 ∙ length-put b pos s h
+  same_size = ap length w.1 ∙ same_length b pos s
 
   pub not_beyond : mid ≤ pos + length s
   not_beyond = let r = reached_is b pos s in let e : mid ≡ reached b pos s = w.0 in omega arith

@@ -157,3 +157,39 @@ reached_cons d at x t h =
     ap (λ (l : List ℕ). reached l (at + 1) t) (put_one d at x h)
     ∙ ap (λ (k : ℕ). reached (put d at (x ∷ [])) k t) (reached_one d at x h)
     ∙ reached-reached d at (x ∷ []) t (omega arith)
+
+-- ---- at every position: beyond the buffer's end nothing is put
+
+reached_full : (d : List ℕ) (at : ℕ) (s : List ℕ) → length d ≤ at → reached d at s ≡ at
+reached_full d at s h = let e : at + min (length s) (length d - at) ≡ at = omega arith in reached_is d at s ∙ e
+
+pub same_length : (d : List ℕ) (at : ℕ) (s : List ℕ) → length (put d at s) ≡ length d
+same_length d at s = go (leb at (length d)) refl
+  where
+    go : (x : Bool) → leb at (length d) ≡ x → length (put d at s) ≡ length d
+    go true e = length-put d at s (leb-true _ _ e)
+    go false e = ap length (put_full d at s (omega (arith, leb-false at (length d) e)))
+
+pub put_twice : (d : List ℕ) (at : ℕ) (s t : List ℕ) → put (put d at s) (reached d at s) t ≡ put d at (s ++ t)
+put_twice d at s t = go (leb at (length d)) refl
+  where
+    go : (x : Bool) → leb at (length d) ≡ x → put (put d at s) (reached d at s) t ≡ put d at (s ++ t)
+    go true e = put-put d at s t (leb-true _ _ e)
+    go false e =
+        let h : length d ≤ at = omega (arith, leb-false at (length d) e) in
+        ap (λ (l : List ℕ). put l (reached d at s) t) (put_full d at s h)
+        ∙ ap (λ (n : ℕ). put d n t) (reached_full d at s h)
+        ∙ put_full d at t h
+        ∙ sym (put_full d at (s ++ t) h)
+
+pub reached_twice : (d : List ℕ) (at : ℕ) (s t : List ℕ) → reached (put d at s) (reached d at s) t ≡ reached d at (s ++ t)
+reached_twice d at s t = go (leb at (length d)) refl
+  where
+    go : (x : Bool) → leb at (length d) ≡ x → reached (put d at s) (reached d at s) t ≡ reached d at (s ++ t)
+    go true e = reached-reached d at s t (leb-true _ _ e)
+    go false e =
+        let h : length d ≤ at = omega (arith, leb-false at (length d) e) in
+        ap (λ (l : List ℕ). reached l (reached d at s) t) (put_full d at s h)
+        ∙ ap (λ (n : ℕ). reached d n t) (reached_full d at s h)
+        ∙ reached_full d at t h
+        ∙ sym (reached_full d at (s ++ t) h)

@@ -14,7 +14,6 @@ use Rattle.turns.specs.Turns.{standing}
 -- n bytes of the chunk are used, and the call goes on from the reader s at pos over b
 pub record Going (s₀ : IStream) (pos₀ : ℕ) (c b₀ b : List ℕ) (s : IStream) (pos n : ℕ) : Type 0 where
   pub used : n ≤ length c
-  pub within : pos ≤ length b
   pub size : length b ≡ length b₀
   pub sound : sound_stream base s ≡ true
   pub live : Live (state_of s)

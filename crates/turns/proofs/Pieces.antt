@@ -53,7 +53,7 @@ take_none : (n : ℕ) → take {A = ℕ} n [] ≡ []
 take_none zero = refl
 take_none (suc n) = refl
 
-module _ (d id : ℕ) (r : RawType) (total o pos : ℕ) (b : List ℕ) (h : pos ≤ length b) where
+module _ (d id : ℕ) (r : RawType) (total o pos : ℕ) (b : List ℕ) where
   abbrev at : IStream
   at = record { phase = phases.Payload id r total o; carried = carried_at d }
 
@@ -120,7 +120,7 @@ module _ (d id : ℕ) (r : RawType) (total o pos : ℕ) (b : List ℕ) (h : pos 
         let p : part ≤ suc m = least l in
         let z : 0 + part ≡ part = omega arith in
         let w : take part (take (suc m) c) ≡ take (0 + part) c = take-take part (suc m) c p ∙ ap (λ (n : ℕ). take n c) (sym z) in
-        let v = goes_out at pos c b h (0 + part) ev next (take (0 + part) c) w (fits c p z) q hd.few hd.closes refl tt sound-next in
+        let v = goes_out at pos c b (0 + part) ev next (take (0 + part) c) w (fits c p z) q hd.few hd.closes refl tt sound-next in
         subst (λ (n : ℕ). Went at pos c b (stream_in next) n (reached b pos (take n c)) (put b pos (take n c))) z v
       where
         short : (c : List ℕ) → length (take (suc m) c) ≤ suc m
@@ -138,15 +138,15 @@ pub past_end : (id : ℕ) (r : RawType) (total o n : ℕ) (p : code.Phase) → p
 past_end id r total o n p e h = e ∙ sym (ap (λ (t : Bool). phase_in (pick t (in_payload id (raw_sort r) total (o + n)) idle)) (le-ltb (o + n) total h))
 
 -- an empty chunk, and a full buffer
-piece-none : (s : IStream) (id : ℕ) (r : RawType) (total o pos : ℕ) (b : List ℕ) → pos ≤ length b → InPayload s id r total o → Turned s pos [] b (turns.Stop (pause s.carried.depth 0 (Ok (Status Incomplete)) s pos)) b
-piece-none s id r total o pos b h (t, u) =
+piece-none : (s : IStream) (id : ℕ) (r : RawType) (total o pos : ℕ) (b : List ℕ) → InPayload s id r total o → Turned s pos [] b (turns.Stop (pause s.carried.depth 0 (Ok (Status Incomplete)) s pos)) b
+piece-none s id r total o pos b (t, u) =
     let i = is_payload s id r total o u in
     let st = subst (λ (x : IStream). SoundState base (state_of x)) i (is_sound base s t) in
-    subst (λ (x : IStream). Turned x pos [] b (turns.Stop (pause s.carried.depth 0 (Ok (Status Incomplete)) x pos)) b) (sym i) (no_bytes s.carried.depth id r total o pos b h st.1.1.1)
+    subst (λ (x : IStream). Turned x pos [] b (turns.Stop (pause s.carried.depth 0 (Ok (Status Incomplete)) x pos)) b) (sym i) (no_bytes s.carried.depth id r total o pos b st.1.1.1)
 
-piece_full : (s : IStream) (id : ℕ) (r : RawType) (total o pos x : ℕ) (xs b : List ℕ) → pos ≤ length b → InPayload s id r total o → length b - pos ≡ 0 → Turned s pos (x ∷ xs) b (turns.Stop (pause s.carried.depth 0 (Ok Full) s pos)) b
-piece_full s id r total o pos x xs b h (t, u) z =
-    subst (λ (y : IStream). Turned y pos (x ∷ xs) b (turns.Stop (pause s.carried.depth 0 (Ok Full) y pos)) b) (sym (is_payload s id r total o u)) (no_room s.carried.depth id r total o pos b h x xs z)
+piece_full : (s : IStream) (id : ℕ) (r : RawType) (total o pos x : ℕ) (xs b : List ℕ) → InPayload s id r total o → length b - pos ≡ 0 → Turned s pos (x ∷ xs) b (turns.Stop (pause s.carried.depth 0 (Ok Full) s pos)) b
+piece_full s id r total o pos x xs b (t, u) z =
+    subst (λ (y : IStream). Turned y pos (x ∷ xs) b (turns.Stop (pause s.carried.depth 0 (Ok Full) y pos)) b) (sym (is_payload s id r total o u)) (no_room s.carried.depth id r total o pos b x xs z)
 
 -- a payload's bytes are below its total, which has room in 32 bits
 pub piece_small : (s : IStream) (id : ℕ) (r : RawType) (total o : ℕ) → InPayload s id r total o → (o < total) × (total ≤ 2147483647)
@@ -155,10 +155,10 @@ piece_small s id r total o (t, u) =
     (st.1.1.1, st.1.1.0)
 
 -- some bytes go out
-piece_goes : (s : IStream) (id : ℕ) (r : RawType) (total o pos : ℕ) (c b : List ℕ) → pos ≤ length b → InPayload s id r total o → (k n : ℕ) → k ≡ min (length c) (length b - pos) → n ≡ min k (total - o) → 0 < n
+piece_goes : (s : IStream) (id : ℕ) (r : RawType) (total o pos : ℕ) (c b : List ℕ) → InPayload s id r total o → (k n : ℕ) → k ≡ min (length c) (length b - pos) → n ≡ min k (total - o) → 0 < n
     → (p : code.Phase) → p ≡ past_piece id r total o n → Went s pos c b (record { phase = p; carried = s.carried }) n (reached b pos (take n c)) (put b pos (take n c))
-piece_goes s id r total o pos [] b h p k m w f i q g = absurd (omega arith)
-piece_goes s id r total o pos (x ∷ xs) b h (t, u) k m w f i q g = go (length b - pos) refl
+piece_goes s id r total o pos [] b p k m w f i q g = absurd (omega arith)
+piece_goes s id r total o pos (x ∷ xs) b (t, u) k m w f i q g = go (length b - pos) refl
   where
     same : s ≡ record { phase = phases.Payload id r total o; carried = s.carried }
     same = is_payload s id r total o u
@@ -171,18 +171,18 @@ piece_goes s id r total o pos (x ∷ xs) b h (t, u) k m w f i q g = go (length b
     go (suc j) e =
         let y : IStream = record { phase = phases.Payload id r total o; carried = s.carried } in
         let st = subst (λ (x : IStream). SoundState base (state_of x)) same (is_sound base s t) in
-        let v = some_go s.carried.depth id r total o pos b h x xs j e st in
-        let a = part_is s.carried.depth id r total o pos b h x xs j e st k m w f in
+        let v = some_go s.carried.depth id r total o pos b x xs j e st in
+        let a = part_is s.carried.depth id r total o pos b x xs j e st k m w f in
         subst (λ (v : code.Phase). Goes s v m) (sym g)
         (subst (λ (y : IStream). Goes y (past_piece id r total o m) m) (sym same) (subst (λ (l : ℕ). Goes y (past_piece id r total o l) l) a v))
 
 -- no byte of the chunk is left, or no room: the call stops
-rests : (s : IStream) (id : ℕ) (r : RawType) (total o pos : ℕ) (c b : List ℕ) → pos ≤ length b → InPayload s id r total o → (0 < length c → length b - pos ≡ 0)
+rests : (s : IStream) (id : ℕ) (r : RawType) (total o pos : ℕ) (c b : List ℕ) → InPayload s id r total o → (0 < length c → length b - pos ≡ 0)
     → Turned s pos c b (turns.Stop (pause s.carried.depth 0 (Ok (cut_off 0 (length c))) s pos)) b
-rests s id r total o pos [] b h p f = piece-none s id r total o pos b h p
-rests s id r total o pos (x ∷ xs) b h p f =
+rests s id r total o pos [] b p f = piece-none s id r total o pos b p
+rests s id r total o pos (x ∷ xs) b p f =
     subst (λ (t : Bool). Turned s pos (x ∷ xs) b (turns.Stop (pause s.carried.depth 0 (Ok (pick t Full (Status Incomplete))) s pos)) b) (sym (lt-ltb 0 (suc (length xs)) (omega arith)))
-    (piece_full s id r total o pos x xs b h p (f (omega arith)))
+    (piece_full s id r total o pos x xs b p (f (omega arith)))
 
 -- a turn, and a stop at the next: one stop
 went_stops : (s : IStream) (pos : ℕ) (c b : List ℕ) (s' : IStream) (n pos' : ℕ) (b' : List ℕ) (t : Stop) (b'' : List ℕ) → Went s pos c b s' n pos' b' → Turned s' pos' (drop n c) b' (turns.Stop t) b''
@@ -208,8 +208,8 @@ no_more room lc k n owed e f h l =
     swap x y = omega arith
 
 -- where so many bytes are out as there was room for, none is left
-spent_room : (b pos end n lt lc : ℕ) → pos ≤ b → n ≡ b - pos → n ≤ lc → lt ≡ min n lc → end ≡ pos + min lt (b - pos) → b - end ≡ 0
-spent_room b pos end n lt lc h e l t q = let x : lt ≡ n = small n lc lt t l in let y : end ≡ pos + n = q ∙ ap (λ (z : ℕ). pos + z) (ap (λ (z : ℕ). min z (b - pos)) (x ∙ e) ∙ same (b - pos)) ∙ ap (λ (z : ℕ). pos + z) (sym e) in omega (arith, y, e)
+spent_room : (b pos end n lt lc : ℕ) → n ≡ b - pos → n ≤ lc → lt ≡ min n lc → end ≡ pos + min lt (b - pos) → b - end ≡ 0
+spent_room b pos end n lt lc e l t q = let x : lt ≡ n = small n lc lt t l in let y : end ≡ pos + n = q ∙ ap (λ (z : ℕ). pos + z) (ap (λ (z : ℕ). min z (b - pos)) (x ∙ e) ∙ same (b - pos)) ∙ ap (λ (z : ℕ). pos + z) (sym e) in omega (arith, y, e)
   where
     small : (n m l : ℕ) → l ≡ min n m → n ≤ m → l ≡ n
     small n m l e h = omega arith
@@ -222,9 +222,6 @@ beyond o n total h = omega arith
 
 lt_le : (x y : ℕ) → x < y → x ≤ y
 lt_le x y h = omega arith
-
-at_most : (x x' m : ℕ) → x' ≡ x → m ≤ x → m ≤ x'
-at_most x x' m e h = omega arith
 
 more_left : (d lc n : ℕ) → d ≡ lc - n → 0 < d → n < lc
 more_left d lc n e h = omega arith
@@ -245,13 +242,13 @@ same_cut n lc d e = go (ltb n lc) refl
 
 -- ---- a payload, n of its bytes being out
 
-module _ (s : IStream) (id : ℕ) (r : RawType) (total o pos : ℕ) (c b : List ℕ) (h : pos ≤ length b) (p : InPayload s id r total o) (k n : ℕ)
+module _ (s : IStream) (id : ℕ) (r : RawType) (total o pos : ℕ) (c b : List ℕ) (p : InPayload s id r total o) (k n : ℕ)
     (e : k ≡ min (length c) (length b - pos)) (f : n ≡ min k (total - o)) (end : ℕ) (b' : List ℕ) (g : (end ≡ reached b pos (drop 0 (take n c))) × (b' ≡ put b pos (drop 0 (take n c))))
   where
     went : (q : code.Phase) → q ≡ past_piece id r total o n → 0 < n → Went s pos c b (record { phase = q; carried = s.carried }) n end b'
     went q i z =
         subst (λ (m : ℕ). Went s pos c b (record { phase = q; carried = s.carried }) n m b') (sym g.0)
-        (subst (λ (x : List ℕ). Went s pos c b (record { phase = q; carried = s.carried }) n (reached b pos (take n c)) x) (sym g.1) (piece_goes s id r total o pos c b h p k n e f z q i))
+        (subst (λ (x : List ℕ). Went s pos c b (record { phase = q; carried = s.carried }) n (reached b pos (take n c)) x) (sym g.1) (piece_goes s id r total o pos c b p k n e f z q i))
 
     -- it is at its end,
     pub piece-ends : total ≤ o + n → (q : code.Phase) → q ≡ phase_in idle → Went s pos c b (record { phase = q; carried = s.carried }) n end b'
@@ -272,7 +269,7 @@ module _ (s : IStream) (id : ℕ) (r : RawType) (total o pos : ℕ) (c b : List 
           let y : length (take n c) ≡ 0 = none-taken (length (take n c)) n (length c) (length-take n c) z in
           let u : end ≡ pos = g.0 ∙ reached_is b pos (take n c) ∙ none-at pos (length (take n c)) (length b - pos) y in
           let v : b' ≡ b = g.1 ∙ put-none b pos (take n c) y in
-          let w = rests s id r total o pos c b h p (λ i. sym (no_more (length b - pos) (length c) k n (total - o) e f (beyond o n total l) (omega arith)) ∙ z) in
+          let w = rests s id r total o pos c b p (λ i. sym (no_more (length b - pos) (length c) k n (total - o) e f (beyond o n total l) (omega arith)) ∙ z) in
           subst (λ (d : List ℕ). Turned s pos c b (turns.Stop (pause s.carried.depth n (Ok (cut_off n (length c))) onward end)) d) (sym v)
           (subst (λ (m : ℕ). Turned s pos c b (turns.Stop (pause s.carried.depth n (Ok (cut_off n (length c))) onward m)) b) (sym u)
           (subst (λ (m : ℕ). Turned s pos c b (turns.Stop (pause s.carried.depth m (Ok (cut_off m (length c))) onward pos)) b) (sym z)
@@ -284,8 +281,8 @@ module _ (s : IStream) (id : ℕ) (r : RawType) (total o pos : ℕ) (c b : List 
           let w = went (phases.Payload id r total (o + n)) (past_on id r total o n l) z in
           let full : n < length c → length b' - end ≡ 0 = λ u.
           ap (λ (m : ℕ). m - end) w.size
-          ∙ spent_room (length b) pos end n (length (take n c)) (length c) h (no_more (length b - pos) (length c) k n (total - o) e f (beyond o n total l) u) (lt_le n (length c) u) (length-take n c) (g.0 ∙ reached_is b pos (take n c)) in
-          let t = rests onward id r total (o + n) end (drop n c) b' (at_most (length b) (length b') end w.size w.within) (w.sound, refl) (λ u. full (more_left (length (drop n c)) (length c) n (length-drop n c) u)) in
+          ∙ spent_room (length b) pos end n (length (take n c)) (length c) (no_more (length b - pos) (length c) k n (total - o) e f (beyond o n total l) u) (lt_le n (length c) u) (length-take n c) (g.0 ∙ reached_is b pos (take n c)) in
+          let t = rests onward id r total (o + n) end (drop n c) b' (w.sound, refl) (λ u. full (more_left (length (drop n c)) (length c) n (length-drop n c) u)) in
           let q = went_stops s pos c b onward n end b' (pause s.carried.depth 0 (Ok (cut_off 0 (length (drop n c)))) onward end) b' w t in
           let j : n + 0 ≡ n = omega arith in
           subst Stopped j

@@ -30,7 +30,7 @@ use Rattle.istream.proofs.Calls.{state_of_stream, stream_back}
 use Rattle.istream.proofs.Laws.{is_sound, sound_is, fed-sound, feed_keeps}
 use Rattle.reading.proofs.Feeds.{Ranged, call_range}
 use Rattle.putting.specs.Put.{put, reached}
-use Rattle.putting.proofs.Writes.{length-put, reached_le, reached_is}
+use Rattle.putting.proofs.Writes.{same_length, reached_le, reached_is}
 use Rattle.laws.specs.Events.{event_bytes}
 use Rattle.copying.specs.Owed.{nothing, owes, rest, further, depth_by, depth_once, due_in}
 use Rattle.copying.specs.Copy as copying
@@ -119,7 +119,7 @@ filled_is k st left e n end b =
     let z : 0 + (end - k.pos) ≡ end - k.pos = omega arith in
     ap (λ (x : ℕ). record { used = n; said = Said.full; reader = stream_in st; depth = k.depth; pos = end; owed = owe left e; place = x; buf = b }) z
 
-module _ (s : IStream) (pos : ℕ) (c b : List ℕ) (h : pos ≤ length b) where
+module _ (s : IStream) (pos : ℕ) (c b : List ℕ) where
   -- the call up to an event
   abbrev Gives : ℕ → Event → State → Type 0
   Gives n e st = copy base (standing s pos) c b ≡ after n (copy base (gone (standing s pos) st (owes (due_in (state_of s)) e 0)) (drop n c) b)
@@ -134,15 +134,15 @@ module _ (s : IStream) (pos : ℕ) (c b : List ℕ) (h : pos ≤ length b) where
       record {
         same =
             q ∙ ap (after n)
-            (copy_settles base k (drop n c) b h (subst (λ (l : List ℕ). length l ≤ length b - pos) (sym y) f)
+            (copy_settles base k (drop n c) b (subst (λ (l : List ℕ). length l ≤ length b - pos) (sym y) f)
             ∙ ap (λ (l : List ℕ). copy base (settled k (reached b pos l)) (drop n c) (put b pos l)) y
             ∙ ap (λ (j : Copy). copy base j (drop n c) (put b pos out)) (settled_is (standing s pos) st (due_in (state_of s)) e (reached b pos out) dp));
         few = few;
         nearer = subst (λ (x : State). 2 * (length c - n) + weight x < 2 * length c + weight (state_of s)) (sym back) cl;
         sound = sound_is base st ss;
         live = subst Live (sym back) lv;
-        size = length-put b pos out h;
-        within = reached_le b pos out h;
+        size = same_length b pos out;
+        within = λ h. reached_le b pos out h;
       }
 
   by_room : (t : Bool) (n : ℕ) (e : Event) (st : State) → let o = owe (due_in (state_of s)) e in leb (length (output_bytes (output_of o))) (length b - pos) ≡ t → Gives n e st → n ≤ length c
@@ -159,7 +159,7 @@ module _ (s : IStream) (pos : ℕ) (c b : List ℕ) (h : pos ≤ length b) where
       let full : copy base (standing s pos) c b ≡ record { used = n; answer = copying.full; copy = filled k (reached b pos out); buf = put b pos out } =
       q ∙ ap (after n) (copy_full base k (drop n c) b f) ∙ ap (λ (l : List ℕ). record { used = n + 0; answer = copying.full; copy = filled k (reached b pos l); buf = put b pos l }) y
       ∙ ap (λ (m : ℕ). record { used = m; answer = copying.full; copy = filled k (reached b pos out); buf = put b pos out }) z in
-      (ap ended_in full ∙ filled_is (standing s pos) st (due_in (state_of s)) e n (reached b pos out) (put b pos out), few, length-put b pos out h)
+      (ap ended_in full ∙ filled_is (standing s pos) st (due_in (state_of s)) e n (reached b pos out) (put b pos out), few, same_length b pos out)
 
   at_event : (n : ℕ) (e : Event) (st : State) (o : Owed) → o ≡ owe (due_in (state_of s)) e → Gives n e st → n ≤ length c → Closes (event e) (state_of s) st n (length c)
       → AtEvent s.carried.depth (event e) st → SoundState base st → Turned s pos c b (event_turn s.carried.depth o n (stream_in st) pos b) (event_buf o pos b)
@@ -212,9 +212,9 @@ module _ (s : IStream) (pos : ℕ) (c b : List ℕ) (h : pos ≤ length b) where
       (called (call base st c) q hd (call_range base st c (is_sound base s t) (all_bytes c bs)) (subst (λ (x : ℕ). AtEvent x (call base st c).answer (call base st c).state) (depth_there l) (call-level st c bs a)) (call-sound bs t l))
 
 -- what stands in its shortest form goes as it came
-pub ahead_went : (s : IStream) (pos m : ℕ) (c b : List ℕ) (n : ℕ) (s' : IStream) → pos ≤ length b → m ≡ min (length c) (length b - pos) → Ahead s (take m c) n s' → 0 < n
+pub ahead_went : (s : IStream) (pos m : ℕ) (c b : List ℕ) (n : ℕ) (s' : IStream) → m ≡ min (length c) (length b - pos) → Ahead s (take m c) n s' → 0 < n
     → Went s pos c b s' n (reached b pos (take n c)) (put b pos (take n c))
-ahead_went s pos m c b n s' h e a z =
+ahead_went s pos m c b n s' e a z =
     let f : n ≤ length (take m c) = a.few in
     let t : length (take m c) ≡ min m (length c) = length-take m c in
     let l : n ≤ length c = omega arith in
@@ -233,8 +233,8 @@ ahead_went s pos m c b n s' h e a z =
       nearer = let w = light (state_of s') in omega arith;
       sound = a.sound;
       live = a.live;
-      size = length-put b pos (take n c) h;
-      within = reached_le b pos (take n c) h;
+      size = same_length b pos (take n c);
+      within = λ h. reached_le b pos (take n c) h;
     }
   where
     least : (x y : ℕ) → x ≤ y → min x y ≡ x

@@ -132,7 +132,7 @@ pub record Went (s : IStream) (pos : ℕ) (c b : List ℕ) (s' : IStream) (n pos
   pub sound : sound_stream base s' ≡ true
   pub live : Live (state_of s')
   pub size : length b' ≡ length b
-  pub within : pos' ≤ length b
+  pub within : pos ≤ length b → pos' ≤ length b
 
 abbrev pub Turned : IStream → ℕ → List ℕ → List ℕ → Turn → List ℕ → Type 0
 Turned s pos c b (turns.On s' n pos') b' = Went s pos c b s' n pos' b'

@@ -2,7 +2,7 @@
 // its shortest form already goes as it came, until the buffer is full, the chunk is spent or the message is broken.
 #![tactic(auto)]
 
-ghost use Rattle.std.specs.Prelude.{◌≡◌, true, ◌+◌, ◌<◌, ◌≤◌, length};
+ghost use Rattle.std.specs.Prelude.{◌≡◌, true, ◌+◌, ◌<◌};
 ghost use Rattle.layout.specs.Limits.{base};
 ghost use Rattle.copying.specs.Owed.{due_in};
 ghost use Rattle.istream.specs.Stream.{state_of, sound_stream};
@@ -59,11 +59,10 @@ fn due(reader: IStream) -> u32
 
 // An event that was read with so many bytes goes out, or as much of it as there is room for. None has more than OUTPUT_MAX.
 fn written(depth: u8, owed: Owed, read: usize, reader: IStream, pos: usize, buf: &mut [u8]) -> Turn
-    requires { pos ≤ length buf.old }
     ensures { (result ≡ event_turn depth owed read reader pos buf.old) × (buf.new ≡ event_buf owed pos buf.old) }
 {
     let output = owed.output();
-    let room = buf.len() - pos;
+    let room = buf.len().saturating_sub(pos);
     if OUTPUT_MAX <= room {
         let at = output.put_fitting(buf, pos);
         return Turn::On(reader, read, at);
@@ -107,7 +106,6 @@ fn stopped(
 
 // What a call of the reader, at a depth, with so many elements due, comes to.
 fn heard(depth: u8, left: u32, fed: Fed, pos: usize, buf: &mut [u8]) -> Turn
-    requires { pos ≤ length buf.old }
     ensures { (result ≡ heard_turn depth left fed pos buf.old) × (buf.new ≡ heard_buf left fed pos buf.old) }
 {
     let read = fed.read;
@@ -140,11 +138,13 @@ fn piece(
     rest: &[u8],
     buf: &mut [u8],
 ) -> Turn
-    requires { InPayload reader id r total offset × (pos ≤ length buf.old) }
+    requires { InPayload reader id r total offset }
     ensures { Turned reader pos rest.now buf.old result buf.new }
 {
     let len = rest.len();
-    let n = len.min(buf.len() - pos).min((total - offset) as usize);
+    let n = len
+        .min(buf.len().saturating_sub(pos))
+        .min((total - offset) as usize);
     let end = put_rest(buf, pos, &rest[..n], 0);
     let carried = reader.carried;
     let at = offset + n as u32;
@@ -161,13 +161,13 @@ fn piece(
 
 // One turn: a payload's bytes, what stands in its shortest form already, or an event.
 fn one_turn(reader: IStream, pos: usize, rest: &[u8], buf: &mut [u8]) -> Turn
-    requires { (sound_stream base reader ≡ true) × (Live (state_of reader) × (pos ≤ length buf.old)) }
+    requires { (sound_stream base reader ≡ true) × Live (state_of reader) }
     ensures { Turned reader pos rest.now buf.old result buf.new }
 {
     if let Phase::Payload(id, r, total, offset) = reader.phase {
         return piece(reader, id, r, total, offset, pos, rest, buf);
     }
-    let m = rest.len().min(buf.len() - pos);
+    let m = rest.len().min(buf.len().saturating_sub(pos));
     if let Some(block) = as_is(reader, &rest[..m]) {
         let end = put_rest(buf, pos, &rest[..block.len], 0);
         return Turn::On(block.reader, block.len, end);
@@ -196,7 +196,7 @@ impl Stop {
 
 // Turns one after another, nothing being owed at first, until one is a stop: no `for`, since only the turns know how many they are.
 pub fn run(reader: IStream, start: usize, chunk: &[u8], buf: &mut [u8]) -> Stop
-    requires { (sound_stream base reader ≡ true) × (Live (state_of reader) × (start ≤ length buf.old)) }
+    requires { (sound_stream base reader ≡ true) × Live (state_of reader) }
     ensures { Ran reader start chunk.now buf.old result buf.new }
 {
     let mut at = reader;

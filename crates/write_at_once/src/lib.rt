@@ -1,7 +1,7 @@
 // Fields written at once, where `at_ease` has nothing against it.
 #![tactic(auto)]
 
-ghost use Rattle.std.specs.Prelude.{[], ◌∷◌, ◌++◌, ◌+◌, ◌*◌, ◌≤◌, ◌&&◌, ltb, length};
+ghost use Rattle.std.specs.Prelude.{◌≡◌, [], ◌∷◌, ◌++◌, ◌+◌, ◌*◌, ◌≤◌, ◌&&◌, ltb, length};
 ghost use Rattle.layout.specs.Varint.{shortest};
 ghost use Rattle.layout.specs.Limits.{base};
 ghost use Rattle.layout.specs.Copy.{field_bytes, fixlen_bytes};
@@ -18,25 +18,29 @@ use places::{Nest, unused_zero};
 use types::{ARRAY_MAX, FIXLEN_MAX, FixlenType, LAZY_SEQ_DEPTH, T_FIXLEN};
 use varint::VARINT_MAX;
 
-// Two varints at once, where no place is in use and there is room for the longest; where they end. Else nothing, and pos. (Out of line, as
-// the three after it.)
+// Whether no place is in use, and there is room for two varints, however long, and `more` bytes.
+fn is_roomy(size: usize, pos: usize, places: [u32; LAZY_SEQ_DEPTH], more: usize) -> bool
+    ensures { result ≡ roomy_at size pos places more }
+{
+    has_room(size, pos, more) && unused_zero(places, 0)
+}
+
+// Two varints at once, where no place is in use and there is room for the longest; where they end. Else nothing is written. (Out of line, as
+// the two after it.)
 pub fn put_pair(
     buf: &mut [u8],
     pos: usize,
     places: [u32; LAZY_SEQ_DEPTH],
     header: u64,
     second: u64,
-) -> usize
+) -> Option<usize>
     ensures { PutsIf (roomy_at (length buf.old) pos places 0) buf.old pos (shortest header ++ shortest second) buf.new result }
 {
-    if !has_room(buf.len(), pos, 0) {
-        return pos;
-    }
-    if !unused_zero(places, 0) {
-        return pos;
+    if !is_roomy(buf.len(), pos, places, 0) {
+        return None;
     }
     let mid = put_fitting(buf, pos, header);
-    put_fitting(buf, mid, second)
+    Some(put_fitting(buf, mid, second))
 }
 
 // Two varints and bytes after them, likewise.
@@ -47,18 +51,15 @@ pub fn put_field(
     header: u64,
     second: u64,
     bytes: &[u8],
-) -> usize
+) -> Option<usize>
     ensures { PutsIf (roomy_at (length buf.old) pos places (length bytes.now)) buf.old pos (shortest header ++ (shortest second ++ bytes.now)) buf.new result }
 {
-    if !has_room(buf.len(), pos, bytes.len()) {
-        return pos;
-    }
-    if !unused_zero(places, 0) {
-        return pos;
+    if !is_roomy(buf.len(), pos, places, bytes.len()) {
+        return None;
     }
     let mid = put_fitting(buf, pos, header);
     let end = put_fitting(buf, mid, second);
-    put_rest(buf, end, bytes, 0)
+    Some(put_rest(buf, end, bytes, 0))
 }
 
 // An array of integers, likewise: header, count, elements.
@@ -68,29 +69,33 @@ pub fn put_integers<T: Integer>(
     places: [u32; LAZY_SEQ_DEPTH],
     header: u64,
     items: &[T],
-) -> usize
+) -> Option<usize>
     requires { length items.now ≤ base.count }
     ensures { PutsWhole (roomy_at (length buf.old) pos places (elements_most (length items.now))) buf.old pos (row_of header (λ x. shortest (T.number x)) items.now) buf.new result }
 {
-    if !has_room(buf.len(), pos, VARINT_MAX * items.len()) {
-        return pos;
-    }
-    if !unused_zero(places, 0) {
-        return pos;
+    if !is_roomy(buf.len(), pos, places, VARINT_MAX * items.len()) {
+        return None;
     }
     let mid = put_fitting(buf, pos, header);
     let at = put_fitting(buf, mid, items.len() as u64);
-    put_fittings(buf, at, items)
+    Some(put_fittings(buf, at, items))
 }
 
 // ---- the same behind the tests that come before them, as a call of the writer makes them first
 
 // A field of one varint, its type the wire's number.
-pub fn pair_at_once(buf: &mut [u8], pos: usize, nest: Nest, id: u32, wire: u8, value: u64) -> usize
+pub fn pair_at_once(
+    buf: &mut [u8],
+    pos: usize,
+    nest: Nest,
+    id: u32,
+    wire: u8,
+    value: u64,
+) -> Option<usize>
     ensures { PutsEasily (easy_at nest.depth nest.held id) buf.old pos nest.places 0 (shortest (id * 8 + wire) ++ shortest value) buf.new result }
 {
     if !at_ease(nest, id) {
-        return pos;
+        return None;
     }
     put_pair(buf, pos, nest.places, tagged(id, wire), value)
 }
@@ -103,11 +108,11 @@ pub fn field_at_once(
     id: u32,
     t: FixlenType,
     bytes: &[u8],
-) -> usize
+) -> Option<usize>
     ensures { PutsEasily (easy_with nest.depth nest.held id (length bytes.now) base.size) buf.old pos nest.places (length bytes.now) (fixlen_bytes id (subtype t) bytes.now) buf.new result }
 {
     if !at_ease_with(nest, id, bytes.len(), FIXLEN_MAX) {
-        return pos;
+        return None;
     }
     let word = tagged(bytes.len() as u32, t.raw());
     put_field(buf, pos, nest.places, tagged(id, T_FIXLEN), word, bytes)
@@ -120,21 +125,21 @@ pub fn integers_at_once<T: Integer>(
     nest: Nest,
     id: u32,
     items: &[T],
-) -> usize
+) -> Option<usize>
     ensures { PutsEasily (easy_with nest.depth nest.held id (length items.now) base.count) buf.old pos nest.places (elements_most (length items.now)) (field_bytes (T.array id items.now)) buf.new result }
 {
     if !at_ease_with(nest, id, items.len(), ARRAY_MAX) {
-        return pos;
+        return None;
     }
     put_integers(buf, pos, nest.places, tagged(id, T::WIRE), items)
 }
 
 // A close.
-pub fn close_at_once(buf: &mut [u8], pos: usize, nest: Nest) -> usize
+pub fn close_at_once(buf: &mut [u8], pos: usize, nest: Nest) -> Option<usize>
     ensures { PutsWhole (closes_at nest.depth nest.held && (ltb pos (length buf.old) && clean nest.places)) buf.old pos (7 ∷ []) buf.new result }
 {
     if !closes_at_ease(nest) {
-        return pos;
+        return None;
     }
     put_end(buf, pos, nest.places)
 }

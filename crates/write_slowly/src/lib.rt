@@ -14,6 +14,7 @@ ghost use Rattle.write_slowly.specs.Went.{went_by, judgement_of, field_from};
 use arrays::{put_float_array, put_integer_array};
 use checks::{check_field, check_sized};
 use elements::Integer;
+use emit::Cursor;
 use fields::{put_fixlen_field, put_varint_field};
 use floats::Float;
 use held::{Held, tagged};
@@ -34,7 +35,8 @@ pub fn varint_field(
     ensures { went_by result buf.new ≡ field_from pos nest.depth nest.held nest.places buf.old id [] (shortest (id * 8 + wire) ++ shortest value) place }
 {
     check_field(nest.sound_for(pos, buf.len()), id)?;
-    put_varint_field(buf, pos, Held::of(nest), tagged(id, wire), value, place)
+    let start = Cursor { pos, skip: place };
+    put_varint_field(start, buf, Held::of(nest), tagged(id, wire), value)
 }
 
 // A fixed-length field: the header, the word, and the bytes as they are.
@@ -52,14 +54,14 @@ pub fn fixlen_field(
 {
     check_sized(nest.sound_for(pos, buf.len()), id, bytes.len(), FIXLEN_MAX)?;
     let word = tagged(bytes.len() as u32, t.raw());
+    let start = Cursor { pos, skip: place };
     put_fixlen_field(
+        start,
         buf,
-        pos,
         Held::of(nest),
         tagged(id, T_FIXLEN),
         word,
         bytes,
-        place,
     )
 }
 
@@ -75,7 +77,7 @@ pub fn integer_array<T: Integer>(
     ensures { went_by result buf.new ≡ field_from pos nest.depth nest.held nest.places buf.old id (array_too_long (length items.now) ∷ []) (field_bytes (T.array id items.now)) place }
 {
     check_sized(nest.sound_for(pos, buf.len()), id, items.len(), ARRAY_MAX)?;
-    put_integer_array(buf, pos, Held::of(nest), id, items, place)
+    put_integer_array(Cursor { pos, skip: place }, buf, Held::of(nest), id, items)
 }
 
 // An array of floats.
@@ -90,5 +92,5 @@ pub fn float_array<T: Float>(
     ensures { went_by result buf.new ≡ field_from pos nest.depth nest.held nest.places buf.old id (array_too_long (length items.now) ∷ []) (field_bytes (float_array id T.width (map T.bits items.now))) place }
 {
     check_sized(nest.sound_for(pos, buf.len()), id, items.len(), ARRAY_MAX)?;
-    put_float_array(buf, pos, Held::of(nest), id, items, place)
+    put_float_array(Cursor { pos, skip: place }, buf, Held::of(nest), id, items)
 }

@@ -16,7 +16,7 @@ pub returns-then-skip-eq0 : goal.returns-then-skip-eq0
 returns-then-skip-eq0 g c = all_left c.args.cursor _ _ _ _ c.if-skip-eq0.true c.put_until_full-end.ensures
 
 pub returns-then-items-whole : goal.returns-then-items-whole
-returns-then-items-whole g c = resumed_end _ _ _ _ _ _ _ _ (resumed_start _ _ c.args.cursor _ _ _ c.requires c.varints_out-whole.ensures) c.if-items-whole.true
+returns-then-items-whole g c = resumed_end _ _ _ _ _ _ _ _ (resumed_start _ _ c.args.cursor _ _ _ c.varints_out-whole.ensures) c.if-items-whole.true
 
 pub overflow_mul-part : goal.overflow_mul-part
 overflow_mul-part g c =
@@ -29,13 +29,8 @@ overflow_shr-number g c =
     let e = c.number.ensures ∙ ap g.T.Integer.number c.index-items-whole.is in
     head_bits g.T.Integer.number _ c.args.cursor c.args.buf.now _ _ c.varints_out-whole.ensures c.if-items-whole.false c.index-items-whole.result _ e c.number.type_inv
 
-pub put_until_full-end-requires-2 : goal.put_until_full-end-requires-2
-put_until_full-end-requires-2 g c =
-    let e = c.number.ensures ∙ ap g.T.Integer.number c.index-items-whole.is in
-    (head_out g.T.Integer.number _ c.args.cursor _ _ _ c.varints_out-whole.ensures c.if-items-whole.false c.index-items-whole.result _ e c.requires _ _ c.put_whole-next.ensures).inside
-
 pub returns : goal.returns
 returns g c =
     let e = c.number.ensures ∙ ap g.T.Integer.number c.index-items-whole.is in
     let f : g.row.T.Denot → List ℕ = λ x. shortest (g.T.Integer.number x) in
-    resumed_went _ _ _ _ _ _ _ (head_out g.T.Integer.number _ c.args.cursor _ _ _ c.varints_out-whole.ensures c.if-items-whole.false c.index-items-whole.result _ e c.requires _ _ c.put_whole-next.ensures) _ _ (whole_as _ _ _ _ _ _ (ap (each f) (between_to_end c.args.items.now (c.varints_out-whole.result.whole + 1) (length c.args.items.now) (omega arith))) c.put_until_full-end-2.ensures)
+    resumed_went _ _ _ _ _ _ _ (head_out g.T.Integer.number _ c.args.cursor _ _ _ c.varints_out-whole.ensures c.if-items-whole.false c.index-items-whole.result _ e _ _ c.put_whole-next.ensures) _ _ (whole_as _ _ _ _ _ _ (ap (each f) (between_to_end c.args.items.now (c.varints_out-whole.result.whole + 1) (length c.args.items.now) (omega arith))) c.put_until_full-end-2.ensures)

@@ -26,7 +26,7 @@ pub bounds-buf-pos-then-third-lt128 : goal.bounds-buf-pos-then-third-lt128
 bounds-buf-pos-then-third-lt128 c = simp length-set (omega arith)
 
 pub shape_of-buf : goal.shape_of-buf
-shape_of-buf c = same_size _ _ _ _ _ (omega arith) (let done : Puts c.args.buf.now c.args.pos (shortest c.args.v) c.put_whole.new.buf c.put_whole.result = followed _ _ _ _ _ _ _ _ (after_two _ _ _ (omega arith) c.if-v-lt128.false c.if-second-lt128.false) c.put_whole.ensures in done)
+shape_of-buf c = same_size _ _ _ _ _ (let done : Puts c.args.buf.now c.args.pos (shortest c.args.v) c.put_whole.new.buf c.put_whole.result = followed _ _ _ _ _ _ _ _ (after_two _ _ _ (omega arith) c.if-v-lt128.false c.if-second-lt128.false) c.put_whole.ensures in done)
 
 pub returns : goal.returns
 returns c = (let done : Puts c.args.buf.now c.args.pos (shortest c.args.v) c.put_whole.new.buf c.put_whole.result = followed _ _ _ _ _ _ _ _ (after_two _ _ _ (omega arith) c.if-v-lt128.false c.if-second-lt128.false) c.put_whole.ensures in done)

@@ -9,12 +9,12 @@ use Rattle.held.specs.Headers.{headers_of}
 use Rattle.held.proofs.Ends.{ended}
 use Rattle.fields.proofs.put_marker.Goals as goal
 
-pub overflow_add-len : goal.overflow_add-len
-overflow_add-len c =
+pub overflow_add-total : goal.overflow_add-total
+overflow_add-total c =
     let h = length-longest base c.args.header c.ranges.header.fits in
     record { fits = omega arith }
 
 pub returns : goal.returns
 returns c =
     let n = length-append (headers_of c.args.held.count c.args.held.places) (shortest c.args.header) in
-    ended _ _ _ _ _ _ (joined _ _ _ _ _ _ _ _ c.requires c.put-behind.ensures c.put_varint.ensures) _ _ (omega arith) c.finish.ensures
+    ended _ _ _ _ _ (joined _ _ _ _ _ _ _ _ c.put-behind.ensures c.put_varint.ensures) _ _ (omega arith) c.finish.ensures

@@ -3,28 +3,24 @@ use native.Mathlib.Omega.{arith}
 use lib.ListN.{length}
 use Rattle.layout.specs.Varint.{shortest}
 use Rattle.elements.specs.OutAfter.{elements_most, row_of}
-use Rattle.at_ease.proofs.AtOnce.{has_room, tight, unclean, passed, unmade_whole}
+use Rattle.at_ease.proofs.AtOnce.{has_room, fails, passes, roomy, unmade_whole}
 use Rattle.write_at_once.proofs.Rows.{second_fits, rest-fits, array_made}
 use Rattle.write_at_once.proofs.put_integers.Goals as goal
 
-pub returns-then-not-has_room : goal.returns-then-not-has_room
-returns-then-not-has_room g c = unmade_whole _ c.args.buf.now c.args.pos (row_of c.args.header (λ x. shortest (g.T.Integer.number x)) c.args.items.now) (tight _ _ _ (elements_most (length c.args.items.now)) c.args.places c.has_room.ensures c.if-not-has_room.true-raw)
-
-pub returns-then-not-unused_zero : goal.returns-then-not-unused_zero
-returns-then-not-unused_zero g c = unmade_whole _ c.args.buf.now c.args.pos (row_of c.args.header (λ x. shortest (g.T.Integer.number x)) c.args.items.now) (unclean _ _ _ (elements_most (length c.args.items.now)) c.args.places c.has_room.ensures c.if-not-has_room.false-raw _ c.unused_zero.ensures c.if-not-unused_zero.true-raw)
+pub returns-then-not-is_roomy : goal.returns-then-not-is_roomy
+returns-then-not-is_roomy g c = unmade_whole _ c.args.buf.now c.args.pos (row_of c.args.header (λ x. shortest (g.T.Integer.number x)) c.args.items.now) (fails _ _ c.is_roomy.ensures c.if-not-is_roomy.true-raw)
 
 pub put_fitting-mid-requires : goal.put_fitting-mid-requires
-put_fitting-mid-requires g c = let h = has_room _ _ _ (passed _ _ _ (elements_most (length c.args.items.now)) c.args.places c.has_room.ensures c.if-not-has_room.false-raw _ c.unused_zero.ensures c.if-not-unused_zero.false-raw).0 in omega arith
+put_fitting-mid-requires g c = let h = has_room _ _ _ (roomy _ _ _ (elements_most (length c.args.items.now)) c.args.places c.is_roomy.ensures c.if-not-is_roomy.false-raw) in omega arith
 
 pub put_fitting-at-requires : goal.put_fitting-at-requires
 put_fitting-at-requires g c =
-    second_fits c.args.buf.now c.args.pos (elements_most (length c.args.items.now)) c.args.header _ _ (passed _ _ _ (elements_most (length c.args.items.now)) c.args.places c.has_room.ensures c.if-not-has_room.false-raw _ c.unused_zero.ensures c.if-not-unused_zero.false-raw).0 c.ranges.header.fits c.put_fitting-mid.ensures
+    second_fits c.args.buf.now c.args.pos (elements_most (length c.args.items.now)) c.args.header _ _ (roomy _ _ _ (elements_most (length c.args.items.now)) c.args.places c.is_roomy.ensures c.if-not-is_roomy.false-raw) c.ranges.header.fits c.put_fitting-mid.ensures
 
 pub put_fittings-requires : goal.put_fittings-requires
 put_fittings-requires g c =
-    rest-fits c.args.buf.now c.args.pos (elements_most (length c.args.items.now)) c.args.header _ _ (passed _ _ _ (elements_most (length c.args.items.now)) c.args.places c.has_room.ensures c.if-not-has_room.false-raw _ c.unused_zero.ensures c.if-not-unused_zero.false-raw).0 c.ranges.header.fits c.put_fitting-mid.ensures (length c.args.items.now) _ _ (omega arith) c.put_fitting-at.ensures
+    rest-fits c.args.buf.now c.args.pos (elements_most (length c.args.items.now)) c.args.header _ _ (roomy _ _ _ (elements_most (length c.args.items.now)) c.args.places c.is_roomy.ensures c.if-not-is_roomy.false-raw) c.ranges.header.fits c.put_fitting-mid.ensures (length c.args.items.now) _ _ (omega arith) c.put_fitting-at.ensures
 
 pub returns : goal.returns
 returns g c =
-    let t = (passed _ _ _ (elements_most (length c.args.items.now)) c.args.places c.has_room.ensures c.if-not-has_room.false-raw _ c.unused_zero.ensures c.if-not-unused_zero.false-raw) in
-    array_made c.args.buf.now c.args.pos (elements_most (length c.args.items.now)) c.args.header _ _ t.0 c.ranges.header.fits c.put_fitting-mid.ensures (length c.args.items.now) _ _ (omega arith) c.put_fitting-at.ensures _ t.1 _ _ _ c.put_fittings.ensures
+    array_made c.args.buf.now c.args.pos (elements_most (length c.args.items.now)) c.args.header _ _ (roomy _ _ _ (elements_most (length c.args.items.now)) c.args.places c.is_roomy.ensures c.if-not-is_roomy.false-raw) c.ranges.header.fits c.put_fitting-mid.ensures (length c.args.items.now) _ _ (omega arith) c.put_fitting-at.ensures _ (passes _ _ c.is_roomy.ensures c.if-not-is_roomy.false-raw) _ _ _ c.put_fittings.ensures

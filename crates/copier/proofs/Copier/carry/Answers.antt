@@ -3,14 +3,11 @@ use native.Mathlib.Omega.{arith}
 use lib.ListN.{drop, length-drop}
 use Rattle.putting.proofs.Writes.{reached_is}
 use Rattle.output.specs.Output.{output_bytes}
-use Rattle.copier.proofs.Calls.{ready_within, ends-within, carry_full, carry_runs}
+use Rattle.copier.proofs.Calls.{ready_within, carry_full, carry_runs}
 use Rattle.copier.proofs.Copier.carry.Goals as goal
 
 pub overflow_sub-room : goal.overflow_sub-room
 overflow_sub-room c = ready_within c.args.self _ c.requires.1.1
-
-pub put-end-requires : goal.put-end-requires
-put-end-requires c = ready_within c.args.self _ c.requires.1.1
 
 pub overflow_sub-result : goal.overflow_sub-result
 overflow_sub-result c = let r = reached_is c.args.buf.now c.args.self.writer.offset (drop c.args.self.place (output_bytes c.output-output.result)) in omega arith
@@ -25,7 +22,7 @@ pub returns-then-room-place : goal.returns-then-room-place
 returns-then-room-place c = carry_full c.args.self c.args.chunk.now c.args.buf.now c.put-end.result c.len-len.result _ c.output-output.result c.output-output.ensures c.len-len.ensures.0 c.put-end.ensures c.requires.1.0 c.if-room-place.true
 
 pub run-requires : goal.run-requires
-run-requires c = (c.requires.0, (c.requires.1.0, ends-within c.args.buf.now c.args.self.writer.offset _ _ _ (ready_within c.args.self _ c.requires.1.1) c.put-end.ensures))
+run-requires c = (c.requires.0, c.requires.1.0)
 
 pub returns : goal.returns
 returns c = carry_runs c.args.self c.args.chunk.now c.args.buf.now c.put-end.result c.len-len.result _ c.output-output.result c.output-output.ensures c.len-len.ensures.0 c.put-end.ensures c.requires c.if-room-place.false c.run.result c.run.new.buf c.run.ensures

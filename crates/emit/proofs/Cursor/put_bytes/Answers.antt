@@ -4,8 +4,5 @@ use native.Mathlib.Omega.{arith}
 use Rattle.emit.proofs.Segments.{some_left}
 use Rattle.emit.proofs.Cursor.put_bytes.Goals as goal
 
-pub returns-then-bytes-skip : goal.returns-then-bytes-skip
-returns-then-bytes-skip c = some_left _ _ _ _ _ _ _ refl refl c.put_rest-end.ensures.0 c.put_rest-end.ensures.1
-
 pub returns : goal.returns
-returns c = some_left _ _ _ _ _ _ _ (omega arith) refl c.put_rest-end.ensures.0 c.put_rest-end.ensures.1
+returns c = some_left _ _ _ _ _ _ _ (omega arith) refl c.put_rest.ensures.0 c.put_rest.ensures.1

@@ -1,6 +1,6 @@
 -- `held::Held::has_room`: the two tests as one.
 use Prim.Native.Nat.{ℕ, ◌+◌, ◌-◌, ◌≤◌, ◌<◌}
-use mathlib.Core.Path.{◌≡◌, refl, sym}
+use mathlib.Core.Path.{◌≡◌, refl, sym, ap, ◌∙◌}
 use mathlib.Core.Bool.{Bool, true, false}
 use native.Mathlib.Omega.{arith}
 use lib.Dec.{leb}
@@ -21,4 +21,4 @@ pub returns-then-room-head : goal.returns-then-room-head
 returns-then-room-head c = sym (lt-leb (length (headers_of c.args.self.count c.args.self.places) + pair_most + c.args.more) (c.args.size - c.args.pos) (omega arith))
 
 pub returns : goal.returns
-returns c = shifted _ _ _ _ c.len-head.ensures.0 c.if-room-head.false
+returns c = shifted _ _ _ _ c.len-head.ensures.0 c.if-room-head.false ∙ ap (leb (length (headers_of c.args.self.count c.args.self.places) + pair_most + c.args.more)) c.saturating_sub-room.ensures

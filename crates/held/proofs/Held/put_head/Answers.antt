@@ -4,4 +4,4 @@ use Rattle.held.proofs.Held.put_head.Goals as goal
 
 pub returns : goal.returns
 returns c =
-    joined-three _ _ _ _ _ _ _ _ _ _ _ c.requires c.put-behind.ensures c.put_varint-head.ensures c.put_varint.ensures
+    joined-three _ _ _ _ _ _ _ _ _ _ _ c.put-behind.ensures c.put_varint-head.ensures c.put_varint.ensures

@@ -32,9 +32,6 @@ returns-then-self c =
     let n = lt-ltb c.args.self.npending lazy_depth c.if-self.true in
     alters (begin_call c.args.self (length c.args.buf.now) c.args.id) _ _ _ _ (holding c.args.self c.args.id) (simp n) (simp n) (passes w) (knows w).inside refl (c.alter.ensures ∙ ap (λ (x : OStream). unwritten c.args.self c.args.place x) c.hold.ensures)
 
-pub put_marker-outcome-requires : goal.put_marker-outcome-requires
-put_marker-outcome-requires c = let k = knows (goal.at.put_marker-outcome-requires c).In_default in k.inside
-
 pub settle-requires : goal.settle-requires
 settle-requires c = few_clears c.args.self (knows (goal.at.settle-requires c).In_default).few c.put_marker-outcome.result
 

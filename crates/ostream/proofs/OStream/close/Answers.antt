@@ -7,9 +7,6 @@ use Rattle.ostream.specs.Stream.{held_bytes}
 use Rattle.ostream.proofs.Calls.{is_sound, few_clears, settles}
 use Rattle.ostream.proofs.OStream.close.Goals as goal
 
-pub put_close-outcome-requires : goal.put_close-outcome-requires
-put_close-outcome-requires c = let h = is_sound c.args.self (length c.args.buf.now) c.requires.0 in h.inside
-
 pub settle-requires : goal.settle-requires
 settle-requires c = few_clears c.args.self (is_sound c.args.self (length c.args.buf.now) c.requires.0).few c.put_close-outcome.result
 

@@ -4,7 +4,7 @@ use mathlib.Core.List.{[], ◌∷◌}
 use lib.ListN.{length}
 use Rattle.types.specs.Types.{subtype}
 use Rattle.ostream.specs.Stream.{held_bytes}
-use Rattle.ostream.specs.Calls.{payload_too_long, raw_call, fixlen_bytes}
+use Rattle.ostream.specs.Calls.{payload_too_long, fixlen_bytes}
 use Rattle.ostream.proofs.Calls.{field_clears, goes}
 use Rattle.ostream.proofs.OStream.write_fixlen_slowly.Goals as goal
 

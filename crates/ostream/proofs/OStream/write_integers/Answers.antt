@@ -1,5 +1,5 @@
 -- `ostream::OStream::write_integers`: at once from a state that holds nothing, and otherwise left to the slow form.
-use mathlib.Core.Path.{◌∙◌, refl}
+use mathlib.Core.Path.{◌∙◌}
 use native.Mathlib.Omega.{arith}
 use lib.ListN.{length}
 use Rattle.layout.specs.Limits.{base}
@@ -9,11 +9,11 @@ use Rattle.ostream.specs.Calls.{array_call}
 use Rattle.ostream.proofs.Calls.{both, committed-none}
 use Rattle.ostream.proofs.AtOnce.{is_ready, easy_with_lem, ready_array, spelled, goes_at_once, by_slow_form}
 use Rattle.ostream.proofs.OStream.write_integers.Goals as goal
-use Rattle.ostream.proofs.OStream.write_integers.Goals.{then-place-eq0+else-self-end, else-place-eq0}
+use Rattle.ostream.proofs.OStream.write_integers.Goals.{then-place-eq0+in_default, else-place-eq0}
 
-pub returns-then-self-end : goal.returns-then-self-end
-returns-then-self-end g c =
-    goes_at_once (array_call c.args.self (length c.args.buf.now) c.args.id (length c.args.items.now) (field_bytes (g.T.Integer.array c.args.id c.args.items.now))) c.args.self c.args.buf.now (field_bytes (g.T.Integer.array c.args.id c.args.items.now)) c.args.place _ _ _ _ _ (rw c.nest.ensures at c.integers_at_once-end.ensures) c.if-self-end.true (omega arith)
+pub returns-in-Some : goal.returns-in-Some
+returns-in-Some g c =
+    goes_at_once (array_call c.args.self (length c.args.buf.now) c.args.id (length c.args.items.now) (field_bytes (g.T.Integer.array c.args.id c.args.items.now))) c.args.self c.args.buf.now (field_bytes (g.T.Integer.array c.args.id c.args.items.now)) c.args.place _ _ _ _ _ _ (rw c.nest.ensures at c.integers_at_once.ensures) c.in-Some.is (omega arith)
     (λ t.
     let q = both _ _ t in
     let e = easy_with_lem c.args.self c.args.id (length c.args.items.now) base.count q.0 in
@@ -24,5 +24,5 @@ returns-then-self-end g c =
 pub returns : goal.returns
 returns g c =
     by_slow_form (λ s n. array_call s n c.args.id (length c.args.items.now) (field_bytes (g.T.Integer.array c.args.id c.args.items.now))) c.args.self _ c.args.buf.now _ c.args.place _ _ _ c.rebuilt.ensures
-    (elim c.if-place-eq0.branch [ then-place-eq0+else-self-end w ↦ w.buf-is ∙ stayed _ c.args.buf.now c.args.self.offset (field_bytes (g.T.Integer.array c.args.id c.args.items.now)) _ _ (rw w.nest.ensures at w.integers_at_once-end.ensures) w.if-self-end.false | else-place-eq0 w ↦ w.buf-is ])
+    (elim c.if-place-eq0.branch [ then-place-eq0+in_default w ↦ w.buf-is ∙ stayed _ c.args.buf.now c.args.self.offset (field_bytes (g.T.Integer.array c.args.id c.args.items.now)) _ _ (rw w.nest.ensures at w.integers_at_once.ensures) w.in_default.is | else-place-eq0 w ↦ w.buf-is ])
     c.rebuilt-2.ensures c.write_integers_slowly.ensures

@@ -4,7 +4,6 @@ use mathlib.Core.Path.{refl}
 use mathlib.Core.List.{[], ◌++◌}
 use Rattle.layout.specs.Varint.{shortest}
 use Rattle.ostream.specs.Stream.{held_bytes}
-use Rattle.ostream.specs.Calls.{varint_call}
 use Rattle.ostream.proofs.Calls.{field_clears, goes}
 use Rattle.ostream.proofs.OStream.write_varint_field_slowly.Goals as goal
 

@@ -24,7 +24,8 @@ fn digit(b: u8) -> Option<u8>
     }
 }
 
-// A word in decimal, of up to 19 digits after its leading zeros. (`parse` takes a sign as well, and 20 digits.)
+// A word in decimal, of up to 19 digits after its leading zeros. (By hand: `parse` takes a sign as well, and 20 digits,
+// and two tests before it would be no shorter.)
 fn number(word: &[u8]) -> Option<u64> {
     let mut n: u64 = 0;
     for &b in word {
@@ -38,7 +39,7 @@ fn number(word: &[u8]) -> Option<u64> {
 
 // The number that the ith argument says. The program's own name has 0.
 pub fn number_at(rt: &impl Env, i: usize) -> Result<u64, NoNumber> {
-    let mut word = [0u8; 4096];
+    let mut word = [0u8; 4096]; // fixed memory: there is no heap
     match rt.arg(i, &mut word) {
         Ok(n) => number(&word[..n]).ok_or(NoNumber::Malformed),
         Err(FillError::NotPresent) => Err(NoNumber::Missing),

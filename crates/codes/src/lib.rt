@@ -1,4 +1,5 @@
-// The numbers that C is answered for a verdict on a message given whole, for the length of its plain copy, and for the drains that this costs.
+// The numbers that C is answered for a verdict on a message given whole, for the length of its plain copy, and for the drains that this costs:
+// what stands here case by case is the C interface, and `include/sofab.h` has it.
 #![tactic(auto)]
 
 ghost use Rattle.std.specs.Prelude.{◌≡◌, ◌≢◌, ℕ, ◌<◌, MatchOption};

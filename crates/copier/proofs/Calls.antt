@@ -56,7 +56,7 @@ live_not_broke broke l = absurd l
 live_if : (st : State) → is_broke st ≡ false → Live st
 live_if (reading d p) e = tt
 live_if (owing d id r) e = tt
-live_if broke e = let z : ◌≡◌ {A = ℕ} 0 1 = cc in absurd (omega arith)
+live_if broke e = absurd cc
 
 pub ready_within : (k : Copier) (size : ℕ) → sound_writer k size ≡ true → k.writer.offset ≤ size
 unfolding sound_writer writer.sound_stream
@@ -133,7 +133,7 @@ module _ (k : Copier) (c b : List ℕ) (end len : ℕ) (b' : List ℕ) (x : Outp
       ap ended_in q ∙ (λ i. record { used = 0; said = Said.full; reader = r i; depth = k.writer.depth; pos = end; owed = o i; place = m i; buf = b' })
 
   pub carry_runs : Ready k (length b) → len ≤ length b - k.writer.offset + k.place → (t : Stop) (b'' : List ℕ) → Ran k.reader end c b' t b'' → Stops (copy base (copy_of k) c b) t b''
-  carry_runs (s, (lv, g)) h t b'' ran =
+  carry_runs ((s, lv), g) h t b'' ran =
       let f : length (rest (owed_of k.owed k.place)) ≤ length b - k.writer.offset = omega (arith, long) in
       let d = ready_depth k (length b) lv g in
       let q =
@@ -198,4 +198,4 @@ pub feed_ready : (k : Copier) (size : ℕ) → judged_by k.reader k.writer k.owe
 unfolding sound_writer
 feed_ready k size p =
     let q = all_pass (sound_stream base k.reader) (sound_writer k size) (is_broke (state_of k.reader)) p in
-    (q.0, (live_if (state_of k.reader) q.2, q.1))
+    ((q.0, live_if (state_of k.reader) q.2), q.1)

@@ -1,12 +1,9 @@
 -- What the parts of a feed come to: cited by private functions alone. `feed` has its equation in `Calls`.
 use Rattle.std.specs.Prelude.{ℕ, ◌≡◌, true, Err}
-use Rattle.layout.specs.Limits.{base}
 use Rattle.types.specs.declared.Error.{Error}
-use Rattle.phase.proofs.Phases.{Live}
-use Rattle.istream.specs.Stream.{state_of, sound_stream}
 use Rattle.ostream.specs.declared.OStream.{OStream}
 use Rattle.turns.specs.declared.Stop.{Stop}
-use Rattle.turns.specs.Turns.{Ended}
+use Rattle.turns.specs.Turns.{Ended, GoesOn}
 use Rattle.copier.specs.declared.Copier.{Copier}
 use Rattle.copier.specs.declared.Copied.{Copied}
 use Rattle.copier.specs.Copier.{moved, sound_writer}
@@ -25,4 +22,4 @@ result_with w r = record { used = r.used; said = r.said; copier = record { reade
 
 -- a copier that is sound for a buffer of this size, and whose reader goes on
 abbrev pub Ready : Copier → ℕ → Type 0
-Ready k size = (sound_stream base k.reader ≡ true) × (Live (state_of k.reader) × (sound_writer k size ≡ true))
+Ready k size = GoesOn k.reader × (sound_writer k size ≡ true)

@@ -38,8 +38,8 @@ nothing_any (owes.Begin id) place = refl
 nothing_any owes.End place = refl
 
 broke_is : (st : State) → is_broke st ≡ true → st ≡ broke
-broke_is (reading d p) e = let z : ◌≡◌ {A = ℕ} 0 1 = cc in absurd (omega arith)
-broke_is (owing d id r) e = let z : ◌≡◌ {A = ℕ} 0 1 = cc in absurd (omega arith)
+broke_is (reading d p) e = absurd cc
+broke_is (owing d id r) e = absurd cc
 broke_is broke e = refl
 
 -- the copier's own conditions, where the reader is broken and where it is not
@@ -64,7 +64,7 @@ module _ (s : IStream) (depth : ℕ) (o : Owed) (place : ℕ) where
       go (phases.Float id w left k v) e = refl
       go (phases.Payload id r total o) e = refl
       go (phases.Empty id r) e = refl
-      go phases.Broken e = let z : ◌≡◌ {A = ℕ} 0 1 = cc in absurd (omega arith)
+      go phases.Broken e = absurd cc
 
 -- ---- the writer, and the copier's own conditions
 

@@ -35,8 +35,8 @@ fn sum(a: u32, b: u32, c: u32, d: u32) -> u64
     a as u64 + b as u64 + c as u64 + d as u64
 }
 
-// Whether a writer that holds no id is sound for a buffer of this size. The places are looked at together: one by one they would be a good
-// part of a short call.
+// Whether a writer that holds no id is sound for a buffer of this size. The eight places, the writer's own fixed memory, are looked at by
+// their sum: one by one, as `places::unused_zero` does, they took a quarter of `feed` (docs/PERFORMANCE.md).
 fn is_rested(offset: usize, depth: u16, places: [u32; LAZY_SEQ_DEPTH], size: usize) -> bool
     ensures { result ≡ sound_for offset depth 0 places size }
 {

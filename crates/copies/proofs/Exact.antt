@@ -30,7 +30,7 @@ use Rattle.copies.proofs.Ends.{calling_ends}
 use Rattle.copies.proofs.Demand.{chunk_bytes, demand}
 
 no : false ≡ true → ⊥
-no x = let w : ◌≡◌ {A = ℕ} 0 1 = cc in omega arith
+no x = cc
 
 drained_desk : (reserved : List ℕ) (cs : List (List ℕ)) (d : Desk) → Fine reserved cs d
     → act drain d ≡ sending d (bytes d.copier.writer.offset) (over d.copier (at d.copier.writer 0)) d.buf

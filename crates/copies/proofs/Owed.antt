@@ -33,7 +33,7 @@ rest_owed zero (Signed id z) place g = refl
 rest_owed (suc due) (Signed id z) place g = refl
 rest_owed due (Float id fp32 x) place g = refl
 rest_owed due (Float id fp64 x) place g = refl
-rest_owed due (Piece id r total o bs) place g = let z : ◌≡◌ {A = ℕ} 0 1 = cc in absurd (omega arith)
+rest_owed due (Piece id r total o bs) place g = absurd cc
 rest_owed due (Fixlen id (float fp32) n) place g = ap (λ (m : ℕ). rest (owes due (Fixlen id (float fp32) m) place)) (sym (float_length id fp32 n g))
 rest_owed due (Fixlen id (float fp64) n) place g = ap (λ (m : ℕ). rest (owes due (Fixlen id (float fp64) m) place)) (sym (float_length id fp64 n g))
 rest_owed due (Fixlen id (raw string) n) place g = refl
@@ -56,7 +56,7 @@ agrees-owed r w zero (Signed id z) place l g p = three l g p
 agrees-owed r w (suc due) (Signed id z) place l g p = three l refl p
 agrees-owed r w due (Float id fp32 x) place l g p = three l refl p
 agrees-owed r w due (Float id fp64 x) place l g p = three l refl p
-agrees-owed r w due (Piece id p total o bs) place l g q = let z : ◌≡◌ {A = ℕ} 0 1 = cc in absurd (omega arith)
+agrees-owed r w due (Piece id p total o bs) place l g q = absurd cc
 agrees-owed r w due (Fixlen id (float fp32) n) place l g p =
     three l (three (both (leb id base.id) (eqb n (bytes_of fp32)) g).0 refl refl) (ap (λ (m : ℕ). ltb place (length (event_bytes due (Fixlen id (float fp32) m)))) (sym (float_length id fp32 n g)) ∙ p)
 agrees-owed r w due (Fixlen id (float fp64) n) place l g p =
@@ -86,4 +86,4 @@ unfolding sound_owed
 owed_back (reading d p) w o h = agrees_back d w o h
 owed_back (owing d id r) w o h = agrees_back d w o h
 owed_back broke w nothing h = (refl, refl)
-owed_back broke w (owes due e place) h = let z : ◌≡◌ {A = ℕ} 0 1 = cc in absurd (omega arith)
+owed_back broke w (owes due e place) h = absurd cc

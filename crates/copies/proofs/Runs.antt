@@ -86,7 +86,7 @@ inside k size s = (writers.is_sound k.writer size s.writer).inside
 pub broken_owes : (w : ℕ) (o : Owed) → sound_owed base broke w o ≡ true → rest o ≡ []
 unfolding sound_owed rest
 broken_owes w nothing h = refl
-broken_owes w (owes due e place) h = let z : ◌≡◌ {A = ℕ} 0 1 = cc in absurd (omega arith)
+broken_owes w (owes due e place) h = absurd cc
 
 -- ---- a feed
 
@@ -142,7 +142,7 @@ module _ (reserved : List ℕ) (cs : List (List ℕ)) (d : Desk) (c : List ℕ) 
         sound = y;
         room = omega (arith, f.room);
         bytes = first.1;
-        filled = λ z. let w : ◌≡◌ {A = ℕ} 0 1 = cc in absurd (omega arith);
+        filled = λ z. absurd cc;
         few = f.few;
         ahead = grows k' b' a (inside k' (length b') y) m;
       }
@@ -171,7 +171,7 @@ module _ (reserved : List ℕ) (cs : List (List ℕ)) (d : Desk) (c : List ℕ) 
               live = λ w. refl;
               count = ap (λ (x : ℕ). x + u) s.count ∙ ap (λ (x : ℕ). length s.read + x) (sym n) ∙ sym (length-append s.read (take u c));
               keeps = q;
-              settled = λ w. let v : ◌≡◌ {A = ℕ} 0 1 = cc in absurd (omega arith);
+              settled = λ w. absurd cc;
               heard = s.heard;
               sound = sound_is k' (length b') y;
             };
@@ -272,8 +272,8 @@ module _ (reserved : List ℕ) (cs : List (List ℕ)) (d : Desk) (c : List ℕ) 
 
       go : (st : State) → state_of k.reader ≡ st → P (fed d c later (copied k c b).said (copied k c b))
       go broke h = subst (λ (x : Outcome). P (fed d c later x.said x)) (sym (on_broken k c b f.sound h)) (two h)
-      go (reading dep p) h = reads (subst Live (sym h) tt) (λ x. let z : reading dep p ≡ broke = sym h ∙ x in let w : ◌≡◌ {A = ℕ} 0 1 = cc in omega arith)
-      go (owing dep id w) h = reads (subst Live (sym h) tt) (λ x. let z : owing dep id w ≡ broke = sym h ∙ x in let v : ◌≡◌ {A = ℕ} 0 1 = cc in omega arith)
+      go (reading dep p) h = reads (subst Live (sym h) tt) (λ x. cc)
+      go (owing dep id w) h = reads (subst Live (sym h) tt) (λ x. cc)
 
   -- A feed brings the end nearer: its chunk ends, or the buffer is written to its end.
   abbrev pub Moves : Desk → Type 0
@@ -320,12 +320,12 @@ module _ (reserved : List ℕ) (cs : List (List ℕ)) (d : Desk) (c : List ℕ) 
         subst (λ (l : List ℕ). length out' < length reserved + length (encode_events 0 (events_of base l))) cut
             (wants_bound base reserved (s.read ++ take r.used c) (drop r.used c) more out' r.copy called.keeps h.1),
       )
-  less_by more (copying.verdict v) z h x = absurd (let w : ◌≡◌ {A = ℕ} 0 1 = cc in omega arith)
-  less_by more copying.invalid z h x = absurd (let w : ◌≡◌ {A = ℕ} 0 1 = cc in omega arith)
+  less_by more (copying.verdict v) z h x = absurd cc
+  less_by more copying.invalid z h x = absurd cc
   less_by more copying.unfinished z h x = absurd h
 
   feed_less : (more : List ℕ) → Less more (fed d c later (copied k c b).said (copied k c b))
-  feed_less more = by_feed (Less more) (λ h x. absurd (let w : ◌≡◌ {A = ℕ} 0 1 = cc in omega arith)) (λ a n h. less_by more a (s.live n) h)
+  feed_less more = by_feed (Less more) (λ h x. absurd cc) (λ a n h. less_by more a (s.live n) h)
 
 fine_feeding : (reserved : List ℕ) (cs : List (List ℕ)) (d : Desk) (l : List (List ℕ)) → Fine reserved cs d → d.chunks ≡ l → Fine reserved cs (feeding d l)
 unfolding feeding
@@ -368,7 +368,7 @@ feed_sends d = go d.chunks
 either : (x y z : Bool) → (x || (y && z)) ≡ true → (x ≡ true) ⊎ (z ≡ true)
 either true y z h = inl refl
 either false true z h = inr h
-either false false z h = let w : ◌≡◌ {A = ℕ} 0 1 = cc in absurd (omega arith)
+either false false z h = absurd cc
 
 -- a counted drain sends a byte at least
 sends_one : (reserved : List ℕ) (cs : List (List ℕ)) (d : Desk) → Fine reserved cs d → counts d ≡ true → 1 ≤ d.copier.writer.offset
@@ -409,7 +409,7 @@ fine_sending reserved cs d b f h =
       sound = y;
       room = h;
       bytes = f.bytes;
-      filled = λ w. let v : ◌≡◌ {A = ℕ} 0 1 = cc in absurd (omega arith);
+      filled = λ w. absurd cc;
       few = go (counts d) refl n;
       ahead = subst (λ (l : List ℕ). length reserved ≤ length l) (sym (append-nil (out d))) f.ahead;
     }
@@ -489,7 +489,7 @@ fine_fresh offset b cs h a k e s =
       sound = s;
       room = omega arith;
       bytes = a;
-      filled = λ z. let v : ◌≡◌ {A = ℕ} 0 1 = cc in absurd (omega arith);
+      filled = λ z. absurd cc;
       few = omega arith;
       ahead = omega (arith, ap length p);
     }

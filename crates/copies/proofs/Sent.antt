@@ -109,8 +109,8 @@ at_the_end reserved cs d s e =
   where
     go : (st : State) → state_of d.copier.reader ≡ st → events_of base (join cs) ≡ events_of base s.read
     go broke h = broken_events reserved cs d s h
-    go (reading dep p) h = all_events reserved cs d s (λ x. let z : reading dep p ≡ broke = sym h ∙ x in let w : ◌≡◌ {A = ℕ} 0 1 = cc in omega arith) e
-    go (owing dep id r) h = all_events reserved cs d s (λ x. let z : owing dep id r ≡ broke = sym h ∙ x in let w : ◌≡◌ {A = ℕ} 0 1 = cc in omega arith) e
+    go (reading dep p) h = all_events reserved cs d s (λ x. cc) e
+    go (owing dep id r) h = all_events reserved cs d s (λ x. cc) e
 
 -- a drain sends what is out
 drain_sends : (reserved : List ℕ) (cs : List (List ℕ)) (d : Desk) → Fine reserved cs d → (act drain d).sent ≡ out d

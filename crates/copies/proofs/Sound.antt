@@ -268,8 +268,8 @@ refuses_live k c b s n = go (copy base (copy_of k) c b).answer (copy-sound base 
   where
     go : (a : copying.Said) → (a ≡ copying.unfinished → ⊥) → said_in a ≡ calls.Said.number n
         → ((n ≡ 1) ⊎ ((n ≡ 6) ⊎ (n ≡ 2))) × ((n ≡ 1) ⊎ (n ≡ 6) → result_in k (copy base (copy_of k) c b) ≡ untouched n k b)
-    go copying.full u e = let z : ◌≡◌ {A = ℕ} 0 1 = cc in absurd (omega arith)
-    go (copying.verdict v) u e = let z : ◌≡◌ {A = ℕ} 0 1 = cc in absurd (omega arith)
+    go copying.full u e = absurd cc
+    go (copying.verdict v) u e = absurd cc
     go copying.invalid u e = let m = same_number e in (inr (inr (sym m)), λ f. two_is n m f)
     go copying.unfinished u e = absurd (u refl)
 

@@ -42,7 +42,7 @@ count_in (Err u) = 0
 -- No more drains than bytes, and a copy is no longer than its message.
 pub drains_small : (T : List ℕ) → Bytes T → length T < 9223372036854775808 → (b : ℕ) (d : Result Drains Uncounted) → d ≡ drains_of T b → (n k : ℕ) → d ≡ Ok (record { count = k; len = n }) → k < 9223372036854775808
 unfolding drains_in
-drains_small T a h zero d e n k g = let q : drains_in zero (length_of T) ≡ told k n = sym e ∙ g in absurd (let z : ◌≡◌ {A = ℕ} 0 1 = cc in omega arith)
+drains_small T a h zero d e n k g = let q : drains_in zero (length_of T) ≡ told k n = sym e ∙ g in absurd cc
 drains_small T a h (suc b) d e n k g = go (length_of T) refl
   where
     go : (l : Result ℕ Stop) → length_of T ≡ l → k < 9223372036854775808
@@ -50,7 +50,7 @@ drains_small T a h (suc b) d e n k g = go (length_of T) refl
         let c : told (rounded_up m (suc b)) m ≡ told k n = ap (counted (suc b)) (sym q) ∙ sym e ∙ g in
         let r : rounded_up m (suc b) ≡ k = ap count_in c in
         omega (arith, r, rounded_most m (suc b) (omega arith), length_small T a h (length_of T) refl m q)
-    go (Err s) q = let c : Err (Stopped s) ≡ told k n = ap (counted (suc b)) (sym q) ∙ sym e ∙ g in absurd (let z : ◌≡◌ {A = ℕ} 0 1 = cc in omega arith)
+    go (Err s) q = let c : Err (Stopped s) ≡ told k n = ap (counted (suc b)) (sym q) ∙ sym e ∙ g in absurd cc
 
 some_drained : (b n : ℕ) → 1 ≤ b → drained b complete n ≡ pos (rounded_up n b)
 unfolding drained measured

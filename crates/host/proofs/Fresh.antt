@@ -56,10 +56,10 @@ fed-whole T b a v =
 
 -- a test that fails
 pub apart : {P : Type 0} (x : Bool) → (P → x ≡ true) → x ≡ false → P → ⊥
-apart x f e p = let q = f p in let z : ◌≡◌ {A = ℕ} 0 1 = cc in omega arith
+apart x f e p = let q = f p in cc
 
 full_is : full ≡ verdict complete → ⊥
-full_is e = let z : ◌≡◌ {A = ℕ} 0 1 = cc in omega arith
+full_is e = cc
 
 module _ (T b : List ℕ) (a : Bytes T) (v : verdict_of base T ≡ complete) (s : length b < 9223372036854775808) (k : Copier) (o : k ≡ (started (length b) 0).copier) (r : results.Copied) (b' : List ℕ)
     (e : calls.result_of r b' ≡ calls.copied k T b) where

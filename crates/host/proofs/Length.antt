@@ -36,10 +36,10 @@ length_small T a h l e n g = go (verdict_of base T) refl
         omega arith
     go incomplete q =
         let b : ◌≡◌ {A = Result ℕ Stop} (Err Short) (Ok n) = ap (λ (v : Verdict). length_in v (length (plain_copy base T))) (sym q) ∙ sym e ∙ g in
-        absurd (let z : ◌≡◌ {A = ℕ} 0 1 = cc in omega arith)
+        absurd cc
     go (broken_at k) q =
         let b : ◌≡◌ {A = Result ℕ Stop} (Err (Broken k)) (Ok n) = ap (λ (v : Verdict). length_in v (length (plain_copy base T))) (sym q) ∙ sym e ∙ g in
-        absurd (let z : ◌≡◌ {A = ℕ} 0 1 = cc in omega arith)
+        absurd cc
 
 -- ---- beside the copy's call, for every message and output
 
@@ -69,13 +69,13 @@ length_streamed T w r =
 
 heard_once : (v w : Verdict) → heard_of v ≡ heard_of w → v ≡ w
 heard_once complete complete e = refl
-heard_once complete incomplete e = absurd (let z : ◌≡◌ {A = ℕ} 0 1 = cc in omega arith)
-heard_once complete (broken_at k) e = absurd (let z : ◌≡◌ {A = ℕ} 0 1 = cc in omega arith)
-heard_once incomplete complete e = absurd (let z : ◌≡◌ {A = ℕ} 0 1 = cc in omega arith)
+heard_once complete incomplete e = absurd cc
+heard_once complete (broken_at k) e = absurd cc
+heard_once incomplete complete e = absurd cc
 heard_once incomplete incomplete e = refl
-heard_once incomplete (broken_at k) e = absurd (let z : ◌≡◌ {A = ℕ} 0 1 = cc in omega arith)
-heard_once (broken_at j) complete e = absurd (let z : ◌≡◌ {A = ℕ} 0 1 = cc in omega arith)
-heard_once (broken_at j) incomplete e = absurd (let z : ◌≡◌ {A = ℕ} 0 1 = cc in omega arith)
+heard_once incomplete (broken_at k) e = absurd cc
+heard_once (broken_at j) complete e = absurd cc
+heard_once (broken_at j) incomplete e = absurd cc
 heard_once (broken_at j) (broken_at k) e = let q : j ≡ k = cc in ap broken_at q
 
 -- What the reader says at last, a verdict, or 2 with the count read, is what the answer tells.

@@ -8,6 +8,7 @@ ghost use Rattle.last_line.specs.Verdict.{verdict_in};
 
 use emit::put_rest;
 
+// (`istream::Standing` has these cases too, of a reader: with it the last line, which needs none, would stand above the whole reader.)
 #[derive(Clone, Copy, PartialEq, Eq)]
 pub enum Verdict {
     Complete,
@@ -16,6 +17,7 @@ pub enum Verdict {
 }
 
 impl Verdict {
+    // The list's own words: no library has them.
     pub fn line(self) -> &'static [u8]
         ensures { result.now ≡ last_line (verdict_in self) }
     {

@@ -5,14 +5,15 @@
 use piping::copy_all;
 use std::io;
 
-const NAME: [u8; 8] = *b"manifest";
+const NAME: &[u8] = b"manifest";
 
 // Only a line that standard error doesn't take ends it with an error of its own.
 fn main(rt: HostRuntime) -> io::Result<()> {
+    // Fixed memory: there is no heap.
     let mut chunk = [0u8; 65536];
     let mut out = [0u8; 65536];
     match copy_all(&mut rt.stdin(), &mut io::writer(&rt), &mut chunk, &mut out) {
         Ok(_) => Ok(()),
-        Err(trouble) => trouble.say(&rt.stderr(), &NAME),
+        Err(trouble) => trouble.say(&rt.stderr(), NAME),
     }
 }

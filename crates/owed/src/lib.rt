@@ -19,7 +19,8 @@ use varint::zigzag_encode;
 
 // An event that is read and not yet written whole. Only events that the layout allows, but for their numbers' limits: `Element` and
 // `SignedElement` stand in an array, and go out bare as the floats do; `Float` and `Payload` announce a fixed-length field. A payload's
-// piece is never owed: it counts as read only as far as it is out.
+// piece is never owed: it counts as read only as far as it is out. (`Nothing` is a case beside the others: with an Option each method would be
+// a `map_or` that says the same of none, an empty output, equal depths, any place.)
 #[derive(Clone, Copy)]
 pub enum Owed {
     Nothing,
@@ -43,7 +44,7 @@ fn word(w: FloatType) -> u64
     tagged(w.bytes() as u32, w.fixlen().raw())
 }
 
-// An array's announcement; a float array's has a word.
+// An array's announcement; a float array's has a word. (`kind` is an enum of the layout's, and all its cases are here.)
 fn array_output(id: u32, kind: ArrayKind, count: u32) -> Output
     ensures { result ≡ array_output id kind count }
 {

@@ -9,7 +9,9 @@ use event::{Event, fp32_bits, fp64_bits};
 use owed::Owed;
 use types::{FixlenType, FloatType, RawType};
 
-// What is owed of an event that came while so many elements of an array were due, the one that it is included.
+// What is owed of an event that came while so many elements of an array were due, the one that it is included: 0 in no array, as the phase
+// counts them (an Option of the number would be taken apart here to ask the same). A subtype is named case by case: as a float's or else a
+// payload's, by two `TryFrom`, it would take two tests and an arm that never is.
 pub fn owe(left: u32, event: Event) -> Owed
     ensures { result ≡ owe left (event_of [] event) }
 {

@@ -7,7 +7,8 @@ use istream::Status;
 use std::io::{self, ErrorKind, Read, Write};
 pub use streams::{Failure, unread, unwritten};
 
-// Why there is no whole copy: the message ends early, after so many bytes, or is broken, at such a byte; or a read or a write failed.
+// Why there is no whole copy: the message ends early, after so many bytes, or is broken, at such a byte; or a read or a write failed. (The
+// error of the Results here, and no missing value.)
 #[derive(Clone, Copy)]
 pub enum Trouble {
     Incomplete(u64),
@@ -56,7 +57,8 @@ impl Copy {
             .map_err(|e| Failure::Unwritten(e.kind()))
     }
 
-    // A chunk, call by call until it is spent. After "full" that goes on, once the bytes are out.
+    // A chunk, call by call until it is spent. After "full" that goes on, once the bytes are out. (Tried as `loop`: its measure stayed open,
+    // since no contract of one call says that a feed after a drain uses a byte or writes one.)
     fn take(
         &mut self,
         chunk: &[u8],
@@ -78,8 +80,8 @@ impl Copy {
         Ok(Status::Incomplete)
     }
 
-    // Chunk by chunk to the end of the input; a message of no byte is complete. Nothing says that an input ends, so the turns are counted,
-    // up to a number that no run uses up.
+    // Chunk by chunk to the end of the input; a message of no byte is complete. (Tried as `loop`: its measure stayed open, since no
+    // `Read` says that it ends. So the turns are counted, up to a number that no run uses up.)
     fn take_all(
         &mut self,
         input: &mut impl Read,

@@ -66,8 +66,8 @@ piece_before id r total o b bs x es pre post n e go =
     }
 
 no_more : (x : Event) (pre post : List Event) → [] ≡ pre ++ (x ∷ post) → ⊥
-no_more x [] post e = let z : ◌≡◌ {A = ℕ} 0 1 = cc in omega arith
-no_more x (y ∷ pre) post e = let z : ◌≡◌ {A = ℕ} 0 1 = cc in omega arith
+no_more x [] post e = cc
+no_more x (y ∷ pre) post e = cc
 
 pub found : (x : Event) (es pre post : List Event) → NotPiece x → bytewise es ≡ pre ++ (x ∷ post) → At x es pre post
 unfolding bytewise cut cut_piece
@@ -91,7 +91,7 @@ unfolding cut_from
 first_part id r total o [] bs X post n e =
     let z : o ≡ o + 0 = omega arith in
     (bs, refl, e ∙ ap (λ (m : ℕ). cut_from id r total m bs ++ post) z)
-first_part id r total o (c ∷ cs) [] X [] n e = let z : ◌≡◌ {A = ℕ} 0 1 = cc in absurd (omega arith)
+first_part id r total o (c ∷ cs) [] X [] n e = absurd cc
 first_part id r total o (c ∷ cs) [] X (y ∷ post) n e = let z : y ≡ Piece id r total o (c ∷ []) = cc in absurd (subst NotPiece z n)
 first_part id r total o (c ∷ cs) (b ∷ bs) X post n e =
     let z : c ≡ b = cc in
@@ -147,13 +147,13 @@ by_piece id id' r r' total total' o o' b c bs cs es post n e go =
 
 pub parted : (id : ℕ) (r : Raw) (total o b : ℕ) (bs : List ℕ) (es post : List Event) → Next post → bytewise es ≡ cut_from id r total o (b ∷ bs) ++ post → Parted id r total o (b ∷ bs) es post
 unfolding bytewise cut cut_piece cut_from
-parted id r total o b bs [] post n e = let z : ◌≡◌ {A = ℕ} 0 1 = cc in absurd (omega arith)
-parted id r total o b bs (Unsigned i v ∷ es) post n e = let z : ◌≡◌ {A = ℕ} 0 1 = cc in absurd (omega arith)
-parted id r total o b bs (Signed i z' ∷ es) post n e = let z : ◌≡◌ {A = ℕ} 0 1 = cc in absurd (omega arith)
-parted id r total o b bs (Float i w v ∷ es) post n e = let z : ◌≡◌ {A = ℕ} 0 1 = cc in absurd (omega arith)
-parted id r total o b bs (Piece i r' t o' [] ∷ es) post n e = let z : ◌≡◌ {A = ℕ} 0 1 = cc in absurd (omega arith)
+parted id r total o b bs [] post n e = absurd cc
+parted id r total o b bs (Unsigned i v ∷ es) post n e = absurd cc
+parted id r total o b bs (Signed i z' ∷ es) post n e = absurd cc
+parted id r total o b bs (Float i w v ∷ es) post n e = absurd cc
+parted id r total o b bs (Piece i r' t o' [] ∷ es) post n e = absurd cc
 parted id r total o b bs (Piece i r' t o' (c ∷ cs) ∷ es) post n e = by_piece id i r r' total t o o' b c bs cs es post n e (λ m b' bs' g. parted id r total m b' bs' es post n g)
-parted id r total o b bs (Fixlen i s t ∷ es) post n e = let z : ◌≡◌ {A = ℕ} 0 1 = cc in absurd (omega arith)
-parted id r total o b bs (Array i k c ∷ es) post n e = let z : ◌≡◌ {A = ℕ} 0 1 = cc in absurd (omega arith)
-parted id r total o b bs (Begin i ∷ es) post n e = let z : ◌≡◌ {A = ℕ} 0 1 = cc in absurd (omega arith)
-parted id r total o b bs (End ∷ es) post n e = let z : ◌≡◌ {A = ℕ} 0 1 = cc in absurd (omega arith)
+parted id r total o b bs (Fixlen i s t ∷ es) post n e = absurd cc
+parted id r total o b bs (Array i k c ∷ es) post n e = absurd cc
+parted id r total o b bs (Begin i ∷ es) post n e = absurd cc
+parted id r total o b bs (End ∷ es) post n e = absurd cc

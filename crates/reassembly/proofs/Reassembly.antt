@@ -30,19 +30,19 @@ record Held (id : ℕ) (r : Raw) (bytes : List ℕ) (es post : List Event) : Typ
 -- an empty payload's one piece
 empty-piece : (id : ℕ) (r : Raw) (es post : List Event) → bytewise es ≡ Piece id r 0 0 [] ∷ post → Held id r [] es post
 unfolding bytewise cut cut_piece cut_from piece_events
-empty-piece id r [] post e = let z : ◌≡◌ {A = ℕ} 0 1 = cc in absurd (omega arith)
-empty-piece id r (Unsigned i v ∷ es) post e = let z : ◌≡◌ {A = ℕ} 0 1 = cc in absurd (omega arith)
-empty-piece id r (Signed i z' ∷ es) post e = let z : ◌≡◌ {A = ℕ} 0 1 = cc in absurd (omega arith)
-empty-piece id r (Float i w v ∷ es) post e = let z : ◌≡◌ {A = ℕ} 0 1 = cc in absurd (omega arith)
+empty-piece id r [] post e = absurd cc
+empty-piece id r (Unsigned i v ∷ es) post e = absurd cc
+empty-piece id r (Signed i z' ∷ es) post e = absurd cc
+empty-piece id r (Float i w v ∷ es) post e = absurd cc
 empty-piece id r (Piece i r' t o' [] ∷ es) post e =
     let same : Piece i r' t o' [] ≡ Piece id r 0 0 [] = cc in
     let rest : bytewise es ≡ post = cc in
     record { parts = [] ∷ []; pieces = empty; whole = refl; after = es; here = ap (λ (y : Event). y ∷ es) same; posts = rest }
-empty-piece id r (Piece i r' t o' (c ∷ cs) ∷ es) post e = let z : ◌≡◌ {A = ℕ} 0 1 = cc in absurd (omega arith)
-empty-piece id r (Fixlen i s t ∷ es) post e = let z : ◌≡◌ {A = ℕ} 0 1 = cc in absurd (omega arith)
-empty-piece id r (Array i k c ∷ es) post e = let z : ◌≡◌ {A = ℕ} 0 1 = cc in absurd (omega arith)
-empty-piece id r (Begin i ∷ es) post e = let z : ◌≡◌ {A = ℕ} 0 1 = cc in absurd (omega arith)
-empty-piece id r (End ∷ es) post e = let z : ◌≡◌ {A = ℕ} 0 1 = cc in absurd (omega arith)
+empty-piece id r (Piece i r' t o' (c ∷ cs) ∷ es) post e = absurd cc
+empty-piece id r (Fixlen i s t ∷ es) post e = absurd cc
+empty-piece id r (Array i k c ∷ es) post e = absurd cc
+empty-piece id r (Begin i ∷ es) post e = absurd cc
+empty-piece id r (End ∷ es) post e = absurd cc
 
 held : (id : ℕ) (r : Raw) (bytes : List ℕ) (es post : List Event) → Next post → bytewise es ≡ cut_piece id r (length bytes) 0 bytes ++ post → Held id r bytes es post
 unfolding cut_piece

@@ -13,7 +13,7 @@ pub fn read_full<R: Read>(input: &mut R, buf: &mut [u8]) -> io::Result<usize>
     ensures bytes { IfOk result (λ n. Consumes (R.remaining input.old) (R.remaining input.new) (take n buf.new)) }
     ensures end { IfOk result (λ n. n < length buf.new → IsAtEnd (R.remaining input.new)) }
 {
-    // No `for`: `done` goes on by what each read answers.
+    // No `for`: `done` goes on by what each read answers, and only its end says how often. (`read_exact` takes an early end for an error.)
     let mut done = 0;
     while done < buf.len() {
         let n = input.read(&mut buf[done..])?;
@@ -25,7 +25,7 @@ pub fn read_full<R: Read>(input: &mut R, buf: &mut [u8]) -> io::Result<usize>
     Ok(done)
 }
 
-// Which stream failed a program.
+// Which stream failed a program: what a Result here has as its error, and no missing value.
 #[derive(Clone, Copy)]
 pub enum Failure {
     Unread,

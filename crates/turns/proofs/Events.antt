@@ -92,7 +92,7 @@ level-step L d (in_signed_count id k v) b i = level-within d (push L k v b) (in_
 level-step L d (in_float_count id k v) b i = level-within d (push L k v b) (in_float_count id) (at_float_count L d id) (λ c. level-pick d (leb c L.count) _ bad refl tt)
 level-step L d (in_array_word id c k v) b i = level-within d (push L k v b) (in_array_word id c) (at_array_word d id c) (λ w. level_element d id c (w / 8) (subtype_of (w % 8)))
 level-step L d (in_float id w left k v) b i = level-pick d (ltb (k + 1) (bytes_of w)) _ _ refl (refl, tt)
-level-step L d (in_payload id r total o) b i = let z : ◌≡◌ {A = ℕ} 0 1 = cc in absurd (omega arith)
+level-step L d (in_payload id r total o) b i = absurd cc
 
 -- ---- a call
 

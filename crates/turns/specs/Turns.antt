@@ -108,6 +108,10 @@ heard_turn d left f pos b = turn_by d left f.answer f.read f.stream pos b
 abbrev pub heard_buf : ℕ → Fed → ℕ → List ℕ → List ℕ
 heard_buf left f pos b = buf_by left f.answer pos b
 
+-- a sound reader that goes on
+abbrev pub GoesOn : IStream → Type 0
+GoesOn s = (sound_stream base s ≡ true) × Live (state_of s)
+
 -- ---- a payload
 
 -- a sound reader within a payload

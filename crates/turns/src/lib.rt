@@ -2,12 +2,10 @@
 // its shortest form already goes as it came, until the buffer is full, the chunk is spent or the message is broken.
 #![tactic(auto)]
 
-ghost use Rattle.std.specs.Prelude.{◌≡◌, true, ◌+◌, ◌<◌};
-ghost use Rattle.layout.specs.Limits.{base};
+ghost use Rattle.std.specs.Prelude.{◌≡◌, ◌+◌, ◌<◌};
 ghost use Rattle.copying.specs.Owed.{due_in};
-ghost use Rattle.istream.specs.Stream.{state_of, sound_stream};
-ghost use Rattle.phase.proofs.Phases.{Live};
-ghost use Rattle.turns.specs.Turns.{event_turn, event_buf, heard_turn, heard_buf, cut_off, pause, InPayload, Turned, Ran, later};
+ghost use Rattle.istream.specs.Stream.{state_of};
+ghost use Rattle.turns.specs.Turns.{event_turn, event_buf, heard_turn, heard_buf, cut_off, pause, GoesOn, InPayload, Turned, Ran, later};
 
 use as_is::as_is;
 use emit::put_rest;
@@ -38,14 +36,14 @@ pub struct Stop {
 }
 
 // What a turn comes to, nothing being owed before it: what it read is out, and the call goes on from this reader, with so many bytes of the
-// chunk used, at this position; or the call stops.
+// chunk used, at this position; or the call stops. (No Result: a stop is no failure, but how each call ends.)
 #[derive(Clone, Copy)]
 enum Turn {
     On(IStream, usize, usize),
     Stop(Stop),
 }
 
-// How many elements of an array are due, the one under way included.
+// How many elements of an array are due, the one under way included: 0 where none is, as the phases count them and `owe` asks.
 #[tactic(auto, unfolding(copying::specs::Owed::due_in))]
 fn due(reader: IStream) -> u32
     ensures { result ≡ due_in (state_of reader) }
@@ -127,7 +125,8 @@ fn cut(n: usize, len: usize) -> Answer
     Answer::Status(Status::Incomplete)
 }
 
-// A payload's bytes go out at once, as many as there is room for; the next phase is made here (docs/PERFORMANCE.md).
+// A payload's bytes go out at once, as many as there is room for; the next phase is made here (docs/PERFORMANCE.md). Its numbers come as the
+// match in `one_turn` binds them: taken from the reader here, they would need that match again, with an arm that never is.
 fn piece(
     reader: IStream,
     id: u32,
@@ -159,9 +158,11 @@ fn piece(
     Turn::On(IStream { phase, carried }, n, end)
 }
 
-// One turn: a payload's bytes, what stands in its shortest form already, or an event.
+// One turn: a payload's bytes, what stands in its shortest form already, or an event. (The reader goes on its own, and not in a struct with
+// the position: a state handed on within another struct took up to 1.6 times as long, docs/PERFORMANCE.md. Nor does one hold what `GoesOn`
+// says as ghost fields: it would be made anew after each turn, and `written` and `heard`, which make turns, know of no reader that it goes on.)
 fn one_turn(reader: IStream, pos: usize, rest: &[u8], buf: &mut [u8]) -> Turn
-    requires { (sound_stream base reader ≡ true) × Live (state_of reader) }
+    requires { GoesOn reader }
     ensures { Turned reader pos rest.now buf.old result buf.new }
 {
     if let Phase::Payload(id, r, total, offset) = reader.phase {
@@ -196,7 +197,7 @@ impl Stop {
 
 // Turns one after another, nothing being owed at first, until one is a stop: no `for`, since only the turns know how many they are.
 pub fn run(reader: IStream, start: usize, chunk: &[u8], buf: &mut [u8]) -> Stop
-    requires { (sound_stream base reader ≡ true) × Live (state_of reader) }
+    requires { GoesOn reader }
     ensures { Ran reader start chunk.now buf.old result buf.new }
 {
     let mut at = reader;

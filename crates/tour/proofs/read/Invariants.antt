@@ -3,5 +3,5 @@ use Rattle.machine.proofs.Ends.{turns}
 use Rattle.istream.specs.Stream.{state_of}
 use Rattle.tour.proofs.read.Given as goal
 
-abbrev pub decreases-loop-f : goal.decreases-loop-f
-decreases-loop-f l = turns (state_of l.stream) l.rest
+abbrev pub decreases-loop-event : goal.decreases-loop-event
+decreases-loop-event g l = turns (state_of l.reader) l.rest

@@ -1,7 +1,0 @@
--- `bench::chunks`: an event brings the end of the chunk's calls nearer.
-use Rattle.machine.proofs.Ends.{turns}
-use Rattle.istream.specs.Stream.{state_of}
-use Rattle.bench.proofs.chunks.Given as goal
-
-abbrev pub decreases-loop-f : goal.decreases-loop-f
-decreases-loop-f l = turns (state_of l.stream) l.left

@@ -5,14 +5,16 @@
 
 pub mod calls;
 
-// A desk of the size that a script's calls have.
+// A desk of the size that a script's calls have: the protocol's words, one at each place.
 pub type Desk = [u64; 32];
+
+pub const BLANK: Desk = [0; 32];
 
 pub fn word(desk: &[u64], i: usize) -> u64 {
     desk.get(i).copied().unwrap_or(0)
 }
 
-// Words from a place on.
+// Words from a place on, as far as the desk goes (`copy_from_slice` would need both cut to one length first).
 pub fn lay(desk: &mut [u64], at: usize, words: &[u64]) {
     for (place, n) in desk.iter_mut().skip(at).zip(words) {
         *place = *n;

@@ -1,7 +1,7 @@
 // The lines of the event list: what an event says, put as text into a lent buffer as far as there is room.
 #![tactic(auto)]
 
-ghost use Rattle.std.specs.Prelude.{◌≤◌, ◌<◌, ◌^◌};
+ghost use Rattle.std.specs.Prelude.{◌≤◌, ◌<◌, ◌^◌, Some};
 ghost use Rattle.std.proofs.Math.Seq.{slice};
 ghost use Rattle.layout.specs.Field.{each};
 ghost use Rattle.event.specs.Event.{event_of};
@@ -31,11 +31,10 @@ fn put_hexadecimal(out: &mut [u8], at: usize, n: u64, digits: usize) -> usize
     put_rest(out, at, &text[..k], 0)
 }
 
-fn put_part(out: &mut [u8], at: usize, p: Part) -> usize
-    ensures { Puts out.old at (part_text p) out.new result }
+fn put_some(out: &mut [u8], at: usize, p: Part) -> usize
+    ensures { Puts out.old at (part_text (Some p)) out.new result }
 {
     match p {
-        Part::Nothing => at,
         Part::Number(n) => {
             let next = put_rest(out, at, b" ", 0);
             put_decimal(out, next, n)
@@ -52,6 +51,16 @@ fn put_part(out: &mut [u8], at: usize, p: Part) -> usize
             let next = put_rest(out, at, b" ", 0);
             put_hexadecimal(out, next, n, 16)
         }
+    }
+}
+
+// A part, where the line has it.
+fn put_part(out: &mut [u8], at: usize, p: Option<Part>) -> usize
+    ensures { Puts out.old at (part_text p) out.new result }
+{
+    match p {
+        None => at,
+        Some(part) => put_some(out, at, part),
     }
 }
 

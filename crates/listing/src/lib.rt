@@ -1,5 +1,5 @@
-// The event list of a message, chunk by chunk: the reader's calls on a chunk, the lines of each event put into a lent buffer, and the
-// verdict once the chunk is spent. The caller empties the buffer in between; nothing of the message is held but the reader's state.
+// The event list of a message, chunk by chunk: the reader's calls on a chunk, and the lines of each event put into a lent buffer, whose text
+// goes out where it may have no room for the next. Nothing of the message is held but the reader's state.
 #![tactic(auto)]
 
 ghost use Rattle.std.specs.Prelude.{◌≡◌, ◌+◌, ◌*◌, leb, length};
@@ -13,13 +13,12 @@ const LINE: u128 = 80;
 
 const BYTE_LINE: u128 = 6;
 
-// The reader, how much of the chunk it has read, where the text ends, and the verdict, which there is once the chunk is spent.
+// The reader, where the text ends that isn't out yet, and where the message stands.
 #[derive(Clone, Copy)]
 pub struct Listing {
     pub stream: IStream,
-    pub from: usize,
     pub at: usize,
-    pub verdict: Option<Verdict>,
+    pub verdict: Verdict,
 }
 
 impl Listing {
@@ -27,47 +26,14 @@ impl Listing {
     pub fn new() -> Listing {
         Listing {
             stream: IStream::new(),
-            from: 0,
             at: 0,
-            verdict: Some(Verdict::Complete),
+            verdict: Verdict::Complete,
         }
     }
 
-    // A new chunk.
-    pub fn chunk(self) -> Listing {
-        Listing {
-            from: 0,
-            verdict: None,
-            ..self
-        }
-    }
-
-    // The text so far is out.
-    pub fn emptied(self) -> Listing {
-        Listing { at: 0, ..self }
-    }
-}
-
-// One call on the rest of the chunk, the reader lent to it by mutable reference, and the lines of its event.
-fn step(l: Listing, chunk: &[u8], out: &mut [u8]) -> Listing {
-    let rest = chunk.get(l.from..).unwrap_or_default();
-    let told = istream::lent(l.stream, rest);
-    let heard = told.heard;
-    let mut at = l.at;
-    let verdict = match heard.answer {
-        Ok(Answer::Event(e)) => {
-            at = put_event(out, at, rest, e);
-            None
-        }
-        Ok(Answer::Status(Status::Complete)) => Some(Verdict::Complete),
-        Ok(Answer::Status(Status::Incomplete)) => Some(Verdict::Incomplete),
-        Err(_) => Some(Verdict::Invalid),
-    };
-    Listing {
-        stream: told.stream,
-        from: l.from.saturating_add(heard.read),
-        at,
-        verdict,
+    // The text that isn't out yet.
+    pub fn text(self, out: &[u8]) -> &[u8] {
+        out.get(..self.at).unwrap_or_default()
     }
 }
 
@@ -78,15 +44,39 @@ fn roomy(at: usize, chunk: &[u8], out: &[u8]) -> bool
     at as u128 + (LINE + BYTE_LINE * chunk.len() as u128) <= out.len() as u128
 }
 
-// The calls on a chunk, as far as there is room for their lines; where no verdict comes, the caller empties the text and calls again. They
-// end (two a byte and two more are enough); the count only says so to the prover.
-pub fn list(listing: Listing, chunk: &[u8], out: &mut [u8]) -> Listing {
-    let mut l = listing;
-    for _ in 0..u64::MAX {
-        if l.verdict.is_some() || !roomy(l.at, chunk, out) {
-            break;
+// A chunk's calls, the reader lent to each by mutable reference, and the lines of their events.
+pub fn list<E: Drop, F: FnMut(&[u8]) -> Result<(), E>>(
+    l: Listing,
+    chunk: &[u8],
+    out: &mut [u8],
+    mut send: F,
+) -> Result<Listing, E>
+    requires { F.IsAlwaysCallable send }
+{
+    let mut stream = l.stream;
+    let mut at = l.at;
+    let mut rest = chunk;
+    loop {
+        if !roomy(at, rest, out) {
+            send(out.get(..at).unwrap_or_default())?;
+            at = 0;
         }
-        l = step(l, chunk, out);
+        let told = istream::lent(stream, rest);
+        stream = told.stream;
+        let verdict = match told.heard.answer {
+            Ok(Answer::Event(e)) => {
+                at = put_event(out, at, rest, e);
+                rest = &rest[told.heard.read..];
+                continue;
+            }
+            Ok(Answer::Status(Status::Complete)) => Verdict::Complete,
+            Ok(Answer::Status(Status::Incomplete)) => Verdict::Incomplete,
+            Err(_) => Verdict::Invalid,
+        };
+        return Ok(Listing {
+            stream,
+            at,
+            verdict,
+        });
     }
-    l
 }

@@ -1,19 +1,20 @@
 -- Calling on ends, over the reader's own calls: from any reader, sound or not, two calls a byte and two more bring a verdict or a refusal,
 -- and further calls change nothing.
-use Prim.Native.Nat.{ℕ, zero, suc, ◌+◌, ◌*◌, ◌<◌}
+use Prim.Native.Nat.{ℕ, zero, suc, ◌+◌, ◌-◌, ◌*◌, ◌<◌, ◌≤◌}
 use native.Mathlib.Nat.{not-suc-le-zero}
 use native.Mathlib.Omega.{arith}
 use mathlib.Core.Path.{◌≡◌, refl, sym, ap, ◌∙◌, subst}
 use mathlib.Core.Bool.{Bool, true, false}
 use mathlib.Core.List.{List, [], ◌∷◌}
-use lib.ListN.{length, drop}
+use lib.ListN.{length, take, drop, length-drop}
+use lib.Seq.{take_all}
 use Rattle.std.specs.Prelude.{Result, Ok, Err}
 use Rattle.layout.specs.Limits.{Limits, pick}
 use Rattle.layout.specs.Event as layout
 use Rattle.machine.specs.Calls as machine
 use Rattle.machine.specs.Calls.{State, reading, owing, broke, call}
 use Rattle.machine.specs.Run.{Ending, ended, unfinished}
-use Rattle.machine.proofs.Ends.{turns, one_empty, call_nearer}
+use Rattle.machine.proofs.Ends.{turns, one_empty, call_few, call_nearer}
 use Rattle.types.specs.declared.Error.{Error}
 use Rattle.types.specs.Types.{refusal}
 use Rattle.event.specs.declared.Event as Events
@@ -22,7 +23,8 @@ use Rattle.istream.specs.declared.IStream.{IStream}
 use Rattle.call_end.specs.declared.Answer.{Answer}
 use Rattle.call_end.specs.declared.Answer.TheVariants.{Event, Status}
 use Rattle.istream.specs.declared.Fed as Given
-use Rattle.istream.specs.Stream.{state_of, sound_stream, answer_in, fed_in, fed_from, fed_of}
+use Rattle.istream.specs.declared.Taken.{Taken}
+use Rattle.istream.specs.Stream.{state_of, sound_stream, answer_in, fed_in, fed_from, fed_of, taken_of}
 use Rattle.istream.proofs.Calls.{state_of_stream}
 use Rattle.reading.specs.Feeds.{Fed, feeds, feed}
 
@@ -88,6 +90,45 @@ module _ (L : Limits) where
   fed_nearer : (s : IStream) (c : List ℕ) (e : Events.Event) → (fed_of L s c).answer ≡ Ok (Event e) → turns (state_of (fed_of L s c).stream) (drop (fed_of L s c).read c) < turns (state_of s) c
   unfolding fed_of
   fed_nearer s c e h = nearer_from (state_of s) s c e h
+
+  few_checked : (s : IStream) (c : List ℕ) (t : Bool) → (pick t (fed_in (call L (state_of s) c)) (record { read = 0; answer = Err (refusal 1); stream = s })).read ≤ length c
+  unfolding fed_in
+  few_checked s c true = call_few L (state_of s) c
+  few_checked s c false = omega arith
+
+  few_from : (st : State) (s : IStream) (c : List ℕ) → (fed_from L st s c).read ≤ length c
+  few_from (reading d p) s c = few_checked s c (sound_stream L s)
+  few_from (owing d id r) s c = few_checked s c (sound_stream L s)
+  few_from broke s c = omega arith
+
+  -- the rest of the chunk, cut out from its start and by its length
+  all_left : (s t : State) (c : List ℕ) (k : ℕ) → turns t (drop k c) < turns s c → turns t (take (length c - k) (drop k c)) < turns s c
+  all_left s t c k h =
+      let l : length (drop k c) ≡ length c - k = length-drop k c in
+      subst (λ (r : List ℕ). turns t r < turns s c) (sym (take_all (length c - k) (drop k c) (omega arith))) h
+
+  -- What a loop over a chunk's calls asks: a call reads at most the chunk, and one that gives an event leaves fewer turns.
+  pub read_few : (s : IStream) (c : List ℕ) (r : Given.Fed) → r ≡ fed_of L s c → r.read ≤ length c
+  unfolding fed_of
+  read_few s c r q = subst (λ (x : Given.Fed). x.read ≤ length c) (sym q) (few_from (state_of s) s c)
+
+  pub read_nearer : (s : IStream) (c : List ℕ) (r : Given.Fed) (e : Events.Event) → r ≡ fed_of L s c → r.answer ≡ Ok (Event e)
+      → turns (state_of r.stream) (take (length c - r.read) (drop r.read c)) < turns (state_of s) c
+  read_nearer s c r e q h =
+      subst (λ (x : Given.Fed). turns (state_of x.stream) (take (length c - x.read) (drop x.read c)) < turns (state_of s) c) (sym q)
+      (all_left (state_of s) (state_of (fed_of L s c).stream) c (fed_of L s c).read (fed_nearer s c e (ap (λ (x : Given.Fed). x.answer) (sym q) ∙ h)))
+
+  -- The same of the thin feed.
+  pub taken_few : (s : IStream) (c : List ℕ) (t : Taken) → t ≡ taken_of L s c → t.heard.read ≤ length c
+  unfolding taken_of
+  taken_few s c t q = subst (λ (x : Taken). x.heard.read ≤ length c) (sym q) (read_few s c (fed_of L s c) refl)
+
+  pub taken_nearer : (s : IStream) (c : List ℕ) (t : Taken) (e : Events.Event) → t ≡ taken_of L s c → t.heard.answer ≡ Ok (Event e)
+      → turns (state_of t.stream) (take (length c - t.heard.read) (drop t.heard.read c)) < turns (state_of s) c
+  unfolding taken_of
+  taken_nearer s c t e q h =
+      subst (λ (x : Taken). turns (state_of x.stream) (take (length c - x.heard.read) (drop x.heard.read c)) < turns (state_of s) c) (sym q)
+      (read_nearer s c (fed_of L s c) e refl (ap (λ (x : Taken). x.heard.answer) (sym q) ∙ h))
 
   -- ---- a chunk
 

@@ -6,7 +6,7 @@ ghost use Rattle.std.specs.Prelude.{◌<◌, ⊤, MatchOption};
 
 use desk::Desk;
 use desk::calls::{ArrayCall, CopierCall, WriterCall};
-use script::{Bytes, after, unhex};
+use script::{after, unhex};
 
 // What a row does: it begins with a fresh desk, lends a buffer, takes a part, or makes a call.
 #[derive(Clone, Copy)]
@@ -120,23 +120,18 @@ fn unnamed(told: &[u8], before: Desk, after: Desk) -> Desk {
 }
 
 // The buffer begins with these bytes, and is behind them as it was.
-fn same_bytes(mut start: Bytes, before: &[u8], after: &[u8]) -> bool {
-    before.len() == after.len()
-        && before
-            .iter()
-            .zip(after)
-            .all(|(was, is)| start.next().unwrap_or(*was) == *is)
-        && start.next().is_none()
+fn same_bytes(start: &[u8], before: &[u8], after: &[u8]) -> bool {
+    let n = unhex(start).count();
+    before.get(n..) == after.get(n..) && unhex(start).eq(after.iter().take(n).copied())
 }
 
 // Whether desk and buffer are what the row tells.
 pub fn right(told: &[u8], was: &State, is: &State) -> bool {
     let want = set(told, unnamed(told, was.desk, is.desk));
-    is.desk == want && same_bytes(unhex(after(told, b'>')), &was.buf, &is.buf)
+    is.desk == want && same_bytes(after(told, b'>'), &was.buf, &is.buf)
 }
 
 // Whether a part is the one that the row tells.
 pub fn same_part(told: &[u8], part: &[u8]) -> bool {
-    let mut want = unhex(after(told, b'>'));
-    part.iter().all(|b| want.next() == Some(*b)) && want.next().is_none()
+    unhex(after(told, b'>')).eq(part.iter().copied())
 }

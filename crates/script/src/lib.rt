@@ -2,16 +2,17 @@
 #![tactic(auto)]
 
 ghost use Rattle.std.specs.Iterator.{at_most};
-ghost use Rattle.std.specs.Prelude.{◌≡◌, ◌⊎◌, ◌≤◌, ◌<◌, ⊤, MatchOption, length, [], ◌∷◌, ◌++◌};
+ghost use Rattle.std.specs.Prelude.{◌≡◌, ◌⊎◌, ◌≤◌, ◌<◌, ⊤, Contains, MatchOption, length, [], ◌∷◌, ◌++◌};
 
 // The word of a line with this number, counted from 0.
 pub fn word(line: &[u8], k: usize) -> &[u8] {
     line.split(|b| *b == b' ').nth(k).unwrap_or(b"")
 }
 
-// What stands before a mark, and what stands behind it.
+// What stands before the first mark, and what stands behind it; where there is none, all stands before it.
 pub fn parted(text: &[u8], mark: u8) -> (&[u8], &[u8])
-    ensures { (text.now ≡ result.0.now ++ mark ∷ result.1.now) ⊎ ((result.0.now ≡ text.now) × (result.1.now ≡ [])) }
+    ensures parts { (text.now ≡ result.0.now ++ mark ∷ result.1.now) ⊎ ((result.0.now ≡ text.now) × (result.1.now ≡ [])) }
+    ensures first { ¬ (Contains result.0.now mark) }
 {
     match text.iter().position(|b| *b == mark) {
         Some(at) => (&text[..at], &text[at + 1..]),

@@ -26,25 +26,26 @@ impl Sum {
     }
 }
 
-// The bytes, torn and read: the lines of a chunk, as far as there is room for them, and where it is spent another chunk. At the end the
-// verdict stays; where it isn't complete there is no sum. Nothing but the count says to the prover that it ends.
+fn added(s: &mut Sum, lines: &[u8]) -> io::Result<()> {
+    *s = s.with(lines);
+    Ok(())
+}
+
+// The bytes, torn and read: the lines of a chunk, and where it is spent another chunk. At the end the verdict stays; where it isn't complete
+// there is no sum. Nothing but the count says to the prover that it ends.
 pub fn read(log: &mut impl Write, bytes: &[u8], seed: u64) -> io::Result<Option<Sum>> {
     let mut text = [0u8; 65536];
     let mut listing = Listing::new();
     let mut cuts = Cuts::new(seed, bytes);
     let mut s = Sum { sum: 0, bytes: 0 };
     for _ in 0..u64::MAX {
-        listing = list(listing, cuts.chunk, &mut text);
-        s = s.with(text.get(..listing.at).unwrap_or_default());
-        listing = listing.emptied();
-        if listing.verdict.is_some() {
-            if cuts.turn(log)? == Turn::End {
-                break;
-            }
-            listing = listing.chunk();
+        listing = list(listing, cuts.chunk, &mut text, |lines| added(&mut s, lines))?;
+        if cuts.turn(log)? == Turn::End {
+            break;
         }
     }
-    Ok(if listing.verdict == Some(Verdict::Complete) {
+    s = s.with(listing.text(&text));
+    Ok(if listing.verdict == Verdict::Complete {
         Some(s)
     } else {
         None

@@ -8,24 +8,24 @@ use istream::IStream;
 use ostream::OStream;
 use std::io;
 
-// The events of a chunk. A call stops at each; the next one, on the chunk's rest, goes on behind it. (The turns only say that this ends.)
+// The events of a chunk. A call stops at each; the next one, on the chunk's rest, goes on behind it.
 fn read(rt: &impl Print, start: IStream, chunk: &[u8]) -> io::Result<IStream> {
     let mut reader = start;
     let mut rest = chunk;
-    for _ in 0..u64::MAX {
+    loop {
         let fed = reader.feed(rest);
         reader = fed.stream;
         let Ok(istream::Answer::Event(event)) = fed.answer else {
             show::verdict(rt, fed.answer)?;
-            break;
+            return Ok(reader);
         };
         show::event(rt, event, rest)?;
-        rest = rest.get(fed.read..).unwrap_or_default();
+        rest = &rest[fed.read..];
     }
-    Ok(reader)
 }
 
 // A number into a buffer of any length: at "full" the buffer is drained, and the call made again from the place that it answered.
+// (The turns are counted: a `loop` wants proof of an end, and over a buffer of no byte there is none.)
 fn write(
     rt: &impl Print,
     start: OStream,

@@ -11,7 +11,7 @@ fn acc(desk: &[u64]) -> PayloadAcc {
     }
 }
 
-// What a call tells, the desk's words 23 and 24, and its way back.
+// What a call tells, the desk's words 23 and 24 by the protocol's numbers, and its way back.
 fn told(a: Result<Option<Whole>, Error>) -> [u64; 2] {
     match a {
         Ok(None) => [0, 0],
@@ -36,7 +36,7 @@ fn leave(left: PayloadAcc, told: [u64; 2], desk: &mut [u64]) {
     lay(desk, 23, &told);
 }
 
-// A piece: word 27 is its total, word 28 its offset. Where word 31 isn't 0, a reset.
+// A piece: word 27 is its total, word 28 its offset. Where word 31 isn't 0, which is the protocol's, a reset.
 pub fn trace_gather(desk: &mut [u64], buf: &mut [u8], chunk: &[u8]) {
     let held = acc(desk);
     if word(desk, 31) != 0 {

@@ -7,6 +7,7 @@ use phase::{Carried, Phase};
 use types::{Error, FixlenType, FloatType, RawType};
 use varint::Acc;
 
+// A kind's number is the protocol's, here and below: C and the Rust read and write it (compare/PROTOCOL.md).
 pub fn float_type(n: u64) -> FloatType {
     if n == 0 {
         FloatType::Fp32
@@ -19,6 +20,7 @@ pub fn raw_type(n: u64) -> RawType {
     if n == 2 { RawType::Str } else { RawType::Blob }
 }
 
+// By the phase's number in the protocol.
 fn phase(desk: &[u64]) -> Phase {
     let kind = word(desk, 2);
     let id = narrow(word(desk, 3));
@@ -51,7 +53,7 @@ pub fn reader(desk: &[u64]) -> IStream {
     }
 }
 
-// A phase as words, the depth left out.
+// A phase as the protocol's words, the depth left out.
 fn within(phase: u64, id: u32, count: u32, a: Acc) -> [u64; 6] {
     [phase, 0, id as u64, count as u64, a.taken as u64, a.value]
 }
@@ -140,6 +142,7 @@ fn event(e: Event) -> Tale {
     }
 }
 
+// A verdict's tag in the protocol.
 pub fn verdict(s: Status) -> u64 {
     match s {
         Status::Complete => 16,
@@ -165,7 +168,7 @@ fn tell(t: Tale, read: usize, desk: &mut [u64]) {
     );
 }
 
-// By value or, where word 31 isn't 0, by the thin feed.
+// By value or, where word 31 isn't 0, by the thin feed: the protocol's number, since C chooses.
 fn fed(desk: &[u64], chunk: &[u8]) -> Fed {
     let stream = reader(desk);
     if word(desk, 31) == 0 {

@@ -7,9 +7,9 @@ fn send(k: Copier, buf: &[u8], out: &mut [u8], sent: usize) -> usize {
     put_rest(out, sent, buf.get(..k.writer.offset).unwrap_or(b""), 0)
 }
 
-// Copies the ticket in chunks of `size` bytes (0: whole) through the buffer, drains it into `out`, and answers how many bytes went there.
-// A call after another, and a drain whenever the buffer is full: after "full" the chunk's rest, after a verdict the next chunk. Nothing here
-// says that a chunk's calls end: they are counted up to a number that no run uses up.
+// Copies the ticket in chunks of `size` bytes (0, which is C's number: whole) through the buffer, drains it into `out`, and answers how many bytes went there.
+// A call after another, and a drain whenever the buffer is full: after "full" the chunk's rest, after a verdict the next chunk. They
+// are counted, up to a number that no run uses up: a `loop` wants proof of an end, and over a buffer of no byte there is none.
 pub fn bench_copy(ticket: &[u8], size: usize, buf: &mut [u8], out: &mut [u8]) -> usize {
     let most = if size == 0 { ticket.len() } else { size };
     let mut k = Copier::new(buf, 0).copier;

@@ -9,6 +9,7 @@ use trace::reader::{float_type, raw_type, reader, verdict};
 use trace_writer::writer::{counted, writer};
 use types::ArrayKind;
 
+// By its number in the protocol, as what is owed below.
 fn array_kind(n: u64) -> ArrayKind {
     match n {
         0 => ArrayKind::Unsigned,
@@ -97,7 +98,7 @@ fn copied(f: Copied, desk: &mut [u64]) {
     lay(desk, 23, &told);
 }
 
-// The words 25 to 27 stay as they are.
+// The words 25 to 27 stay as they are. (Its namesake of `trace_writer` stores the writer alone, which is half of each.)
 fn sent(d: Drained, desk: &mut [u64]) {
     store(d.copier, desk);
     lay(desk, 23, &counted(d.answer));

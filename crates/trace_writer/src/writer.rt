@@ -7,7 +7,7 @@ use event::Event;
 use ostream::{Answer, Counted, OStream, Written};
 use types::{Error, FixlenType};
 
-// The eight places.
+// The eight places: a writer's, in fixed memory.
 fn places(desk: &[u64]) -> [u32; 8] {
     let mut places = [0u32; 8];
     for (place, n) in places.iter_mut().zip(desk.iter().skip(10)) {
@@ -87,13 +87,10 @@ fn sent(c: Counted, desk: &mut [u64]) {
 
 // ---- the calls by number
 
+// A number of no subtype is a blob's.
 fn subtype(n: u64) -> FixlenType {
-    match n {
-        0 => FixlenType::Fp32,
-        1 => FixlenType::Fp64,
-        2 => FixlenType::Str,
-        _ => FixlenType::Blob,
-    }
+    let known = u8::try_from(n).ok().and_then(|n| FixlenType::try_from(n).ok());
+    known.unwrap_or(FixlenType::Blob)
 }
 
 // Floats go by the calls for floats, and where one is a NaN, whose bits no float carries, by those for bits.
@@ -112,7 +109,7 @@ fn fp64(c: Call, buf: &mut [u8]) -> Written {
     }
 }
 
-// Kind 1 opens a writer that is drained.
+// Kind 1 opens a writer that is drained: the protocol's number.
 fn open(c: Call, buf: &[u8]) -> Written {
     if c.kind == 0 {
         OStream::with_offset(buf, c.offset)

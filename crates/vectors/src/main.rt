@@ -6,6 +6,7 @@
 mod calls;
 
 use calls::make;
+use desk::BLANK;
 use rows::{Call, Row, State, cleared, right, row_named, same_part, set};
 use script::{after, parted, unhex, word};
 use std::io::{self, Read};
@@ -59,7 +60,7 @@ impl Run {
         }
         match row_named(word(text, 0)) {
             Some(Row::Buffer) => self.state.buf = unhex(word(text, 1)).collect(rt.alloc())?,
-            Some(Row::Fresh) => self.state.desk = [0; 32],
+            Some(Row::Fresh) => self.state.desk = BLANK,
             Some(Row::Part) => return self.part(rt, text),
             Some(Row::Call(call)) => return self.make(rt, call, text),
             None => return self.count(rt, false, text),
@@ -73,7 +74,7 @@ fn main(rt: HostRuntime) -> io::Result<()> {
     rt.stdin().read_to_end(&mut script)?;
     let mut run = Run {
         state: State {
-            desk: [0; 32],
+            desk: BLANK,
             buf: Vec::new(rt.alloc()),
         },
         calls: 0,

@@ -9,7 +9,8 @@ use Rattle.event.specs.declared.Event.{Event}
 use Rattle.event.specs.Event.{event_of}
 use Rattle.event_list.specs.Lines.{decimal, signed, lines_of}
 use Rattle.shown.specs.Spelled.{lined, shown_text}
-use Rattle.shown.specs.declared.Part.TheVariants.{Nothing, Number, Bits32, Bits64}
+use Rattle.shown.specs.declared.Part.TheVariants.{Number, Bits32, Bits64}
+use Rattle.std.specs.Prelude.{None, Some}
 use borrow.Author.Rules.{rules}
 use Rattle.shown.proofs.shown_of.Goals as goal
 
@@ -27,13 +28,13 @@ returns-in-Signed c c' =
     ∙ ap (λ (v : ℤ). 83 ∷ ((32 ∷ decimal c.in-Signed.id) ++ ((32 ∷ signed v) ++ (10 ∷ [])))) f ∙ shows c' _ _ c.in-Signed.is
 
 pub returns-in-Fp32 : goal.returns-in-Fp32
-returns-in-Fp32 c c' = ap (shown_text c') c.with_id-in-Fp32.ensures ∙ ap (λ (n : ℕ). shown_text c' (lined 70 c.in-Fp32.id (Bits32 n) Nothing)) c.fp32_bits.ensures ∙ shows c' _ _ c.in-Fp32.is
+returns-in-Fp32 c c' = ap (shown_text c') c.with_id-in-Fp32.ensures ∙ ap (λ (n : ℕ). shown_text c' (lined 70 c.in-Fp32.id (Some (Bits32 n)) None)) c.fp32_bits.ensures ∙ shows c' _ _ c.in-Fp32.is
 
 pub returns-in-Fp32Nan : goal.returns-in-Fp32Nan
 returns-in-Fp32Nan c c' = ap (shown_text c') c.with_id-in-Fp32Nan.ensures ∙ shows c' _ _ c.in-Fp32Nan.is
 
 pub returns-in-Fp64 : goal.returns-in-Fp64
-returns-in-Fp64 c c' = ap (shown_text c') c.with_id-in-Fp64.ensures ∙ ap (λ (n : ℕ). shown_text c' (lined 68 c.in-Fp64.id (Bits64 n) Nothing)) c.fp64_bits.ensures ∙ shows c' _ _ c.in-Fp64.is
+returns-in-Fp64 c c' = ap (shown_text c') c.with_id-in-Fp64.ensures ∙ ap (λ (n : ℕ). shown_text c' (lined 68 c.in-Fp64.id (Some (Bits64 n)) None)) c.fp64_bits.ensures ∙ shows c' _ _ c.in-Fp64.is
 
 pub returns-in-Fp64Nan : goal.returns-in-Fp64Nan
 returns-in-Fp64Nan c c' = ap (shown_text c') c.with_id-in-Fp64Nan.ensures ∙ shows c' _ _ c.in-Fp64Nan.is
@@ -45,10 +46,10 @@ pub returns-in-Blob : goal.returns-in-Blob
 returns-in-Blob c c' = shows c' _ _ c.in-Blob.is
 
 pub returns-in-Fixlen : goal.returns-in-Fixlen
-returns-in-Fixlen c c' = ap (shown_text c') c.with_id-in-Fixlen.ensures ∙ ap (λ (n : ℕ). shown_text c' (lined 80 c.in-Fixlen.id (Number n) (Number c.in-Fixlen.total))) c.raw.ensures ∙ shows c' _ _ c.in-Fixlen.is
+returns-in-Fixlen c c' = ap (shown_text c') c.with_id-in-Fixlen.ensures ∙ ap (λ (n : ℕ). shown_text c' (lined 80 c.in-Fixlen.id (Some (Number n)) (Some (Number c.in-Fixlen.total)))) c.raw.ensures ∙ shows c' _ _ c.in-Fixlen.is
 
 pub returns-in-Array : goal.returns-in-Array
-returns-in-Array c c' = ap (shown_text c') c.with_id-in-Array.ensures ∙ ap (λ (n : ℕ). shown_text c' (lined 65 c.in-Array.id (Number n) (Number c.in-Array.count))) c.raw-in-Array.ensures ∙ shows c' _ _ c.in-Array.is
+returns-in-Array c c' = ap (shown_text c') c.with_id-in-Array.ensures ∙ ap (λ (n : ℕ). shown_text c' (lined 65 c.in-Array.id (Some (Number n)) (Some (Number c.in-Array.count)))) c.raw-in-Array.ensures ∙ shows c' _ _ c.in-Array.is
 
 pub returns-in-Begin : goal.returns-in-Begin
 returns-in-Begin c c' = ap (shown_text c') c.with_id-in-Begin.ensures ∙ shows c' _ _ c.in-Begin.is

@@ -28,22 +28,19 @@ fn sum(digest: u64, e: Event) -> u64 {
     }
 }
 
-// Each chunk is called on until it is spent and the verdict comes. Nothing but the count says to the prover that this ends.
+// Each chunk is called on until it is spent and the verdict comes.
 pub fn chunks(bytes: &[u8], size: usize) -> u64 {
     let mut stream = IStream::new();
     let mut digest: u64 = 0;
     for chunk in bytes.chunks(size.max(1)) {
         let mut left = chunk;
-        for _ in 0..u64::MAX {
+        loop {
             let f = stream.feed(left);
             stream = f.stream;
             let Ok(Answer::Event(e)) = f.answer else {
                 break;
             };
-            let Some(rest) = left.get(f.read..) else {
-                break;
-            };
-            left = rest;
+            left = &left[f.read..];
             digest = sum(digest, e);
         }
     }

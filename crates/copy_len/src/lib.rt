@@ -15,7 +15,7 @@ use types::{
 use varint::width;
 use whole::{Count, walk};
 
-// What follows the header h, where that keeps the depth.
+// What follows the header h, where that keeps the depth, as in `whole`.
 fn body_len(bytes: &[u8], h: u64) -> Result<(usize, &[u8]), Stop<&[u8]>>
     requires { h % 8 < 6 }
     ensures { BodySizes (wire_of (h % 8)) bytes.now result }

@@ -25,7 +25,7 @@ headed_some : (id : ℕ) (t : Wire) (bs : List ℕ) → 1 ≤ length (header id 
 headed_some id t bs = simp length-append (omega (arith, length_some (id * 8 + wire_number t)))
 
 -- a field has bytes
-pub field_some : (x : Field) → 1 ≤ length (field_bytes x)
+field_some : (x : Field) → 1 ≤ length (field_bytes x)
 unfolding field_bytes
 field_some (unsigned id n) = headed_some id t_unsigned (shortest n)
 field_some (signed id z) = headed_some id t_signed (shortest (zigzag z))

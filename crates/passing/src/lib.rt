@@ -21,12 +21,14 @@ pub enum Stop<P = usize> {
 
 // ---- varints: a value and the bytes after it
 
-// Any varint, out of line.
+// Any varint, out of line. (`own` and `read_at_once` push bytes so too: each has another thing to do at each answer, and what they share is
+// these three arms.)
 pub fn long_varint_at(bytes: &[u8]) -> Result<(u64, &[u8]), Stop<&[u8]>>
     ensures { Reaches (varint base bytes.now) result }
 {
     let mut acc = Acc::new();
     let mut rest = bytes;
+    // Byte by byte to the one that ends it: a `for` has the bytes, but not those left.
     while let [b, after @ ..] = rest {
         match acc.push(*b) {
             Push::More(more) => acc = more,
@@ -77,7 +79,8 @@ pub fn count_at(bytes: &[u8]) -> Result<(u64, &[u8]), Stop<&[u8]>>
 
 // ---- varints whose values are not asked for: the bytes after them
 
-// A varint, out of line: its end, and the rule of the tenth byte.
+// A varint, out of line: its end, and the rule of the tenth byte. (`shortest` looks for such an end too, but of the shortest form alone, which
+// has another rule for the last byte at each length: what they share is the loop's head.)
 #[inline(never)]
 pub fn skip_at(bytes: &[u8]) -> Result<&[u8], Stop<&[u8]>>
     ensures { Passes (λ d. ends d (varint base bytes.now)) result }

@@ -3,24 +3,25 @@
 use Prim.Native.Nat.{ℕ, zero, suc, ◌+◌, ◌-◌, ◌*◌, ◌/◌, ◌%◌, ◌≤◌, ◌<◌}
 use mathlib.Core.Path.{◌≡◌, refl, sym, ap, ◌∙◌}
 use mathlib.Core.Bool.{Bool}
-use mathlib.Core.List.{List, [], ◌∷◌}
+use mathlib.Core.List.{List, [], ◌∷◌, ◌++◌}
 use native.Mathlib.Numerals.{add-one}
 use native.Mathlib.Omega.{arith}
 use lib.Dec.{eqb, lit<}
 use native.Mathlib.Nat.{mod-lt}
-use lib.ListN.{length}
+use lib.ListN.{length, length-append}
 use borrow.Author.Tests.{lt-ltb, le-ltb, eq-eqb, ne_eqb}
 use Rattle.layout.specs.Limits.{base, pick}
 use Rattle.layout.specs.Varint.{Outcome, whole, short, broken, varint, shortest}
 use Rattle.layout.specs.Copy.{field_bytes}
 use Rattle.laws.proofs.Field.{wire_number_lem, field_back}
-use Rattle.laws.proofs.Message.{field_some}
+use Rattle.varint.proofs.Shortest.{length_some}
 use Rattle.lengths.specs.Lengths.{Point, point_of, reached, varint_length, field_length}
 use Rattle.lengths.proofs.Answers.{stops_place, there, comes}
 use Rattle.layout.specs.Event.{Event, Unsigned, Signed, Array}
 use Rattle.layout.specs.Reading.{Reading, raise, given, follow, becoming}
-use Rattle.layout.specs.Field.{Field, Wire, wire_of, wire_number, header, unsigneds, signeds, unsigned, signed, unsigned_array, signed_array}
-use Rattle.layout.specs.Field.{t_unsigneds, t_begin, t_end}
+use Rattle.layout.specs.Field.{Field, Wire, wire_of, wire_number, header, unsigneds, signeds}
+use Rattle.layout.specs.Field.{unsigned, signed, float, payload, unsigned_array, signed_array, float_array, begin, end}
+use Rattle.layout.specs.Field.{t_unsigned, t_signed, t_fixlen, t_unsigneds, t_signeds, t_floats, t_begin, t_end}
 use Rattle.layout.specs.Message.{Bytes, header_of, count_of, unzigzagged, signed_varint, elements, body, field, depth_after}
 use Rattle.layout.specs.Message.{Fields, prepend, fields_from, message, complete, incomplete, broken_at, verdict_by, verdict_of}
 use Rattle.std.specs.Prelude.{Result, Ok, Err}
@@ -150,6 +151,22 @@ pub further : {A : Type 0} (counts : A → ℕ → Type 0) {o o' : Outcome Point
 further counts (Ok (x, d, s)) e w = (w.0, e ∙ w.1, w.2)
 further counts (Err s) e w = e ∙ w
 
+-- a field has bytes
+headed : (id : ℕ) (w : Wire) (bs : List ℕ) → 1 ≤ length (header id w ++ bs)
+headed id w bs = simp length-append (omega (arith, length_some (id * 8 + wire_number w)))
+
+pub field_some : (x : Field) → 1 ≤ field_length x
+unfolding field_bytes
+field_some (unsigned id n) = headed id t_unsigned _
+field_some (signed id z) = headed id t_signed _
+field_some (float id w x) = headed id t_fixlen _
+field_some (payload id r bs) = headed id t_fixlen _
+field_some (unsigned_array id ns) = headed id t_unsigneds _
+field_some (signed_array id zs) = headed id t_signeds _
+field_some (float_array id w xs) = headed id t_floats _
+field_some (begin id) = length_some (id * 8 + 6)
+field_some (end id) = length_some 7
+
 -- ---- the fields that are left
 
 -- the verdict on t, as that on the bytes left at depth d
@@ -180,20 +197,20 @@ module _ (n d m : ℕ) (es : List Event) where
       judged-prepend n x (fields_from base m (depth_after d x) bs).events (fields_from base m (depth_after d x) bs).outcome
       ∙ ap (λ (e : ℕ). verdict_by n (fields_from base m e bs).outcome) a
       ∙ ap (λ (bs : List ℕ). verdict_by n (fields_from base m e bs).outcome) b
-  next-whole short e rest k = absurd (let z : ◌≡◌ {A = ℕ} 0 1 = cc in omega arith)
-  next-whole (broken bs) e rest k = absurd (let z : ◌≡◌ {A = ℕ} 0 1 = cc in omega arith)
+  next-whole short e rest k = absurd cc
+  next-whole (broken bs) e rest k = absurd cc
 
   next_short : (o : Outcome Field) → deep d o ≡ short → verdict_by n (follow es o (λ x rest. becoming (prepend x) (fields_from base m (depth_after d x) rest))).outcome ≡ incomplete
   unfolding deep follow verdict_by
-  next_short (whole x bs) k = absurd (let z : ◌≡◌ {A = ℕ} 0 1 = cc in omega arith)
+  next_short (whole x bs) k = absurd cc
   next_short short k = refl
-  next_short (broken bs) k = absurd (let z : ◌≡◌ {A = ℕ} 0 1 = cc in omega arith)
+  next_short (broken bs) k = absurd cc
 
   next_broken : (o : Outcome Field) (rest : List ℕ) → deep d o ≡ broken rest →
       verdict_by n (follow es o (λ x rest. becoming (prepend x) (fields_from base m (depth_after d x) rest))).outcome ≡ broken_at (n - length rest)
   unfolding deep follow verdict_by
-  next_broken (whole x bs) rest k = absurd (let z : ◌≡◌ {A = ℕ} 0 1 = cc in omega arith)
-  next_broken short rest k = absurd (let z : ◌≡◌ {A = ℕ} 0 1 = cc in omega arith)
+  next_broken (whole x bs) rest k = absurd cc
+  next_broken short rest k = absurd cc
   next_broken (broken bs) rest k = let b : bs ≡ rest = cc in ap (λ (l : List ℕ). broken_at (n - length l)) b
 
 -- a turn: there is a byte, so there is a field or the start of one

@@ -14,10 +14,9 @@ use Rattle.layout.specs.Message.{Bytes, Fields, prepend, field, fields_from, mes
 use Rattle.layout.specs.Copy.{field_bytes, encode, plain_copy}
 use Rattle.bodies.specs.Bodies.{deep}
 use Rattle.laws.proofs.Field.{field_back}
-use Rattle.laws.proofs.Message.{field_some}
 use Rattle.passing.specs.Passing.{Rest, stop_in}
 use Rattle.whole.specs.Whole.{Judges, after_field, counted_field, placed_in}
-use Rattle.whole.proofs.Fields.{Left, fueled, left_start, goes_on, ends_short, ends_broken, left_complete, left_open, none}
+use Rattle.whole.proofs.Fields.{Left, fueled, left_start, goes_on, ends_short, ends_broken, left_complete, left_open, none, field_some}
 use Rattle.lengths.specs.Lengths.{Point, point_of, reached, field_length}
 use Rattle.std.specs.Prelude.{Ok, Err}
 use Rattle.passing.specs.declared.Stop.{Stop}
@@ -75,8 +74,8 @@ counted d n e m (whole x r) bs k =
     let b : r ≡ bs = cc in
     let p : point_of (depth_after d x) (n + field_length x) ≡ point_of e m = cc in
     (x, ap (whole x) b, ap (λ (p : Point). p.depth) p, ap (λ (p : Point). p.len) p)
-counted d n e m short bs k = absurd (let z : ◌≡◌ {A = ℕ} 0 1 = cc in omega arith)
-counted d n e m (broken r) bs k = absurd (let z : ◌≡◌ {A = ℕ} 0 1 = cc in omega arith)
+counted d n e m short bs k = absurd cc
+counted d n e m (broken r) bs k = absurd cc
 
 -- what a field came to
 pub fielded : (d n e m : ℕ) (bs after : List ℕ) → counted_field d n bs ≡ whole (point_of e m) after →

@@ -1,7 +1,7 @@
 -- Which outcome of the layout's reader the answer on a field stands for, and the layout's verdict as this crate's.
 use Rattle.std.specs.Prelude.{ℕ, ◌-◌, ◌≡◌, List, length, Result, Ok, Err}
 use Rattle.layout.specs.Limits.{base}
-use Rattle.layout.specs.Varint.{Outcome, whole, short, broken}
+use Rattle.layout.specs.Varint.{Outcome, whole}
 use Rattle.layout.specs.Message as layout
 use Rattle.layout.specs.Message.{field}
 use Rattle.passing.specs.declared.Stop.{Stop}

@@ -42,7 +42,8 @@ pub trait Count: Copy {
         ensures { (n : ℕ) → (d : ℕ) → counts self (n + length (shortest h)) → Lands counts d (reached d n (body base d (h / 8) (wire_of (h % 8)) bytes.now).outcome) result };
 }
 
-// What follows the header h, where that keeps the depth.
+// What follows the header h, where that keeps the depth: an enum of the four kinds in place of a type below 6 would be one more match, where
+// the header is read. (`copy_len` has this match with lengths: a trait for both would name each of the four twice.)
 fn end_at(bytes: &[u8], h: u64) -> Result<&[u8], Stop<&[u8]>>
     requires { h % 8 < 6 }
     ensures { Passes (after_body (h / 8) (wire_of (h % 8)) bytes.now) result }
@@ -69,14 +70,23 @@ impl Count for () {
 }
 
 // What follows the header h: what is counted up to its end, the depth there, and the bytes after it. A close has id 0 in the plain copy.
-fn body_at<C: Count>(counted: C, depth: u32, bytes: &[u8], h: u64) -> Result<(C, u32, &[u8]), Stop<&[u8]>>
+fn body_at<C: Count>(
+    counted: C,
+    depth: u32,
+    bytes: &[u8],
+    h: u64,
+) -> Result<(C, u32, &[u8]), Stop<&[u8]>>
     ensures { (n : ℕ) → C.counts counted n → Walks C.counts (reached depth n (body base depth (h / 8) (wire_of (h % 8)) bytes.now).outcome) result }
 {
     let headed = counted.headed(h);
     match (h % 8) as u8 {
         T_SEQUENCE_START if depth < MAX_DEPTH => Ok((headed, depth + 1, bytes)),
         T_SEQUENCE_START => Err(Stop::Broken(bytes)),
-        T_SEQUENCE_END if 0 < depth => Ok((counted.headed(T_SEQUENCE_END as u64), depth - 1, bytes)),
+        T_SEQUENCE_END if 0 < depth => Ok((
+            counted.headed(T_SEQUENCE_END as u64),
+            depth - 1,
+            bytes,
+        )),
         T_SEQUENCE_END => Err(Stop::Broken(bytes)),
         _ => {
             let (past, rest) = headed.past(bytes, h)?;
@@ -102,7 +112,7 @@ fn placed(message: &[u8], stop: Stop<&[u8]>) -> Stop
     }
 }
 
-// A message whole, from its start on, field by field.
+// A message whole, from its start on, field by field: they are of unequal lengths, so there is no `for` to go by.
 pub fn walk<C: Count>(message: &[u8], start: C) -> Result<C, Stop>
     requires { C.counts start 0 }
     ensures { Judges C.counts message.now result }

@@ -56,8 +56,8 @@ fn float_elements(carried: Carried, id: u32, w: FloatType, left: u32, bytes: &[u
 }
 
 // From any sound reader; none where it stands within a varint, a float or a payload. A caller may make a reader of any numbers (01), so its
-// type can't say that it is sound: that is tested once, where it comes in. The arms of integers differ in a phase's constructor: one function
-// would take it as a closure, with what it makes, and be no shorter.
+// type can't say that it is sound: that is tested once, where it comes in. The two arms of integers differ in a phase's constructor: one
+// function would take it as a closure, with what it makes, and be no shorter.
 pub fn as_is(reader: IStream, bytes: &[u8]) -> Option<Block>
     requires { sound_stream base reader ≡ true }
     ensures { IfSome result (λ b. (0 < b.len) × Ahead reader bytes.now b.len b.reader) }

@@ -1,12 +1,12 @@
 -- What an answer of passing or bodies says of the length: a value found, none found, an end found behind a word, and varints in a row.
 use Prim.Native.Nat.{ℕ, zero, suc, ◌+◌, ◌-◌, ◌*◌, ◌/◌, ◌%◌, ◌^◌, ◌≤◌, ◌<◌}
-use mathlib.Core.Path.{◌≡◌, refl, sym, ap, ◌∙◌, subst}
+use mathlib.Core.Path.{◌≡◌, refl, ap, ◌∙◌, subst}
 use mathlib.Core.Bool.{true}
 use mathlib.Core.List.{List, ◌++◌}
 use native.Mathlib.Nat.{mod-lt}
 use native.Mathlib.Omega.{arith}
 use lib.Dec.{leb, lit<}
-use lib.ListN.{length, drop, get_or, length-append, length-drop}
+use lib.ListN.{length, get_or, length-append}
 use Rattle.layout.specs.Limits.{base}
 use Rattle.layout.specs.Varint.{Outcome, whole, short, broken, varint, shortest}
 use Rattle.layout.specs.Zigzag.{zigzag}
@@ -25,7 +25,7 @@ use Rattle.passing.specs.declared.Stop.{Stop}
 use Rattle.passing.specs.declared.Stop.TheVariants.{Short, Broken}
 use Rattle.passing.specs.Passing.{Rest, stop_in, outcome_in}
 use Rattle.passing.proofs.Ends.{stopped}
-use Rattle.passing.proofs.Varints.{tail, tail_is, one, two}
+use Rattle.passing.proofs.Varints.{tail, one, two}
 use Rattle.bodies.specs.Bodies.{deep, after_word, after_floats}
 use Rattle.shortest.specs.Own.{Number, Ends}
 use Rattle.varint.proofs.Shortest.{length_one, length_more}

@@ -202,7 +202,7 @@ fn body_at(t: &[u8], h: u64, depth: u8) -> Option<(u8, &[u8])>
     }
 }
 
-// Behind scalars of two bytes in a row. Most fields are no longer, and their loop is short by itself. No `for` over pairs: it would not tell
+// Behind scalars of two bytes in a row. Most fields are no longer, and their loop is short by itself. No `for` over pairs: it wouldn't tell
 // what is behind the last one.
 fn smalls_at(t: &[u8]) -> &[u8]
     ensures { Ends t.now (λ bs. (d : ℕ) → OwnFields base d bs d) result.now }

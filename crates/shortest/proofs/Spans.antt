@@ -4,7 +4,7 @@ use mathlib.Core.Path.{◌≡◌, refl, sym, ap, ◌∙◌, subst}
 use mathlib.Core.List.{List, [], ◌∷◌, ◌++◌, append_assoc}
 use native.Mathlib.Omega.{arith}
 use lib.ListN.{length, take, drop, get_or, length-append, length-drop, take-append-drop}
-use lib.Seq.{length-take-le, take_all, take_at}
+use lib.Seq.{length-take-le, take_all}
 use Rattle.layout.specs.Message.{Bytes}
 use Rattle.shortest.specs.Own.{Ends}
 
@@ -28,11 +28,6 @@ module _ {P : List ℕ → Type 0} where
   -- how many bytes they are
   pub ends_long : {t r : List ℕ} → (e : Ends t P r) → length e.bytes + length r ≡ length t
   ends_long {r = r} e = sym (ap length e.split ∙ length-append e.bytes r)
-
-  -- by their number
-  pub ends_take : {t r : List ℕ} → Ends t P r → P (take (length t - length r) t)
-  ends_take {t} {r} e =
-      subst P (sym (ap (take (length t - length r)) e.split ∙ take_at e.bytes r (length t - length r) (omega (arith, ends_long e)))) e.good
 
 -- .. the rest being as the code takes it
 pub ends_behind : {P : List ℕ → Type 0} {t : List ℕ} (n : ℕ) → Ends t P (drop n t) → Ends t P (take (length t - n) (drop n t))

@@ -1,6 +1,6 @@
 -- A varint in its shortest form, byte by byte: one byte below 128, or bytes from 128 up and a last one that is not 0.
 use Prim.Native.Nat.{ℕ, ◌+◌, ◌*◌, ◌/◌, ◌%◌, ◌^◌, ◌≤◌, ◌<◌}
-use mathlib.Core.Path.{◌≡◌, refl, sym, ap, ◌∙◌, subst}
+use mathlib.Core.Path.{◌≡◌, refl, sym, ap, ◌∙◌}
 use mathlib.Core.List.{List, [], ◌∷◌, ◌++◌, append_assoc}
 use native.Mathlib.Nat.{mod-eq_of_lt}
 use native.Mathlib.Numerals.{add-one}
@@ -35,13 +35,6 @@ two b c r l h g k =
       split = refl;
       good = ap (λ (x : List ℕ). b ∷ x) (sym (shortest_one c k)) ∙ goes_on b c l h g;
     }
-
--- .. the value not asked for
-pub one_number : (b : ℕ) (r : List ℕ) → b < 128 → Ends (b ∷ r) Number r
-one_number b r l = ends_as (one b r l) (λ bs q. (b, omega arith, q))
-
-pub two_number : (b c : ℕ) (r : List ℕ) → 128 ≤ b → b < 256 → 0 < c → c < 128 → Ends (b ∷ c ∷ r) Number r
-two_number b c r l h g k = ends_as (two b c r l h g k) (λ bs q. (b % 128 + c * 128, omega arith, q))
 
 -- ---- more than one: k bytes came to v, and the varint of any number above 0 may follow
 

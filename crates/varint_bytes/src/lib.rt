@@ -9,13 +9,16 @@ pub fn put_whole(buf: &mut [u8], pos: usize, v: u64) -> usize
     ensures { Puts buf.old pos (shortest v) buf.new result }
 {
     let mut rest = v;
-    for at in pos..buf.len() {
-        if rest < 128 {
-            buf[at] = rest as u8;
-            return at + 1;
+    let end = buf.len();
+    if pos < end {
+        for (k, b) in buf[pos..].iter_mut().enumerate() {
+            if rest < 128 {
+                *b = rest as u8;
+                return pos + k + 1;
+            }
+            *b = (rest % 128 + 128) as u8;
+            rest /= 128;
         }
-        buf[at] = (rest % 128 + 128) as u8;
-        rest /= 128;
     }
-    pos.max(buf.len())
+    pos.max(end)
 }

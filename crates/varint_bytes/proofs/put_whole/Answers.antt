@@ -1,35 +1,34 @@
 -- `varint_bytes::put_whole`: at each turn, the rest's varint is left to write.
-use Prim.Native.Nat.{ℕ, ◌≤◌, ◌<◌, max}
-use mathlib.Core.Path.{◌≡◌, refl, subst}
+use Prim.Native.Nat.{◌+◌}
+use mathlib.Core.Path.{◌≡◌, ◌∙◌}
 use native.Mathlib.Omega.{arith}
-use mathlib.Core.Bool.{Bool, true, false}
-use lib.Dec.{leb}
-use borrow.Author.Tests.{leb-true, leb-false}
-use lib.ListN.{length}
 use Rattle.layout.specs.Varint.{shortest}
 use Rattle.varint.proofs.Shortest.{shortest_one, shortest-more}
 use Rattle.putting.proofs.Turns.{start, next, no_room, ended}
-use Rattle.putting.specs.Put.{Puts}
+use Rattle.varint_bytes.proofs.Part.{part_put, part_long}
 use Rattle.varint_bytes.proofs.put_whole.Goals as goal
+use Rattle.varint_bytes.proofs.put_whole.Goals.{then-pos-end+else-loop-k-test, else-pos-end}
 
-pub loop-at-init : goal.loop-at-init
-loop-at-init c = record { left = start _ _ _; none = λ h. refl }
+pub loop-k-init : goal.loop-k-init
+loop-k-init c = start _ _ _
+
+pub loop-k-preserved : goal.loop-k-preserved
+loop-k-preserved c = next _ _ _ _ _ _ c.loop-k.invariant _ _ (shortest-more _ c.if-rest-lt128.false) (omega (arith, c.loop-k-test.true, c.loop-k.invariant.size))
 
 pub returns-then-rest-lt128 : goal.returns-then-rest-lt128
-returns-then-rest-lt128 c = ended _ _ _ _ _ _ c.loop-at.invariant.left _ (shortest_one _ c.if-rest-lt128.true) (omega arith)
-
-pub loop-at-preserved : goal.loop-at-preserved
-loop-at-preserved c = record { left = next _ _ _ _ _ _ c.loop-at.invariant.left _ _ (shortest-more _ c.if-rest-lt128.false) (omega arith); none = λ h. omega arith }
-
--- beyond the buffer's end there is no turn
-stays : (at pos n m : ℕ) → pos ≤ at → n ≤ at → (pos ≤ n → at ≤ n) → (n < pos → at ≡ pos) → m ≡ max pos n → at ≡ m
-stays at pos n m h k within beyond e = go (leb pos n) refl
-  where
-    go : (t : Bool) → leb pos n ≡ t → at ≡ m
-    go true q = let i = within (leb-true _ _ q) in omega arith
-    go false q = let i = beyond (leb-false _ _ q) in let j : n < pos = leb-false _ _ q in omega arith
+returns-then-rest-lt128 c =
+    part_put _ _ _ c.args.pos (c.loop-k.k + 1) _ (omega (arith, c.if-pos-end.true)) (omega arith)
+    (ended _ _ _ _ _ _ c.loop-k.invariant _ (shortest_one _ c.if-rest-lt128.true) (omega (arith, c.loop-k-test.true, c.loop-k.invariant.size)))
 
 pub returns : goal.returns
 returns c =
-    let e = stays c.loop-at.at c.args.pos (length c.args.buf.now) c.max.result (omega arith) (omega arith) c.loop-at.auto.at-end c.loop-at.invariant.none (omega arith) in
-    subst (λ (k : ℕ). Puts c.args.buf.now c.args.pos (shortest c.args.v) c.loop-at.buf k) e (no_room _ _ _ _ _ _ c.loop-at.invariant.left (omega arith))
+    elim c.if-pos-end.branch [
+      | then-pos-end+else-loop-k-test w ↦
+          (let l = part_long c.args.buf.now c.args.pos (omega (arith, w.if-pos-end.true)) in
+          let p = part_put _ _ _ c.args.pos w.loop-k.k c.max.result (omega (arith, w.if-pos-end.true)) (omega (arith, l, w.loop-k-test.false, w.loop-k.auto.k-end)) (no_room _ _ _ _ _ _ w.loop-k.invariant (omega (arith, w.loop-k-test.false, w.loop-k.invariant.size))) in
+          (p.0, w.buf-is ∙ p.1))
+      | else-pos-end w ↦
+          (let e : c.max.result ≡ c.args.pos = omega (arith, w.if-pos-end.false) in
+          let p = no_room _ _ _ _ _ _ (start c.args.buf.now c.args.pos (shortest c.args.v)) (omega (arith, w.if-pos-end.false)) in
+          (e ∙ p.0, w.buf-is ∙ p.1))
+    ]

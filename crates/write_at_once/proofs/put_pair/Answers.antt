@@ -1,11 +1,8 @@
 -- `write_at_once::put_pair`: the test, then two bytes, or one write after another.
 use mathlib.Core.List.{◌++◌}
 use native.Mathlib.Omega.{arith}
-use lib.ListN.{length, length-set}
 use Rattle.layout.specs.Varint.{shortest}
-use Rattle.varint_bytes.proofs.Digits.{one_byte}
 use Rattle.at_ease.proofs.AtOnce.{has_room, fails, passes, roomy, made, unmade}
-use Rattle.write_at_once.proofs.Rows.{pair_made}
 use Rattle.write_at_once.proofs.put_pair.Goals as goal
 
 pub returns-then-not-is_roomy : goal.returns-then-not-is_roomy

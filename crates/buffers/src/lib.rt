@@ -26,7 +26,8 @@ pub fn drain(pos: usize, nest: Nest, size: usize) -> Result<Moved, Error>
     }
 }
 
-// The bytes below the position are sent, and writing goes on in another buffer, from the offset on.
+// The bytes below the position are sent, and writing goes on in another buffer, from the offset on. (`drained` is the flag of 01's call,
+// which C hands on as it is.)
 pub fn change(
     pos: usize,
     nest: Nest,

@@ -1,4 +1,5 @@
-// What a call of the writer refuses, by numbers alone, and in which order. (Whether the state is sound is told.)
+// What a call of the writer refuses, by numbers alone, and in which order. (Whether the state is sound is told: that test is of all the
+// state's numbers, and these would only hand them on to it.)
 #![tactic(auto)]
 
 ghost use Rattle.std.specs.Prelude.{◌≡◌};
@@ -40,7 +41,8 @@ fn short_enough(len: usize, most: u32) -> Result<(), Error>
     }
 }
 
-// Whether a buffer of this size cannot be written from the offset on; one that is to be drained needs a byte.
+// Whether a buffer of this size cannot be written from the offset on; one that is to be drained needs a byte. (`drained`, here and below,
+// is the flag of 01's calls, which C hands on as it is.)
 pub fn unfit(size: usize, offset: usize, drained: bool) -> bool
     ensures { result ≡ (bad_buffer size offset drained).fails }
 {

@@ -39,7 +39,8 @@ pub fn put_fitting(buf: &mut [u8], pos: usize, v: u64) -> usize
     put_third(buf, pos + 2, second / 128)
 }
 
-// Such a varint from its third byte on.
+// Such a varint from its third byte on. (One function for the two bytes that both begin with took 1.1 to 1.16 times as long on small
+// integers.)
 fn put_third(buf: &mut [u8], pos: usize, v: u64) -> usize
     requires { pos + (longest base - 2) ≤ length buf.old }
     ensures { Puts buf.old pos (shortest v) buf.new result }

@@ -13,14 +13,16 @@ use places::Nest;
 use types::{LAZY_SEQ_DEPTH, T_SEQUENCE_START};
 use varint::varint_len;
 
-// A header's number, and a fixed-length word's; the tag is the wire's number of a type or a subtype.
+// A header's number, and a fixed-length word's. (The tag is the wire's number of a type or a subtype: with an enum for each there would be
+// two of these.)
 pub fn tagged(n: u32, tag: u8) -> u64
     ensures { result ≡ n * 8 + tag }
 {
     u64::from(n) * 8 + u64::from(tag)
 }
 
-// The ids that are held back, outermost first, of a state that was tested: there are eight places.
+// The ids that are held back, outermost first, of a state that was tested: there are eight places. (An array and a count: the writer's
+// memory is fixed, and it has no heap.)
 #[derive(Clone, Copy)]
 pub struct Held {
     pub places: [u32; LAZY_SEQ_DEPTH],

@@ -8,7 +8,8 @@ ghost use Rattle.output.specs.Output.{output_bytes, output_most};
 use emit::{Cursor, put_fitting, put_part};
 use varint::{VARINT_MAX, varint_len};
 
-// The bytes that an event is written as: varints one after another, or a float's four or eight low bytes.
+// The bytes that an event is written as: varints one after another, or a float's four or eight low bytes. (`Empty` is an output like the
+// others, of no byte, not a missing one: an Option would be asked for at each use.)
 #[derive(Clone, Copy)]
 pub enum Output {
     Empty,
@@ -62,7 +63,8 @@ impl Output {
         self.put(buf, pos, 0)
     }
 
-    // Its bytes from the place on, as far as there is room from pos on; where they end.
+    // Its bytes from the place on, as far as there is room from pos on; where they end. (By two numbers: the copier would make a `Cursor` of
+    // them for this call, and read where it stands.)
     pub fn put(self, buf: &mut [u8], pos: usize, place: usize) -> usize
         ensures { Puts buf.old pos (drop place (output_bytes self)) buf.new result }
     {

@@ -7,6 +7,8 @@ ghost use Rattle.places.specs.Places.{lazy_depth, every, zeroed, sound_for};
 
 use types::{ID_MAX, LAZY_SEQ_DEPTH, MAX_DEPTH};
 
+// The places, here and below, are an array of eight with a count beside it: a writer's memory is fixed, and it has no heap.
+
 // Whether the first n ids are legal.
 fn ids_legal(pending: [u32; LAZY_SEQ_DEPTH], n: usize) -> bool
     ensures { result ≡ every (λ x. leb x base.id) (take n pending) }
@@ -23,7 +25,8 @@ pub fn unused_zero(pending: [u32; LAZY_SEQ_DEPTH], n: usize) -> bool
     pending[n.min(LAZY_SEQ_DEPTH)..].iter().all(|id| *id == 0)
 }
 
-// The first n of some places zeroed, and the others left as they are, whatever they hold. (n is how many a sound state holds.)
+// The first n of some places zeroed, and the others left as they are, whatever they hold. (n is how many a sound state holds: `zeroed` of
+// more than eight would be longer than the places.)
 pub fn clear(places: [u32; LAZY_SEQ_DEPTH], n: usize) -> [u32; LAZY_SEQ_DEPTH]
     requires { n ≤ lazy_depth }
     ensures { result ≡ zeroed n places }

@@ -110,7 +110,7 @@ impl OStream {
         self.settle(size, outcome, self.depth)
     }
 
-    // An array of floats.
+    // An array of floats. (With the trait, the call and the statement it differs from `write_integers_slowly` in all but the last line.)
     fn write_floats<T: Float>(self, buf: &mut [u8], id: u32, items: &[T], place: usize) -> Written
         ensures { result_of result buf.new ≡ written (float_array_call self (length buf.old) id T.width (map T.bits items.now)) self buf.old place }
     {

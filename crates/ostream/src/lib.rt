@@ -24,8 +24,8 @@ use places::{Nest, clear};
 use types::{Error, LAZY_SEQ_DEPTH};
 
 // A writer's state. `offset` is where the next byte goes; `depth` counts the open sequences; `pending` has the ids of the innermost
-// `npending` of them, whose headers are held back, and zero elsewhere. (Eight places, as 01 has them, in memory of a fixed size. The fields'
-// order is for speed.)
+// `npending` of them, whose headers are held back, and zero elsewhere. (Eight places in fixed memory, as 01 has them. The fields' order is
+// for speed.)
 #[derive(Clone, Copy)]
 pub struct OStream {
     pub offset: usize,

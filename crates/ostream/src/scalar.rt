@@ -11,8 +11,9 @@ use write_at_once::pair_at_once;
 use write_slowly::varint_field;
 
 impl OStream {
-    // A field of a header and one varint, its type the wire's number, which is a term of the header: the fast form, then the slow one. One function for this and for
-    // `write_fixlen_raw` would take a closure for each form, and both would hold the buffer.
+    // A field of a header and one varint: the fast form, then the slow one. One function for this and for `write_fixlen_raw` would take a
+    // closure for each form, and both would hold the buffer. (The type is the wire's number, a term of the header: as an enum it would be
+    // made a number again, by a match with a law.)
     fn write_varint_field(
         mut self,
         buf: &mut [u8],
@@ -33,7 +34,8 @@ impl OStream {
             .rebuilt()
     }
 
-    // The slow form of `write_varint_field`, from any state and place.
+    // The slow form of `write_varint_field`, from any state and place. (One for this and the other slow forms would take a closure with a
+    // contract by `went_by`, longer than the three lines that they have in common.)
     #[inline(never)]
     fn write_varint_field_slowly(
         self,

@@ -1,4 +1,5 @@
-// Fields written at once, where `at_ease` has nothing against it.
+// Fields written at once, where `at_ease` has nothing against it. (The eight places are in fixed memory; they stand beside the position
+// since `fields` has none behind the held headers. A struct of position, places and header would be made and taken apart at each call.)
 #![tactic(auto)]
 
 ghost use Rattle.std.specs.Prelude.{◌≡◌, [], ◌∷◌, ◌++◌, ◌+◌, ◌*◌, ◌≤◌, ◌&&◌, ltb, length};
@@ -26,8 +27,8 @@ fn is_roomy(size: usize, pos: usize, places: [u32; LAZY_SEQ_DEPTH], more: usize)
     has_room(size, pos, more) && unused_zero(places, 0)
 }
 
-// Two varints, where there is room for the longest; where they end. Two bytes go with no call: with all of it out of line small integers took
-// 1.7 times as long.
+// Two varints, where there is room for the longest; where they end. Two bytes go with no call: with all of it out of line small integers
+// took 1.5 times as long.
 #[inline(always)]
 fn put_two(buf: &mut [u8], pos: usize, header: u64, second: u64) -> usize
     requires { pos + pair_most ≤ length buf.old }
@@ -108,7 +109,7 @@ pub fn put_integers<T: Integer>(
 
 // ---- the same behind the tests that come before them, as a call of the writer makes them first
 
-// A field of one varint, its type the wire's number.
+// A field of one varint, its type the wire's number, a term of the header: an enum would be made a number again, by a match with a law.
 pub fn pair_at_once(
     buf: &mut [u8],
     pos: usize,

@@ -75,7 +75,7 @@ pub fn has_room(size: usize, pos: usize, more: usize) -> bool
     more <= size - PAIR_MAX - pos
 }
 
-// The one byte of a close, where it can be written and no place is in use; where it ends.
+// The one byte of a close, where it can be written and no place is in use (there are eight, in fixed memory); where it ends.
 pub fn put_end(buf: &mut [u8], pos: usize, places: [u32; LAZY_SEQ_DEPTH]) -> Option<usize>
     ensures { PutsIf (ltb pos (length buf.old) && clean places) buf.old pos (7 ∷ []) buf.new result }
 {

@@ -3,7 +3,7 @@
 
 ghost use Rattle.std.specs.Prelude.{◌≡◌, ◌++◌};
 ghost use Rattle.layout.specs.Varint.{shortest};
-ghost use Rattle.layout.specs.Field.{low_bytes, end};
+ghost use Rattle.layout.specs.Field.{end};
 ghost use Rattle.layout.specs.Copy.{field_bytes};
 ghost use Rattle.held.specs.Headers.{headers_of, head_of, Ended};
 
@@ -76,18 +76,4 @@ pub fn put_close(start: Cursor, buf: &mut [u8], held: Held) -> Result<Reach, Err
     ensures { Ended start.pos buf.old (headers_of held.count held.places ++ field_bytes (end 0)) start.skip result buf.new }
 {
     put_marker(start, buf, held, tagged(0, T_SEQUENCE_END))
-}
-
-// The four bytes of a number, low byte first.
-pub fn le32(x: u32) -> [u8; 4]
-    ensures { result ≡ low_bytes 4 x }
-{
-    x.to_le_bytes()
-}
-
-// The eight bytes of a number, low byte first.
-pub fn le64(x: u64) -> [u8; 8]
-    ensures { result ≡ low_bytes 8 x }
-{
-    x.to_le_bytes()
 }

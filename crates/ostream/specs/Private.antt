@@ -5,6 +5,7 @@ use Rattle.types.specs.Types.{refusal}
 use Rattle.types.specs.declared.Error.{Error}
 use Rattle.outcomes.specs.declared.Reach.{Reach}
 use Rattle.outcomes.specs.declared.Reach.TheVariants.{Through, Full}
+use Rattle.emit.specs.declared.Cursor.{Cursor}
 use Rattle.places.specs.declared.Nest.{Nest}
 use Rattle.buffers.specs.declared.Moved.{Moved}
 use Rattle.ostream.specs.declared.OStream.{OStream}
@@ -17,6 +18,10 @@ use Rattle.ostream.specs.Emission.{refused}
 -- the sequences that are open
 abbrev pub nest_of : OStream → Nest
 nest_of s = record { places = s.pending; depth = s.depth; held = s.npending }
+
+-- where a call writes, that goes on from a place
+abbrev pub start_of : OStream → ℕ → Cursor
+start_of s place = record { pos = s.offset; skip = place }
 
 -- what the answer asks of the state: once all is out the places in use are cleared, of which there are eight
 abbrev pub Clears : OStream → Result Reach Error → Type 0

@@ -1,4 +1,4 @@
-// The calls that write an array: of integers, and of floats.
+// The calls that write an array: of integers, and of floats. (What they take is 01's; the private ones take the same, to hand it on.)
 ghost use Rattle.std.specs.Prelude.{◌≡◌, map, length};
 ghost use Rattle.std.specs.Float.{binary32, binary64};
 ghost use Rattle.std.specs.Float.Ieee.{to_bits};
@@ -106,16 +106,16 @@ impl OStream {
         ensures { result_of result buf.new ≡ written (array_call self (length buf.old) id (length items.now) (field_bytes (T.array id items.now))) self buf.old place }
     {
         let size = buf.len();
-        let outcome = integer_array(buf, self.offset, self.nest(), id, items, place);
+        let outcome = integer_array(self.start(place), buf, self.nest(), id, items);
         self.settle(size, outcome, self.depth)
     }
 
-    // An array of floats.
+    // An array of floats. (With the trait, the call and the statement it differs from `write_integers_slowly` in all but the last line.)
     fn write_floats<T: Float>(self, buf: &mut [u8], id: u32, items: &[T], place: usize) -> Written
         ensures { result_of result buf.new ≡ written (float_array_call self (length buf.old) id T.width (map T.bits items.now)) self buf.old place }
     {
         let size = buf.len();
-        let outcome = float_array(buf, self.offset, self.nest(), id, items, place);
+        let outcome = float_array(self.start(place), buf, self.nest(), id, items);
         self.settle(size, outcome, self.depth)
     }
 }

@@ -1,4 +1,5 @@
-// The calls that write a field of fixed length: floats, strings, blobs, and any bytes.
+// The calls that write a field of fixed length: floats, strings, blobs, and any bytes. (What they take is 01's; the private ones take the
+// same, to hand it on.)
 ghost use Rattle.std.specs.Prelude.{◌≡◌, length};
 ghost use Rattle.std.specs.Float.{binary32, binary64};
 ghost use Rattle.std.specs.Float.Ieee.{to_bits};
@@ -9,7 +10,6 @@ ghost use Rattle.ostream.specs.Calls.{raw_call, fixlen_call, float_call, payload
 use crate::{OStream, Written};
 use checks::check_fixlen;
 use event::{fp32_bits, fp64_bits};
-use fields::{le32, le64};
 use types::FixlenType;
 use write_at_once::field_at_once;
 use write_slowly::fixlen_field;
@@ -49,7 +49,7 @@ impl OStream {
         ensures { result_of result buf.new ≡ written (raw_call self (length buf.old) id bytes.now subtype) self buf.old place }
     {
         let size = buf.len();
-        let outcome = fixlen_field(buf, self.offset, self.nest(), id, bytes, subtype, place);
+        let outcome = fixlen_field(self.start(place), buf, self.nest(), id, bytes, subtype);
         self.settle(size, outcome, self.depth)
     }
 
@@ -84,11 +84,12 @@ impl OStream {
         self.write_fixlen_raw(buf, id, bytes, FixlenType::Blob, place)
     }
 
-    // A float of 32 bits, by its bits.
+    // A float of 32 bits, by its bits. (01 has a name for each width; one function below the two would take a width, its subtype and its
+    // bytes, which is all that a body has.)
     pub fn write_fp32_bits(mut self, buf: &mut [u8], id: u32, bits: u32, place: usize) -> Written
         ensures { result_of result buf.new ≡ written (float_call self (length buf.old) id fp32 bits) self buf.old place }
     {
-        let bytes = le32(bits);
+        let bytes = bits.to_le_bytes();
         self.write_fixlen_raw(buf, id, &bytes, FixlenType::Fp32, place)
     }
 
@@ -96,7 +97,7 @@ impl OStream {
     pub fn write_fp64_bits(mut self, buf: &mut [u8], id: u32, bits: u64, place: usize) -> Written
         ensures { result_of result buf.new ≡ written (float_call self (length buf.old) id fp64 bits) self buf.old place }
     {
-        let bytes = le64(bits);
+        let bytes = bits.to_le_bytes();
         self.write_fixlen_raw(buf, id, &bytes, FixlenType::Fp64, place)
     }
 

@@ -11,19 +11,21 @@ mod sequence;
 
 ghost use Rattle.std.specs.Prelude.{◌≡◌, ◌≤◌, true, false, length};
 ghost use Rattle.ostream.specs.Stream.{lazy_depth, sound_stream, committed, opened};
-ghost use Rattle.ostream.specs.Private.{Clears, nest_of, through_to, settled, unwritten, counted_at};
+ghost use Rattle.ostream.specs.Private.{Clears, nest_of, start_of, through_to, settled, unwritten, counted_at};
 ghost use Rattle.ostream.specs.Emission.{refused};
 ghost use Rattle.ostream.specs.Buffer.{opening, draining, changing};
 
 use buffers::{Moved, change, drain};
 use checks::unfit;
+use emit::Cursor;
 use held::Held;
 use outcomes::Reach;
 use places::{Nest, clear};
 use types::{Error, LAZY_SEQ_DEPTH};
 
 // A writer's state. `offset` is where the next byte goes; `depth` counts the open sequences; `pending` has the ids of the innermost
-// `npending` of them, whose headers are held back, and zero elsewhere. (The fields' order is for speed.)
+// `npending` of them, whose headers are held back, and zero elsewhere. (Eight places in fixed memory, as 01 has them. The fields' order is
+// for speed.)
 #[derive(Clone, Copy)]
 pub struct OStream {
     pub offset: usize,
@@ -93,7 +95,7 @@ impl OStream {
         }
     }
 
-    // A writer at the offset, with no sequence open.
+    // A writer at the offset, with no sequence open: its places are of a fixed size, all zero.
     fn install(offset: usize) -> OStream
         ensures { result ≡ opened offset }
     {
@@ -124,7 +126,18 @@ impl OStream {
         }
     }
 
-    // The ids that are held back, of a state that was tested.
+    // Where a call writes, that goes on from a place.
+    fn start(self, place: usize) -> Cursor
+        ensures { result ≡ start_of self place }
+    {
+        Cursor {
+            pos: self.offset,
+            skip: place,
+        }
+    }
+
+    // The ids that are held back, of a state that was tested. (Without the fact, here and in `commit`, more than eight would have to be cut
+    // off: a test that no call needs, and `zeroed` and the headers would be those of eight at most.)
     fn held(self) -> Held
         requires { self.npending ≤ lazy_depth }
         ensures { (result.places ≡ self.pending) × (result.count ≡ self.npending) }
@@ -202,6 +215,7 @@ impl OStream {
 
     // ---- opening, drain, buffer change
 
+    // A writer at the offset; `drained`, here and in `buffer_set`, is 01's flag: whether the caller drains the buffer.
     #[tactic(auto, unfolding(crate::specs::Buffer::opening))]
     fn open(size: usize, offset: usize, drained: bool) -> Written
         ensures { result ≡ opening size offset drained }

@@ -1,4 +1,5 @@
-// The calls that write a number or a boolean: a header and one varint.
+// The calls that write a number or a boolean: a header and one varint. (What they take is 01's; the private ones take the same, to hand it
+// on.)
 ghost use Rattle.std.specs.Prelude.{◌≡◌, length};
 ghost use Rattle.ostream.specs.Emission.{result_of, written};
 ghost use Rattle.ostream.specs.Calls.{varint_call, unsigned_call, signed_call, boolean_call};
@@ -10,8 +11,9 @@ use write_at_once::pair_at_once;
 use write_slowly::varint_field;
 
 impl OStream {
-    // A field of a header and one varint, its type the wire's number: the fast form, then the slow one. One function for this and for
-    // `write_fixlen_raw` would take a closure for each form, and both would hold the buffer.
+    // A field of a header and one varint: the fast form, then the slow one. One function for this and for `write_fixlen_raw` would take a
+    // closure for each form, and both would hold the buffer. (The type is the wire's number, a term of the header: as an enum it would be
+    // made a number again, by a match with a law.)
     fn write_varint_field(
         mut self,
         buf: &mut [u8],
@@ -32,7 +34,8 @@ impl OStream {
             .rebuilt()
     }
 
-    // The slow form of `write_varint_field`, from any state and place.
+    // The slow form of `write_varint_field`, from any state and place. (One for this and the other slow forms would take a closure with a
+    // contract by `went_by`, longer than the three lines that they have in common.)
     #[inline(never)]
     fn write_varint_field_slowly(
         self,
@@ -45,7 +48,7 @@ impl OStream {
         ensures { result_of result buf.new ≡ written (varint_call self (length buf.old) id wire value) self buf.old place }
     {
         let size = buf.len();
-        let outcome = varint_field(buf, self.offset, self.nest(), id, wire, value, place);
+        let outcome = varint_field(self.start(place), buf, self.nest(), id, wire, value);
         self.settle(size, outcome, self.depth)
     }
 

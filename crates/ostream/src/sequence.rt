@@ -8,7 +8,6 @@ ghost use Rattle.ostream.specs.Calls.{begin_call, end_call, end_keep_call};
 use crate::{Answer, OStream, Written};
 use at_ease::can_hold;
 use checks::{check_begin, check_end};
-use emit::Cursor;
 use fields::{put_close, put_marker};
 use held::tagged;
 use places::{add_id, drop_id};
@@ -29,16 +28,15 @@ impl OStream {
         self
     }
 
-    // The state with the last one held back dropped, and its place zero. (`end_slowly` has tested the state, and that one is held.)
+    // The state with the last one held back dropped, and its place zero.
     fn unhold(mut self) -> OStream
-        requires { (0 < self.npending) × (self.npending ≤ lazy_depth) × (self.npending ≤ self.depth) }
         ensures { result ≡ dropped self }
     {
         let places = self.pending;
         let fewer = drop_id(places, self.npending);
         self.pending = fewer;
-        self.npending = self.npending - 1;
-        self.depth = self.depth - 1;
+        self.npending = self.npending.saturating_sub(1);
+        self.depth = self.depth.saturating_sub(1);
         self
     }
 
@@ -67,11 +65,7 @@ impl OStream {
             return self.alter(place, self.hold(id));
         }
         let header = tagged(id, T_SEQUENCE_START);
-        let start = Cursor {
-            pos: self.offset,
-            skip: place,
-        };
-        let outcome = put_marker(start, buf, self.held(), header);
+        let outcome = put_marker(self.start(place), buf, self.held(), header);
         self.settle(size, outcome, self.depth + 1)
     }
 
@@ -108,11 +102,7 @@ impl OStream {
         ensures { result_of result buf.new ≡ written (end_keep_call self (length buf.old)) self buf.old place }
     {
         let size = buf.len();
-        let start = Cursor {
-            pos: self.offset,
-            skip: place,
-        };
-        let outcome = put_close(start, buf, self.held());
+        let outcome = put_close(self.start(place), buf, self.held());
         self.settle(size, outcome, self.depth - 1)
     }
 

@@ -22,39 +22,37 @@ use outcomes::Reach;
 use places::Nest;
 use types::{ARRAY_MAX, Error, FIXLEN_MAX, FixlenType, T_FIXLEN};
 
-// A field of one varint, its type the wire's number.
+// A field of one varint, its type the wire's number. (An enum in its place would be made a number again for the header, by a match with a
+// law: no plainer.)
 pub fn varint_field(
+    start: Cursor,
     buf: &mut [u8],
-    pos: usize,
     nest: Nest,
     id: u32,
     wire: u8,
     value: u64,
-    place: usize,
 ) -> Result<Reach, Error>
-    ensures { went_by result buf.new ≡ field_from pos nest.depth nest.held nest.places buf.old id [] (shortest (id * 8 + wire) ++ shortest value) place }
+    ensures { went_by result buf.new ≡ field_from start.pos nest.depth nest.held nest.places buf.old id [] (shortest (id * 8 + wire) ++ shortest value) start.skip }
 {
-    check_field(nest.sound_for(pos, buf.len()), id)?;
-    let start = Cursor { pos, skip: place };
+    check_field(nest.sound_for(start.pos, buf.len()), id)?;
     put_varint_field(start, buf, Held::of(nest), tagged(id, wire), value)
 }
 
 // A fixed-length field: the header, the word, and the bytes as they are.
 #[tactic(auto, using(crate::proofs::Went::refuses, crate::proofs::Went::goes), unfolding(layout::specs::Copy::fixlen_bytes))]
 pub fn fixlen_field(
+    start: Cursor,
     buf: &mut [u8],
-    pos: usize,
     nest: Nest,
     id: u32,
     bytes: &[u8],
     t: FixlenType,
-    place: usize,
 ) -> Result<Reach, Error>
-    ensures { went_by result buf.new ≡ field_from pos nest.depth nest.held nest.places buf.old id (payload_too_long (length bytes.now) ∷ []) (fixlen_bytes id (subtype t) bytes.now) place }
+    ensures { went_by result buf.new ≡ field_from start.pos nest.depth nest.held nest.places buf.old id (payload_too_long (length bytes.now) ∷ []) (fixlen_bytes id (subtype t) bytes.now) start.skip }
 {
-    check_sized(nest.sound_for(pos, buf.len()), id, bytes.len(), FIXLEN_MAX)?;
+    let sound = nest.sound_for(start.pos, buf.len());
+    check_sized(sound, id, bytes.len(), FIXLEN_MAX)?;
     let word = tagged(bytes.len() as u32, t.raw());
-    let start = Cursor { pos, skip: place };
     put_fixlen_field(
         start,
         buf,
@@ -65,32 +63,33 @@ pub fn fixlen_field(
     )
 }
 
-// An array of integers.
+// An array of integers. (This and the next have the trait of the elements, the put and the bytes in which they differ: one generic would
+// take a closure with a contract of four lines for the two of a body.)
 pub fn integer_array<T: Integer>(
+    start: Cursor,
     buf: &mut [u8],
-    pos: usize,
     nest: Nest,
     id: u32,
     items: &[T],
-    place: usize,
 ) -> Result<Reach, Error>
-    ensures { went_by result buf.new ≡ field_from pos nest.depth nest.held nest.places buf.old id (array_too_long (length items.now) ∷ []) (field_bytes (T.array id items.now)) place }
+    ensures { went_by result buf.new ≡ field_from start.pos nest.depth nest.held nest.places buf.old id (array_too_long (length items.now) ∷ []) (field_bytes (T.array id items.now)) start.skip }
 {
-    check_sized(nest.sound_for(pos, buf.len()), id, items.len(), ARRAY_MAX)?;
-    put_integer_array(Cursor { pos, skip: place }, buf, Held::of(nest), id, items)
+    let sound = nest.sound_for(start.pos, buf.len());
+    check_sized(sound, id, items.len(), ARRAY_MAX)?;
+    put_integer_array(start, buf, Held::of(nest), id, items)
 }
 
 // An array of floats.
 pub fn float_array<T: Float>(
+    start: Cursor,
     buf: &mut [u8],
-    pos: usize,
     nest: Nest,
     id: u32,
     items: &[T],
-    place: usize,
 ) -> Result<Reach, Error>
-    ensures { went_by result buf.new ≡ field_from pos nest.depth nest.held nest.places buf.old id (array_too_long (length items.now) ∷ []) (field_bytes (float_array id T.width (map T.bits items.now))) place }
+    ensures { went_by result buf.new ≡ field_from start.pos nest.depth nest.held nest.places buf.old id (array_too_long (length items.now) ∷ []) (field_bytes (float_array id T.width (map T.bits items.now))) start.skip }
 {
-    check_sized(nest.sound_for(pos, buf.len()), id, items.len(), ARRAY_MAX)?;
-    put_float_array(Cursor { pos, skip: place }, buf, Held::of(nest), id, items)
+    let sound = nest.sound_for(start.pos, buf.len());
+    check_sized(sound, id, items.len(), ARRAY_MAX)?;
+    put_float_array(start, buf, Held::of(nest), id, items)
 }

@@ -39,7 +39,7 @@ pub returns : goal.returns
 unfolding held_bytes field_bytes
 returns c =
     let n = le-ltb c.args.self.npending lazy_depth c.if-self.false in
-    settles (begin_call c.args.self (length c.args.buf.now) c.args.id) c.args.self c.args.buf.now c.args.place _ _ (committed c.args.self (c.args.self.depth + 1)) _ _ (simp n (ap (λ (h : ℕ). held_bytes c.args.self ++ shortest h) c.tagged-header.ensures)) (simp n) (passes (goal.at.returns c).In_default) (rw c.held.ensures.0 at (rw c.held.ensures.1 at c.put_marker-outcome.ensures)) c.settle.ensures
+    settles (begin_call c.args.self (length c.args.buf.now) c.args.id) c.args.self c.args.buf.now c.args.place _ _ (committed c.args.self (c.args.self.depth + 1)) _ _ (simp n (ap (λ (h : ℕ). held_bytes c.args.self ++ shortest h) c.tagged-header.ensures)) (simp n) (passes (goal.at.returns c).In_default) (rw c.held.ensures.0 at (rw c.held.ensures.1 at (rw c.start.ensures at c.put_marker-outcome.ensures))) c.settle.ensures
 
 pub held-requires : goal.held-requires
 held-requires c = (knows (goal.at.held-requires c).In_default).few

@@ -13,7 +13,7 @@ settle-requires c = few_clears c.args.self (is_sound c.args.self (length c.args.
 pub returns : goal.returns
 unfolding held_bytes
 returns c =
-    settles _ _ _ _ _ _ _ _ _ refl refl (simp (c.requires.0, ne_eqb c.args.self.depth 0 (λ e. omega arith))) (rw c.held.ensures.0 at (rw c.held.ensures.1 at c.put_close-outcome.ensures)) c.settle.ensures
+    settles _ _ _ _ _ _ _ _ _ refl refl (simp (c.requires.0, ne_eqb c.args.self.depth 0 (λ e. omega arith))) (rw c.held.ensures.0 at (rw c.held.ensures.1 at (rw c.start.ensures at c.put_close-outcome.ensures))) c.settle.ensures
 
 pub held-requires : goal.held-requires
 held-requires c = (is_sound c.args.self (length c.args.buf.now) c.requires.0).few

@@ -2,7 +2,6 @@
 use Prim.Native.Nat.{ℕ}
 use mathlib.Core.List.{List, ◌++◌}
 use mathlib.Core.Path.{◌≡◌, refl, sym, ap, ◌∙◌}
-use native.Mathlib.Omega.{arith}
 use lib.ListN.{length}
 use Rattle.layout.specs.Copy.{field_bytes}
 use Rattle.refusals.specs.Judged.{accepted, judged}
@@ -32,9 +31,6 @@ passes c = check_passes (judged (end_call c.args.self (length c.args.buf.now)).t
 
 knows : (c : In_default) → Sound c.args.self (length c.args.buf.now)
 knows c = is_sound c.args.self (length c.args.buf.now) (end_knows c.args.self (length c.args.buf.now) (passes c)).0
-
-pub unhold-requires : goal.unhold-requires
-unhold-requires c = let h = knows (goal.at.unhold-requires c).In_default in (omega arith, h.few, h.nested)
 
 pub returns : goal.returns
 unfolding dropped

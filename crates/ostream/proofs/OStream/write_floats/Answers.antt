@@ -12,9 +12,9 @@ use Rattle.ostream.proofs.Calls.{field_clears, goes}
 use Rattle.ostream.proofs.OStream.write_floats.Goals as goal
 
 pub settle-requires : goal.settle-requires
-settle-requires g c = field_clears c.args.self c.args.buf.now c.args.id (array_too_long (length c.args.items.now) ∷ []) (field_bytes (float_array c.args.id g.T.Float.width (map g.T.Float.bits c.args.items.now))) c.args.place _ _ (rw c.nest.ensures at c.float_array-outcome.ensures)
+settle-requires g c = field_clears c.args.self c.args.buf.now c.args.id (array_too_long (length c.args.items.now) ∷ []) (field_bytes (float_array c.args.id g.T.Float.width (map g.T.Float.bits c.args.items.now))) c.args.place _ _ (rw c.nest.ensures at (rw c.start.ensures at c.float_array-outcome.ensures))
 
 pub returns : goal.returns
 unfolding held_bytes
 returns g c =
-    goes c.args.self c.args.buf.now c.args.id (array_too_long (length c.args.items.now) ∷ []) (field_bytes (float_array c.args.id g.T.Float.width (map g.T.Float.bits c.args.items.now))) c.args.place _ _ (rw c.nest.ensures at c.float_array-outcome.ensures) _ _ (ap (λ (n : ℕ). judged (array_call c.args.self (length c.args.buf.now) c.args.id n []).tests) (sym (length-map c.args.items.now g.T.Float.bits))) refl refl c.settle.ensures
+    goes c.args.self c.args.buf.now c.args.id (array_too_long (length c.args.items.now) ∷ []) (field_bytes (float_array c.args.id g.T.Float.width (map g.T.Float.bits c.args.items.now))) c.args.place _ _ (rw c.nest.ensures at (rw c.start.ensures at c.float_array-outcome.ensures)) _ _ (ap (λ (n : ℕ). judged (array_call c.args.self (length c.args.buf.now) c.args.id n []).tests) (sym (length-map c.args.items.now g.T.Float.bits))) refl refl c.settle.ensures

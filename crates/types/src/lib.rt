@@ -164,6 +164,7 @@ impl ArrayKind {
     }
 }
 
+// Names of one enum as those of another, here and below: each pair has its own, and they are alike in form alone.
 impl From<FloatType> for FixlenType {
     ghost from_gives = { λ w t. t ≡ float_fixlen w };
 

@@ -18,7 +18,7 @@ payload-requires c =
 pub returns-then-sound_payload : goal.returns-then-sound_payload
 returns-then-sound_payload c =
     let f : Fits w8 c.args.self.carried.depth = search rules in
-    c.fed_by.ensures ∙ from_payload base c.args.self c.args.chunk.now _ _ _ _ c.payload.result (omega (arith, f.fits)) c.in-Payload.is (sym c.sound_payload.ensures ∙ c.if-sound_payload.true) c.payload.ensures
+    c.from.ensures ∙ from_payload base c.args.self c.args.chunk.now _ _ _ _ c.payload.result (omega (arith, f.fits)) c.in-Payload.is (sym c.sound_payload.ensures ∙ c.if-sound_payload.true) c.payload.ensures
 
 pub returns-in-Some-Done : goal.returns-in-Some-Done
 returns-in-Some-Done c =

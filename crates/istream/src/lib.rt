@@ -117,6 +117,7 @@ impl IStream {
     }
 
     // Where the message stands after the bytes read so far; incomplete while an event is due.
+    #[tactic(auto, using(crate::proofs::Tests::status_complete, crate::proofs::Tests::status_broken, crate::proofs::Tests::status_else))]
     pub fn status(self) -> Standing
         ensures { result ≡ status_of self }
     {
@@ -148,6 +149,7 @@ impl IStream {
     }
 
     // Reads on to the next event, or to the chunk's end and the verdict.
+    #[tactic(auto, using(crate::proofs::Laws::payload_owed, crate::proofs::Laws::from_payload, crate::proofs::Laws::from_spent))]
     pub fn feed(self, chunk: &[u8]) -> Fed
         ensures { result ≡ fed_of base self chunk.now }
     {

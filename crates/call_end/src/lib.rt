@@ -24,7 +24,8 @@ pub enum Answer {
     Status(Status),
 }
 
-// The bytes read of the chunk, the answer or the refusal, and the state after the call.
+// The bytes read of the chunk, the answer or the refusal, and the state after the call. The reader's `Fed` has its `IStream` in place of the
+// last two, whose methods stand where `feed` does, above this crate; for one struct of the two here see `phase::Carried`.
 #[derive(Clone, Copy)]
 pub struct CallEnd {
     pub read: usize,
@@ -47,18 +48,12 @@ pub fn ended(read: usize, answer: Result<Answer, Error>, phase: Phase, carried: 
 }
 
 // The verdict of a state that isn't broken: complete where no field is under way and no sequence is open.
+#[tactic(auto, using(crate::proofs::Tests::verdict_complete, crate::proofs::Tests::verdict_deep, crate::proofs::Tests::verdict_taken))]
 pub fn verdict(phase: Phase, carried: Carried) -> Status
     ensures { result ≡ status_in (verdict_so (state_at carried.depth phase)) }
 {
     match phase {
-        Phase::Header(a) => {
-            if a.taken == 0 {
-                if carried.depth == 0 {
-                    return Status::Complete;
-                }
-            }
-            Status::Incomplete
-        }
+        Phase::Header(a) if a.taken == 0 && carried.depth == 0 => Status::Complete,
         _ => Status::Incomplete,
     }
 }

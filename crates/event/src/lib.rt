@@ -21,6 +21,7 @@ pub struct Bounds {
     pub to: usize,
 }
 
+// Each case is something that a message has: `End` closes a sequence, and is no missing value that an Option would tell more plainly.
 #[derive(Clone, Copy)]
 pub enum Event {
     Unsigned(u32, u64),
@@ -37,7 +38,7 @@ pub enum Event {
     End,
 }
 
-// A float by its bits. The two widths stand side by side: a trait over them would have a member for each line of these.
+// A float by its bits. The two widths stand side by side, here and in the bits below: a trait over them would have a member for each line.
 pub fn fp32(id: u32, bits: u32) -> Event
     ensures { result ≡ fp32_of id bits }
 {
@@ -87,7 +88,7 @@ pub fn float_event(id: u32, w: FloatType, x: u64) -> Event
     }
 }
 
-// A piece of a payload, which begins at the chunk's first byte.
+// A piece of a payload, which begins at the chunk's first byte. The payload's four numbers come one by one, as the phase has them.
 pub fn piece(id: u32, r: RawType, total: u32, offset: u32, len: usize) -> Event
     ensures { result ≡ piece_in id r total offset len }
 {

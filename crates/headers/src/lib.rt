@@ -39,7 +39,7 @@ pub fn sequence_end(carried: Carried) -> Option<Stepped>
     }
 }
 
-// A header is whole. Its type is the wire's number, by the names of `types`.
+// A header is whole. Its type is the wire's number, by the names of `types`: an enum of the eight would be made here only to be matched.
 pub fn field(carried: Carried, id: u32, wire: u8) -> Option<Stepped>
     ensures { result ≡ stepped (at_wire base carried.depth id (wire_of wire)) }
 {

@@ -24,7 +24,8 @@ pub struct IStream {
     pub carried: Carried,
 }
 
-// Where a reader stands between two calls: as a verdict says, or broken, after which every call is refused.
+// Where a reader stands between two calls: as a verdict says, or broken, after which every call is refused. The event list's last line has
+// three words like these: one type for both would have the crate `last_line` stand on the reader.
 #[derive(Clone, Copy)]
 pub enum Standing {
     Complete,
@@ -66,22 +67,29 @@ fn answered(read: usize, answer: Result<Answer, Error>, phase: Phase, carried: C
 }
 
 // The same, from what a call comes to in a crate below.
-#[inline(always)]
-fn fed_by(w: CallEnd) -> Fed
-    ensures { result ≡ fed_by w }
-{
-    let answer = w.answer;
-    let phase = w.phase;
-    answered(w.read, answer, phase, w.carried)
+impl From<CallEnd> for Fed {
+    ghost from_gives = { λ w f. f ≡ fed_by w };
+
+    #[inline(always)]
+    fn from(w: CallEnd) -> Fed {
+        let CallEnd {
+            read,
+            answer,
+            phase,
+            carried,
+        } = w;
+        answered(read, answer, phase, carried)
+    }
 }
 
 // The slow form, out of line: from any state, byte by byte.
 #[inline(never)]
+#[tactic(auto, using(crate::proofs::Laws::fed_slowly))]
 fn feed_slowly(stream: IStream, chunk: &[u8]) -> Fed
     ensures { result ≡ fed_of base stream chunk.now }
 {
-    let phase = stream.phase;
-    fed_by(slowly(phase, stream.carried, chunk))
+    let IStream { phase, carried } = stream;
+    Fed::from(slowly(phase, carried, chunk))
 }
 
 // The same, handed the state and handing it back as made from its numbers (`phase::rebuilt`).
@@ -109,6 +117,7 @@ impl IStream {
     }
 
     // Where the message stands after the bytes read so far; incomplete while an event is due.
+    #[tactic(auto, using(crate::proofs::Tests::status_complete, crate::proofs::Tests::status_broken, crate::proofs::Tests::status_else))]
     pub fn status(self) -> Standing
         ensures { result ≡ status_of self }
     {
@@ -125,6 +134,7 @@ impl IStream {
 
     // Whether a reader can be in this state; a depth beyond 255 has no place in its byte. A payload and a header, in which
     // most short calls begin, are tested here (docs/PERFORMANCE.md).
+    #[tactic(auto, using(crate::proofs::Tests::sound_in))]
     pub fn sound(self) -> bool
         ensures { result ≡ sound_stream base self }
     {
@@ -139,6 +149,7 @@ impl IStream {
     }
 
     // Reads on to the next event, or to the chunk's end and the verdict.
+    #[tactic(auto, using(crate::proofs::Laws::payload_owed, crate::proofs::Laws::from_payload, crate::proofs::Laws::from_spent))]
     pub fn feed(self, chunk: &[u8]) -> Fed
         ensures { result ≡ fed_of base self chunk.now }
     {
@@ -146,7 +157,7 @@ impl IStream {
         let carried = self.carried;
         if let Phase::Payload(id, r, total, offset) = phase {
             if sound_payload(id, r, total, offset) {
-                return fed_by(payload(carried, id, r, total, offset, chunk));
+                return Fed::from(payload(carried, id, r, total, offset, chunk));
             }
         }
         let other = self.phase;
@@ -162,37 +173,25 @@ impl IStream {
     }
 }
 
-// A call's answer, and beside it the reader after the call.
-fn split(r: IStream, chunk: &[u8]) -> Taken
-    ensures { result ≡ taken_of base r chunk.now }
-{
-    let f = r.feed(chunk);
-    let read = f.read;
-    let answer = f.answer;
-    let stream = f.stream;
-    Taken {
-        heard: Heard { read, answer },
-        stream,
-    }
-}
-
 // The thin feed: the reader is taken out of the reference, fed by value and stored back.
+#[tactic(auto, unfolding(crate::specs::Stream::taken_of))]
 pub fn feed_ref(r: &mut IStream, chunk: &[u8]) -> Heard
     ensures { (result ≡ (taken_of base r.old chunk.now).heard) × (r.new ≡ (taken_of base r.old chunk.now).stream) }
 {
-    let f = split(*r, chunk);
-    *r = f.stream;
-    f.heard
+    let Fed {
+        read,
+        answer,
+        stream,
+    } = r.feed(chunk);
+    *r = stream;
+    Heard { read, answer }
 }
 
 // The reader lent by mutable reference, for callers that have it by value: what a main loop calls.
 pub fn lent(r: IStream, chunk: &[u8]) -> Taken
     ensures { result ≡ taken_of base r chunk.now }
 {
-    let mut m = r;
-    let a = feed_ref(&mut m, chunk);
-    Taken {
-        heard: a,
-        stream: m,
-    }
+    let mut stream = r;
+    let heard = feed_ref(&mut stream, chunk);
+    Taken { heard, stream }
 }

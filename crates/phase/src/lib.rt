@@ -13,9 +13,11 @@ use event::Event;
 use types::{ARRAY_MAX, FIXLEN_MAX, FloatType, ID_MAX, RawType};
 use varint::Acc;
 
-// What is under way, with the numbers in force and no others: the id; an array's elements from the current one on, 0 for a scalar; a
-// varint or a float's bytes so far, or a payload's length and the place reached in it. Between fields no byte of a header is taken.
-// `Empty`: an empty payload's one piece is still due. `Broken` is never left.
+// What is under way, with the numbers in force and no others: the id; an array's elements from the current one on; a varint or a float's
+// bytes so far, or a payload's length and the place reached in it. Between fields no byte of a header is taken.
+// `Empty`: an empty payload's one piece is still due. `Broken` is never left, and is a phase like the others, not a missing value.
+// A scalar has 0 elements, as 01 counts them: an Option's None and Some(1) would be two cases that go on alike.
+// A payload's four numbers stand one by one, here and in the functions on them: as a struct, a blob in chunks took 1.4 times as long.
 #[derive(Clone, Copy)]
 pub enum Phase {
     Header(Acc),
@@ -32,7 +34,8 @@ pub enum Phase {
     Broken,
 }
 
-// What every step carries along, whatever is under way: how many sequences are open.
+// What every step carries along, whatever is under way: how many sequences are open. It goes beside the phase, not in a struct with it: with
+// one in `Stepped`, `Once` and `CallEnd`, strings, arrays and nested sequences took 1.2 times as long, a blob in chunks 1.5 times.
 #[derive(Clone, Copy)]
 pub struct Carried {
     pub depth: u8,

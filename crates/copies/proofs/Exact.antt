@@ -29,9 +29,6 @@ use Rattle.copies.proofs.Sent.{fine_start, all_bytes, at_the_end, all_sent}
 use Rattle.copies.proofs.Ends.{calling_ends}
 use Rattle.copies.proofs.Demand.{chunk_bytes, demand}
 
-no : false ≡ true → ⊥
-no x = cc
-
 drained_desk : (reserved : List ℕ) (cs : List (List ℕ)) (d : Desk) → Fine reserved cs d
     → act drain d ≡ sending d (bytes d.copier.writer.offset) (over d.copier (at d.copier.writer 0)) d.buf
 unfolding act
@@ -94,7 +91,7 @@ module _ (cs : List (List ℕ)) (size : ℕ) where
       record {
         long = l.long;
         even = omega (arith, m, l.even, l.long, f.filled e, suc-mul d.drains size) ∙ ap (λ (n : ℕ). n * size) (sym n);
-        owes = λ x. absurd (no x);
+        owes = λ x. absurd cc;
         more = λ x. l.owes e;
       })
 
@@ -177,7 +174,7 @@ module _ (cs : List (List ℕ)) (size : ℕ) where
 -- ---- from the start
 
 start-level : (b : List ℕ) (cs : List (List ℕ)) → Level cs (length b) (start b cs)
-start-level b cs = record { long = refl; even = sym (zero-mul (length b)); owes = λ x. absurd (no x); more = λ x. absurd (not-suc-le-zero x) }
+start-level b cs = record { long = refl; even = sym (zero-mul (length b)); owes = λ x. absurd cc; more = λ x. absurd (not-suc-le-zero x) }
 
 -- WHAT A RUN COSTS, of any bytes in any chunks, over every buffer of one byte or more.
 pub drains_exactly : (b : List ℕ) (cs : List (List ℕ)) (as' : List Act) → 1 ≤ length b → All Bytes cs → Allowed as' (start b cs) → DrainedAtFull as' (start b cs)

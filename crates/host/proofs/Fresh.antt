@@ -56,10 +56,7 @@ fed-whole T b a v =
 
 -- a test that fails
 pub apart : {P : Type 0} (x : Bool) → (P → x ≡ true) → x ≡ false → P → ⊥
-apart x f e p = let q = f p in cc
-
-full_is : full ≡ verdict complete → ⊥
-full_is e = cc
+apart x f e p = cc (f p)
 
 module _ (T b : List ℕ) (a : Bytes T) (v : verdict_of base T ≡ complete) (s : length b < 9223372036854775808) (k : Copier) (o : k ≡ (started (length b) 0).copier) (r : results.Copied) (b' : List ℕ)
     (e : calls.result_of r b' ≡ calls.copied k T b) where
@@ -82,7 +79,7 @@ module _ (T b : List ℕ) (a : Bytes T) (v : verdict_of base T ≡ complete) (s 
           (λ i. result_of (two l i) ((fed.short l).1 i)) ∙ sym (too_short m b s l)
 
   pub answers_full : said_of r.answer ≡ full → result_of (negsuc 100) b' ≡ filled m b
-  answers_full h = by_room (negsuc 100) (λ l. absurd (full_is (sym h ∙ (fed.fits l).0))) (λ l. refl)
+  answers_full h = by_room (negsuc 100) (λ l. absurd (cc (h, (fed.fits l).0))) (λ l. refl)
 
   pub answers_length : (said_of r.answer ≡ full → ⊥) → result_of (pos r.copier.writer.offset) b' ≡ filled m b
   answers_length h = by_room (pos r.copier.writer.offset) (λ l. ap pos (fed.fits l).1) (λ l. absurd (h (fed.short l).0))

@@ -80,6 +80,7 @@ impl PayloadAcc {
     }
 
     // The next bytes of the payload held, and no more than it owes.
+    #[tactic(auto, using(gathering::proofs::Cases::partial, gathering::proofs::Cases::filled))]
     #[inline(always)]
     fn append(mut self, buf: &mut [u8], total: usize, chunk: &[u8]) -> Fed
         requires { (self.len ≤ length buf.old) × (total ≤ length buf.old) × (self.complete ≡ false) }
@@ -104,6 +105,7 @@ impl PayloadAcc {
     }
 
     // The order of the tests is 01's: a payload already whole, number 4, whole in the chunk, another offset than the length held.
+    #[tactic(auto, using(gathering::proofs::Cases::over_already, gathering::proofs::Cases::too_long, gathering::proofs::Cases::whole_chunk, gathering::proofs::Cases::elsewhere, gathering::proofs::Cases::next))]
     #[inline(always)]
     fn accept(mut self, buf: &mut [u8], total: usize, offset: usize, chunk: &[u8]) -> Fed
         requires { self.len ≤ length buf.old }
@@ -139,6 +141,7 @@ impl PayloadAcc {
     }
 
     // Takes one piece of a payload of `total` bytes: the chunk, which starts at `offset` in it.
+    #[tactic(auto, using(gathering::proofs::Cases::unsound, gathering::proofs::Cases::in_order))]
     pub fn feed(self, buf: &mut [u8], total: usize, offset: usize, chunk: &[u8]) -> Fed
         ensures { result_of result buf.new ≡ gathered (state_of self) buf.old total offset chunk.now }
     {

@@ -65,13 +65,10 @@ piece_before id r total o b bs x es pre post n e go =
       posts = h.posts;
     }
 
-no_more : (x : Event) (pre post : List Event) → [] ≡ pre ++ (x ∷ post) → ⊥
-no_more x [] post e = cc
-no_more x (y ∷ pre) post e = cc
-
 pub found : (x : Event) (es pre post : List Event) → NotPiece x → bytewise es ≡ pre ++ (x ∷ post) → At x es pre post
 unfolding bytewise cut cut_piece
-found x [] pre post n e = absurd (no_more x pre post e)
+found x [] [] post n e = absurd cc
+found x [] (y ∷ pre) post n e = absurd cc
 found x (Unsigned id v ∷ es) pre post n e = one_before x (Unsigned id v) es pre post refl n e (λ p t. found x es p post n t)
 found x (Signed id z ∷ es) pre post n e = one_before x (Signed id z) es pre post refl n e (λ p t. found x es p post n t)
 found x (Float id w v ∷ es) pre post n e = one_before x (Float id w v) es pre post refl n e (λ p t. found x es p post n t)

@@ -31,8 +31,9 @@ fn added(s: &mut Sum, lines: &[u8]) -> io::Result<()> {
     Ok(())
 }
 
-// The bytes, torn and read: the lines of a chunk, and where it is spent another chunk. At the end the verdict stays; where it isn't complete
-// there is no sum. Nothing but the count says to the prover that it ends.
+// The bytes, torn and read: the lines of a chunk, as far as there is room for them, and where it is spent another chunk. At the end the
+// verdict stays; where it isn't complete there is no sum. (Tried as `loop`: its measure stayed open, since the end is drawn at random.
+// The text is fixed memory.)
 pub fn read(log: &mut impl Write, bytes: &[u8], seed: u64) -> io::Result<Option<Sum>> {
     let mut text = [0u8; 65536];
     let mut listing = Listing::new();

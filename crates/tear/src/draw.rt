@@ -22,7 +22,8 @@ pub fn length(r: u64, most: usize) -> usize
     most.min(((r >> 11) & mask) as usize)
 }
 
-// What comes where a chunk is spent: the next one, the same once the buffer is drained, or the end, with a last drain.
+// What comes where a chunk is spent: the next one, the same once the buffer is drained, or the end, with a last drain. (Three turns of one
+// kind: none is a missing value.)
 #[derive(Clone, Copy, PartialEq, Eq)]
 pub enum Turn {
     Chunk,

@@ -14,7 +14,7 @@ use std::io::{self, Write};
 use std::rt::Env;
 use streams::{read_full, unread, unwritten};
 
-const NAME: [u8; 4] = *b"tear";
+const NAME: &[u8] = b"tear";
 
 // How many runs where none are asked for.
 const RUNS: u64 = 1000;
@@ -52,7 +52,7 @@ impl Trial<'_> {
     // Whether one run is as expected, its cuts shown in the log: a copy, and the message and the copy read back.
     fn run(&self, log: &mut impl Write, seed: u64) -> io::Result<bool> {
         let random = draw::next(seed);
-        let mut buf = [0u8; 4096];
+        let mut buf = [0u8; 4096]; // fixed memory, as all arrays here: there is no heap
         let room = &mut buf[..size(random)];
         if !torn::copies(log, self.ticket, self.manifest, room, draw::next(random))? {
             return Ok(false);
@@ -101,10 +101,10 @@ fn try_all(rt: &HostRuntime, n: u64, ticket: &[u8], manifest: &[u8]) -> io::Resu
         "{n} runs, each a copy of the same {} bytes;\nmessage and copy, read back in other cuts, gave the same events each time.",
         manifest.len()
     );
-    said.or_else(|e| unwritten(&err, &NAME, e.kind()))
+    said.or_else(|e| unwritten(&err, NAME, e.kind()))
 }
 
-// First the copy in one piece, in one call.
+// First the copy in one piece, in one call. (Its three arrays are fixed memory.)
 fn tear(rt: &HostRuntime, n: u64, ticket: &[u8]) -> io::Result<()> {
     let mut chunk = [0u8; 65536];
     let mut out = [0u8; 65536];
@@ -118,11 +118,12 @@ fn tear(rt: &HostRuntime, n: u64, ticket: &[u8]) -> io::Result<()> {
             ticket,
             manifest.get(..sent as usize).unwrap_or_default(),
         ),
-        Err(trouble) => trouble.say(&rt.stderr(), &NAME),
+        Err(trouble) => trouble.say(&rt.stderr(), NAME),
     }
 }
 
-// A number in decimal, of nine digits at most. (Not by `argument`, which refuses what is no number: here any word is taken for one.)
+// A number in decimal, of nine digits at most. (Not by `argument` or `parse`, which refuse what is no
+// number: here any word is taken for one.)
 fn number(word: &[u8]) -> u64 {
     let mut n: u64 = 0;
     for &b in word {
@@ -135,7 +136,7 @@ fn number(word: &[u8]) -> u64 {
 }
 
 fn runs_asked(rt: &impl Env) -> u64 {
-    let mut word = [0u8; 4096];
+    let mut word = [0u8; 4096]; // fixed memory
     match rt.arg(1, &mut word) {
         Ok(n) if 0 < n => number(&word[..n]),
         _ => RUNS,
@@ -145,7 +146,7 @@ fn runs_asked(rt: &impl Env) -> u64 {
 // A byte more than is held is read, to tell a message that is longer. Only a line that standard error doesn't take ends it with an error of
 // its own.
 fn main(rt: HostRuntime) -> io::Result<()> {
-    let mut ticket = [0u8; 65537];
+    let mut ticket = [0u8; 65537]; // fixed memory
     match read_full(&mut rt.stdin(), &mut ticket) {
         Ok(n) if n <= MOST => tear(&rt, runs_asked(&rt), &ticket[..n]),
         Ok(_) => {
@@ -153,6 +154,6 @@ fn main(rt: HostRuntime) -> io::Result<()> {
                 "tear: the message is longer than 65536 bytes, which is all that is held here"
             )
         }
-        Err(_) => unread(&rt.stderr(), &NAME),
+        Err(_) => unread(&rt.stderr(), NAME),
     }
 }

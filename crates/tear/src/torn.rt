@@ -13,7 +13,7 @@ fn drained<'a>(copier: &mut Copier, buf: &[u8], due: &'a [u8]) -> Option<&'a [u8
     due.strip_prefix(buf.get(..n)?)
 }
 
-// Whether such a copy is the one expected, all of it. Nothing but the count says to the prover that it ends.
+// Whether such a copy is the one expected, all of it. (Tried as `loop`: its measure stayed open, since the end is drawn at random.)
 pub fn copies(
     log: &mut impl Write,
     ticket: &[u8],

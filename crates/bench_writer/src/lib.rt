@@ -4,7 +4,7 @@
 
 use ostream::{Answer, OStream, Written};
 
-// What a message is made of; compare/ has the numbers.
+// What a message is made of; compare/ has the numbers, which come from C.
 #[derive(Clone, Copy)]
 enum Kind {
     Smalls,
@@ -30,7 +30,7 @@ impl From<u32> for Kind {
     }
 }
 
-// A call, with its field's id.
+// A call, with its field's id. (Its cases are its own: `End` is a call, no missing value.)
 #[derive(Clone, Copy)]
 enum Call {
     Unsigned(u32),
@@ -107,7 +107,8 @@ fn nth(kind: Kind, i: usize) -> Call {
     }
 }
 
-// Its number. (From the call's number and not from the struct, so that the compiler sees its range as it does in the loops below.)
+// The number that it writes. (From the call's number and not from the struct, so that the compiler sees its range as it does in the loops
+// below. By a `match` on the kind, as around: closures would be of as many types, and a `match` would still choose among them.)
 fn value(kind: Kind, i: usize) -> u64 {
     match kind {
         Kind::Longs => u64::MAX - (i % 1000) as u64,
@@ -220,10 +221,10 @@ fn alike(m: &Message<'_>, r: Run, n: usize, buf: &mut [u8]) -> Run {
     }
 }
 
-// The calls up to the first that meets the buffer's end, or up to the nth: none are made alike after "full".
+// The calls up to the first that meets the buffer's end, or up to the nth: none are made alike after "full". Each turn makes one at least.
 fn leg(m: &Message<'_>, from: Run, n: usize, buf: &mut [u8]) -> Run {
     let mut r = from;
-    for _ in 0..u64::MAX {
+    for _ in from.i..n {
         if n <= r.i || buf.len() <= r.stream.bytes_used() {
             break;
         }
@@ -235,21 +236,17 @@ fn leg(m: &Message<'_>, from: Run, n: usize, buf: &mut [u8]) -> Run {
     r
 }
 
-// Where the bytes end in `out`, and where they would begin if there is no room for them.
-fn copy(bytes: &[u8], out: &mut [u8], at: usize) -> usize {
+// Where the bytes end in `out`, if there is room for them.
+fn copy(bytes: &[u8], out: &mut [u8], at: usize) -> Option<usize> {
     let end = at.wrapping_add(bytes.len());
-    match out.get_mut(at..end) {
-        Some(place) => {
-            place.copy_from_slice(bytes);
-            end
-        }
-        None => at,
-    }
+    out.get_mut(at..end)?.copy_from_slice(bytes);
+    Some(end)
 }
 
-// Writes n fields of a kind through the buffer, drains it into `out`, and answers how many bytes went there. (No call takes as many turns as
-// are counted.)
+// Writes n fields of a kind, by its number, through the buffer, drains it into `out`, and answers how many bytes went there. Each turn but the
+// last fills the buffer, so `out` has a byte for each.
 pub fn bench_write(kind: u32, n: usize, data: &[u8], buf: &mut [u8], out: &mut [u8]) -> u64 {
+    // Fixed memory: an array's elements.
     let elements = [300u64; 64];
     let m = Message {
         kind: Kind::from(kind),
@@ -262,16 +259,13 @@ pub fn bench_write(kind: u32, n: usize, data: &[u8], buf: &mut [u8], out: &mut [
         place: 0,
     };
     let mut sent: usize = 0;
-    for _ in 0..u64::MAX {
+    for _ in 0..=out.len() {
         if n <= r.i {
             break;
         }
         r = leg(&m, r, n, buf);
-        sent = copy(
-            buf.get(..r.stream.bytes_used()).unwrap_or_default(),
-            out,
-            sent,
-        );
+        let bytes = buf.get(..r.stream.bytes_used()).unwrap_or_default();
+        sent = copy(bytes, out, sent).unwrap_or(sent);
         r.stream = rebuilt(rebuilt(r.stream).flush(buf).stream);
     }
     sent as u64

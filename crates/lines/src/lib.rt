@@ -16,6 +16,7 @@ use shown::{Line, Part, Shown, shown_of};
 fn put_decimal(out: &mut [u8], at: usize, n: u64) -> usize
     ensures { Puts out.old at (decimal n) out.new result }
 {
+    // Fixed memory, as below: as many digits as such a number has.
     let mut digits = [0u8; 20];
     let k = io::decimal(n, &mut digits);
     put_rest(out, at, &digits[..k], 0)

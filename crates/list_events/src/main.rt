@@ -7,7 +7,7 @@ use listing::{Listing, list};
 use std::io::{self, Read};
 use streams::{Failure, unwritten};
 
-const NAME: [u8; 6] = *b"events";
+const NAME: &[u8] = b"events";
 
 // The text so far goes out.
 fn send(rt: &impl Print, text: &[u8]) -> Result<(), Failure> {
@@ -54,12 +54,12 @@ fn finish(
         Ok(()) => conclude(rt, l, out),
         Err(Failure::Unread) => {
             let flushed = rt.write_all(l.text(out));
-            Failure::Unread.say(err, &NAME)?;
+            Failure::Unread.say(err, NAME)?;
             flushed
         }
-        Err(failure) => return failure.say(err, &NAME),
+        Err(failure) => return failure.say(err, NAME),
     };
-    written.or_else(|e| unwritten(err, &NAME, e.kind()))
+    written.or_else(|e| unwritten(err, NAME, e.kind()))
 }
 
 // A chunk of 4,096 bytes, whose lines fit the text: fixed memory. Only a line that standard error doesn't take ends it with an error of its own.

@@ -56,7 +56,7 @@ fn drain(rt: &impl Print, writer: OStream, buf: &[u8]) -> io::Result<OStream> {
     Ok(drained.stream)
 }
 
-// Number 300 with id 1, spelled with two bytes more than it takes, and a string, in two chunks.
+// Number 300 with id 1, spelled with two bytes more than it takes, and a string, in two chunks; then two numbers, through fixed memory.
 fn main(rt: HostRuntime) -> io::Result<()> {
     show::title(&rt, "read")?;
     let reader = read(&rt, IStream::new(), b"\x88\x00\xac\x82")?;

@@ -8,7 +8,7 @@ pub fn title(rt: &impl Print, word: &str) -> io::Result<()> {
     println!(rt; "\n{word}")
 }
 
-// An event's lines, as the program `list_events` prints them.
+// An event's lines, as the program `list_events` prints them: through fixed memory.
 pub fn event(rt: &impl Print, event: Event, chunk: &[u8]) -> io::Result<()> {
     let mut text = [0u8; 4096];
     let end = lines::put_event(&mut text, 0, chunk, event);

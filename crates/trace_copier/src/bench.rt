@@ -7,16 +7,16 @@ fn send(k: Copier, buf: &[u8], out: &mut [u8], sent: usize) -> usize {
     put_rest(out, sent, buf.get(..k.writer.offset).unwrap_or(b""), 0)
 }
 
-// Copies the ticket in chunks of `size` bytes (0, which is C's number: whole) through the buffer, drains it into `out`, and answers how many bytes went there.
-// A call after another, and a drain whenever the buffer is full: after "full" the chunk's rest, after a verdict the next chunk. They
-// are counted, up to a number that no run uses up: a `loop` wants proof of an end, and over a buffer of no byte there is none.
+// Copies the ticket in chunks of `size` bytes (0, which is C's number: whole) through the buffer, drains it into `out`, and answers how many
+// bytes went there. A call after another, and a drain whenever the buffer is full: after "full" the chunk's rest, after a verdict the next
+// chunk. Each "full" sends a byte at least, so `out` has a byte for each of a chunk's calls but its last.
 pub fn bench_copy(ticket: &[u8], size: usize, buf: &mut [u8], out: &mut [u8]) -> usize {
     let most = if size == 0 { ticket.len() } else { size };
     let mut k = Copier::new(buf, 0).copier;
     let mut sent = 0;
     for chunk in ticket.chunks(most.max(1)) {
         let mut rest = chunk;
-        for _ in 0..u64::MAX {
+        for _ in 0..=out.len() {
             let f = k.feed(rest, buf);
             k = f.copier;
             if k.writer.offset == buf.len() {

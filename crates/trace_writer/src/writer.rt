@@ -89,7 +89,9 @@ fn sent(c: Counted, desk: &mut [u64]) {
 
 // A number of no subtype is a blob's.
 fn subtype(n: u64) -> FixlenType {
-    let known = u8::try_from(n).ok().and_then(|n| FixlenType::try_from(n).ok());
+    let known = u8::try_from(n)
+        .ok()
+        .and_then(|n| FixlenType::try_from(n).ok());
     known.unwrap_or(FixlenType::Blob)
 }
 

@@ -1,5 +1,5 @@
 -- Where what follows a header ends: each case of the layout's `body`, `fixlen` and `float_array_of`.
-use Prim.Native.Nat.{ℕ, zero, suc, ◌+◌, ◌-◌, ◌*◌, ◌/◌, ◌%◌, ◌≤◌, ◌<◌}
+use Prim.Native.Nat.{ℕ, zero, suc, ◌*◌, ◌/◌, ◌%◌, ◌≤◌, ◌<◌}
 use mathlib.Core.Path.{◌≡◌, refl, sym, ap, ◌∙◌}
 use mathlib.Core.Bool.{Bool, true, false}
 use mathlib.Core.List.{List}
@@ -111,9 +111,9 @@ passed ok (whole b bs) a rest e = go (ok b) refl e
   where
     go : (x : Bool) → ok b ≡ x → pick x (whole b bs) (broken bs) ≡ whole a rest → ok a ≡ true
     go true q e = let h : b ≡ a = cc in ap ok (sym h) ∙ q
-    go false q e = absurd (let z : ◌≡◌ {A = ℕ} 0 1 = cc in omega arith)
-passed ok short a rest e = absurd (let z : ◌≡◌ {A = ℕ} 0 1 = cc in omega arith)
-passed ok (broken bs) a rest e = absurd (let z : ◌≡◌ {A = ℕ} 0 1 = cc in omega arith)
+    go false q e = absurd cc
+passed ok short a rest e = absurd cc
+passed ok (broken bs) a rest e = absurd cc
 
 pub count_small : (bs : List ℕ) {n : ℕ} {rest : List ℕ} → count_of base bs ≡ whole n rest → n ≤ base.count
 count_small bs {n} {rest} q = leb-true _ _ (passed (λ n. leb n base.count) (varint base bs) n rest q)

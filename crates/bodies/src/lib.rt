@@ -12,7 +12,7 @@ ghost use Rattle.bodies.specs.Bodies.{fits, after_body, after_word, after_floats
 use passing::{Stop, count_at, jump, skip_varints, varint_at};
 use types::{FIXLEN_MAX, FP32_WORD, FP64_WORD, FixlenType};
 
-// Whether n bytes can be a fixed-length field of this subtype.
+// Whether n bytes can be a fixed-length field of this subtype: a fact of the layout for each, told once.
 fn fits(t: FixlenType, n: u64) -> bool
     ensures { result ≡ fits (subtype t) n }
 {
@@ -34,7 +34,7 @@ pub fn bytes_at(bytes: &[u8], word: u64) -> Result<&[u8], Stop<&[u8]>>
     }
 }
 
-// A fixed-length field's word, and its bytes.
+// A fixed-length field's word, and its bytes. (So stand an array's count and its elements below: two lines, which name two steps.)
 pub fn fixlen_at(bytes: &[u8]) -> Result<&[u8], Stop<&[u8]>>
     ensures { (id : ℕ) → Passes (after_body id t_fixlen bytes.now) result }
 {

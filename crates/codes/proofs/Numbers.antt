@@ -47,7 +47,7 @@ refuses v r w e g = subst (Refuses v) (sym e ∙ g) (refuses_alike v)
 
 -- ---- the length
 
-abbrev length : Result ℕ Stop → ℤ
+abbrev length : Result ℕ (Stop ℕ) → ℤ
 length (Ok n) = pos n
 length (Err Stops.Short) = negsuc 99
 length (Err (Stops.Broken n)) = negsuc 1
@@ -58,7 +58,7 @@ length_alike layout.complete n = refl
 length_alike layout.incomplete n = refl
 length_alike (layout.broken_at k) n = refl
 
-pub measures : (v : layout.Verdict) (n : ℕ) {l : Result ℕ Stop} → l ≡ length_in v n → length l ≡ measured v n
+pub measures : (v : layout.Verdict) (n : ℕ) {l : Result ℕ (Stop ℕ)} → l ≡ length_in v n → length l ≡ measured v n
 measures v n e = ap length e ∙ length_alike v n
 
 -- ---- the drains
@@ -79,7 +79,7 @@ pub drains_told : (b : ℕ) (v : layout.Verdict) (n : ℕ) {d : Result Drains Un
 drains_told b v n e = ap drains e ∙ drains_alike b v n
 
 -- a number that is told of a message without a length
-pub stop_told : (s : Stop) {r : ℤ} → ((v : layout.Verdict) (n : ℕ) → Err s ≡ length_in v n → r ≡ measured v n) → r ≡ length (Err s)
+pub stop_told : (s : Stop ℕ) {r : ℤ} → ((v : layout.Verdict) (n : ℕ) → Err s ≡ length_in v n → r ≡ measured v n) → r ≡ length (Err s)
 unfolding measured refused
 stop_told Stops.Short h = h layout.incomplete 0 refl
 stop_told (Stops.Broken n) h = h (layout.broken_at n) 0 refl

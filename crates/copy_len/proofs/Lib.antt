@@ -1,2 +1,2 @@
--- The laws of what follows a header by its length.
+-- What a counted length comes to.
 pub mod Fields

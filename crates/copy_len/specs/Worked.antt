@@ -12,9 +12,9 @@ use Rattle.copy_len.specs.CopyLen.{length_of}
 
 pub record Row : Type 0 where
   pub bytes : List ℕ
-  pub length : Result ℕ Stop
+  pub length : Result ℕ (Stop ℕ)
 
-abbrev row : List ℕ → Result ℕ Stop → Row
+abbrev row : List ℕ → Result ℕ (Stop ℕ) → Row
 row bs l = record { bytes = bs; length = l }
 
 unfoldable pub said_all : List Row → List Row

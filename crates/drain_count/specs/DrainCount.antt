@@ -10,12 +10,12 @@ use Rattle.drain_count.specs.declared.Uncounted.{Uncounted}
 use Rattle.drain_count.specs.declared.Uncounted.TheVariants.{Stopped, Refused}
 
 -- over a buffer of b bytes, of a message whose length this is
-abbrev pub counted : ℕ → Result ℕ Stop → Result Drains Uncounted
+abbrev pub counted : ℕ → Result ℕ (Stop ℕ) → Result Drains Uncounted
 counted b (Ok n) = Ok (record { count = rounded_up n b; len = n })
 counted b (Err s) = Err (Stopped s)
 
 -- "A buffer length of 0 is refused with 18, before the ticket is looked at."
-unfoldable pub drains_in : ℕ → Result ℕ Stop → Result Drains Uncounted
+unfoldable pub drains_in : ℕ → Result ℕ (Stop ℕ) → Result Drains Uncounted
 drains_in zero l = Err (Refused (refusal 18))
 drains_in (suc b) l = counted (suc b) l
 

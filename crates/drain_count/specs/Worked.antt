@@ -11,10 +11,10 @@ use Rattle.drain_count.specs.DrainCount.{drains_in}
 
 pub record Row : Type 0 where
   pub buffer : ℕ
-  pub length : Result ℕ Stop
+  pub length : Result ℕ (Stop ℕ)
   pub drains : Result Drains Uncounted
 
-abbrev row : ℕ → Result ℕ Stop → Result Drains Uncounted → Row
+abbrev row : ℕ → Result ℕ (Stop ℕ) → Result Drains Uncounted → Row
 row b l r = record { buffer = b; length = l; drains = r }
 
 abbrev count_of : ℕ → ℕ → Drains

@@ -45,7 +45,7 @@ unfolding drains_in
 drains_small T a h zero d e n k g = let q : drains_in zero (length_of T) ≡ told k n = sym e ∙ g in absurd (let z : ◌≡◌ {A = ℕ} 0 1 = cc in omega arith)
 drains_small T a h (suc b) d e n k g = go (length_of T) refl
   where
-    go : (l : Result ℕ Stop) → length_of T ≡ l → k < 9223372036854775808
+    go : (l : Result ℕ (Stop ℕ)) → length_of T ≡ l → k < 9223372036854775808
     go (Ok m) q =
         let c : told (rounded_up m (suc b)) m ≡ told k n = ap (counted (suc b)) (sym q) ∙ sym e ∙ g in
         let r : rounded_up m (suc b) ≡ k = ap count_in c in
@@ -64,7 +64,7 @@ pub drains_sent : (T : List ℕ) → Whole T → (r : Run T) → DrainedAtFull r
     → drains_of T (length r.buf) ≡ Ok (record { count = (flushed (after r)).drains; len = length (flushed (after r)).sent })
 drains_sent T w r q =
     let c = run_exactly T w r q in
-    let l : Result ℕ Stop = Ok (length (plain_copy base T)) in
+    let l : Result ℕ (Stop ℕ) = Ok (length (plain_copy base T)) in
     ap (λ (v : Verdict). drains_in (length r.buf) (length_in v (length (plain_copy base T)))) ((complete_iff base T w.0).1 w.1)
     ∙ sym (some_counted (length r.buf) (λ e. omega (arith, r.room)) l)
     ∙ ap (λ (k : ℕ). told k (length (plain_copy base T))) (sym c.drains)

@@ -25,20 +25,20 @@ use Rattle.passing.specs.declared.Stop.TheVariants.{Short, Broken}
 use Rattle.copy_len.specs.CopyLen.{length_in, length_of}
 
 -- No complete message with those events is shorter, the message itself neither: so a length is one that an answer can name.
-pub length_small : (T : List ℕ) → Bytes T → length T < 9223372036854775808 → (l : Result ℕ Stop) → l ≡ length_of T → (n : ℕ) → l ≡ Ok n → n < 9223372036854775808
+pub length_small : (T : List ℕ) → Bytes T → length T < 9223372036854775808 → (l : Result ℕ (Stop ℕ)) → l ≡ length_of T → (n : ℕ) → l ≡ Ok n → n < 9223372036854775808
 length_small T a h l e n g = go (verdict_of base T) refl
   where
     go : (v : Verdict) → verdict_of base T ≡ v → n < 9223372036854775808
     go complete q =
         let m : length (plain_copy base T) ≤ length T = shortest-copy base T T a a q q refl in
-        let b : ◌≡◌ {A = Result ℕ Stop} (Ok (length (plain_copy base T))) (Ok n) = ap (λ (v : Verdict). length_in v (length (plain_copy base T))) (sym q) ∙ sym e ∙ g in
+        let b : ◌≡◌ {A = Result ℕ (Stop ℕ)} (Ok (length (plain_copy base T))) (Ok n) = ap (λ (v : Verdict). length_in v (length (plain_copy base T))) (sym q) ∙ sym e ∙ g in
         let k : length (plain_copy base T) ≡ n = cc in
         omega arith
     go incomplete q =
-        let b : ◌≡◌ {A = Result ℕ Stop} (Err Short) (Ok n) = ap (λ (v : Verdict). length_in v (length (plain_copy base T))) (sym q) ∙ sym e ∙ g in
+        let b : ◌≡◌ {A = Result ℕ (Stop ℕ)} (Err Short) (Ok n) = ap (λ (v : Verdict). length_in v (length (plain_copy base T))) (sym q) ∙ sym e ∙ g in
         absurd (let z : ◌≡◌ {A = ℕ} 0 1 = cc in omega arith)
     go (broken_at k) q =
-        let b : ◌≡◌ {A = Result ℕ Stop} (Err (Broken k)) (Ok n) = ap (λ (v : Verdict). length_in v (length (plain_copy base T))) (sym q) ∙ sym e ∙ g in
+        let b : ◌≡◌ {A = Result ℕ (Stop ℕ)} (Err (Broken k)) (Ok n) = ap (λ (v : Verdict). length_in v (length (plain_copy base T))) (sym q) ∙ sym e ∙ g in
         absurd (let z : ◌≡◌ {A = ℕ} 0 1 = cc in omega arith)
 
 -- ---- beside the copy's call, for every message and output

@@ -11,6 +11,7 @@ use std::io::{self, Read};
 use std::num::NonZeroUsize;
 use streams::read_full;
 
+// Fixed memory: this name, and the message, chunk and output below.
 const NAME: [u8; 6] = *b"length";
 
 // A message that is here whole.

@@ -54,19 +54,19 @@ module _ (k : ℕ → List ℕ → Reading Field) (d n : ℕ) {o : Outcome ℕ} 
 -- no end found: likewise
 pub stops_place : (o : Outcome Field) (e : Stop Rest) (d n : ℕ) → deep d o ≡ stop_in e → reached d n o ≡ stop_in e
 unfolding reached deep
-stops_place (whole x rest) Short d n p = absurd (let z : ◌≡◌ {A = ℕ} 0 1 = cc in omega arith)
+stops_place (whole x rest) Short d n p = absurd cc
 stops_place short Short d n p = refl
-stops_place (broken rest) Short d n p = absurd (let z : ◌≡◌ {A = ℕ} 0 1 = cc in omega arith)
-stops_place (whole x rest) (Broken s) d n p = absurd (let z : ◌≡◌ {A = ℕ} 0 1 = cc in omega arith)
-stops_place short (Broken s) d n p = absurd (let z : ◌≡◌ {A = ℕ} 0 1 = cc in omega arith)
+stops_place (broken rest) Short d n p = absurd cc
+stops_place (whole x rest) (Broken s) d n p = absurd cc
+stops_place short (Broken s) d n p = absurd cc
 stops_place (broken rest) (Broken s) d n p = let r : rest ≡ s.now = cc in ap broken r
 
 -- an end found: a field, which keeps the depth
 pub there : (d : ℕ) (o : Outcome Field) (rest : List ℕ) → deep d o ≡ whole d rest → (x : Field) × (o ≡ whole x rest) × (depth_after d x ≡ d)
 unfolding deep
 there d (whole x r) rest e = let q : r ≡ rest = cc in let g : depth_after d x ≡ d = cc in (x, ap (whole x) q, g)
-there d short rest e = absurd (let z : ◌≡◌ {A = ℕ} 0 1 = cc in omega arith)
-there d (broken r) rest e = absurd (let z : ◌≡◌ {A = ℕ} 0 1 = cc in omega arith)
+there d short rest e = absurd cc
+there d (broken r) rest e = absurd cc
 
 -- .. and what it comes to
 pub comes : (d n m : ℕ) (o : Outcome Field) (x : Field) (rest : List ℕ) → o ≡ whole x rest → depth_after d x ≡ d → n + field_length x ≡ m → reached d n o ≡ whole (point_of d m) rest
@@ -101,8 +101,8 @@ size_read bs m {rest} a e = go (varint base bs) refl e
         let r : mid ≡ rest = cc in
         let g = value_read bs a (q ∙ ap (whole v) r) in
         (omega (arith, g.0), g.1)
-    go short q e = absurd (let z : ◌≡◌ {A = ℕ} 0 1 = cc in omega arith)
-    go (broken s) q e = absurd (let z : ◌≡◌ {A = ℕ} 0 1 = cc in omega arith)
+    go short q e = absurd cc
+    go (broken s) q e = absurd cc
 
 -- ---- a varint
 
@@ -158,7 +158,7 @@ unfolding fixlen
 said-word id w x bs rest a (known s) e q =
     let v : w / 8 * 8 + subtype_number s ≡ w = omega (arith, subtype-number (w % 8) s e) in
     subst (λ (v : ℕ). Said (length (header id t_fixlen) + varint_length v) (w / 8) bs rest x) v (word-length id x bs rest a (w / 8) s q)
-said-word id w x bs rest a unknown e q = absurd (let z : ◌≡◌ {A = ℕ} 0 1 = cc in omega arith)
+said-word id w x bs rest a unknown e q = absurd cc
 
 -- the word w, and what it says of the bytes after it
 module _ (bs : List ℕ) {mid : List ℕ} {w : ℕ} (q : varint base bs ≡ whole w mid) where
@@ -300,8 +300,8 @@ elements_read (suc n) m bs {k} {rest} a e = go (λ v mid b f. elements_read n (m
     go : ((v : ℕ) (mid : List ℕ) → Bytes mid → varints base (m + varint_length v) n mid ≡ whole k rest → k + length rest ≤ m + varint_length v + length mid) →
         (o : Outcome ℕ) → varint base bs ≡ o → onward (sized varint_length m o) (λ m rest. varints base m n rest) ≡ whole k rest → k + length rest ≤ m + length bs
     go more (whole v mid) q e = let g = value_read bs a q in omega (arith, g.0, more v mid g.1 e)
-    go more short q e = absurd (let z : ◌≡◌ {A = ℕ} 0 1 = cc in omega arith)
-    go more (broken s) q e = absurd (let z : ◌≡◌ {A = ℕ} 0 1 = cc in omega arith)
+    go more short q e = absurd cc
+    go more (broken s) q e = absurd cc
 
 -- ---- type 5
 
@@ -311,7 +311,7 @@ unfolding float_array_of
 said_floats id c w x bs rest a (known s) e q =
     let v : w / 8 * 8 + subtype_number s ≡ w = omega (arith, subtype-number (w % 8) s e) in
     subst (λ (v : ℕ). Said (length (header id t_floats) + (varint_length c + varint_length v)) (c * (w / 8)) bs rest x) v (floats_length id x bs rest a c (w / 8) s q)
-said_floats id c w x bs rest a unknown e q = absurd (let z : ◌≡◌ {A = ℕ} 0 1 = cc in omega arith)
+said_floats id c w x bs rest a unknown e q = absurd cc
 
 pub floats_stop : (bs : List ℕ) (e : Stop Rest) → count_of base bs ≡ stop_in e → (id d k : ℕ) → reached d k (body base d id t_floats bs).outcome ≡ stop_in e
 unfolding body

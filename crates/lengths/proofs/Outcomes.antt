@@ -124,7 +124,7 @@ Said h m bs rest x = (field_length x ≡ h + m) × (m + length rest ≤ length b
 module _ (id : ℕ) (x : Field) (bs rest : List ℕ) (a : Bytes bs) where
   picked : {P : Type 0} (t : Bool) (r : Reading Field) → (pick t r (quiet (broken bs))).outcome ≡ whole x rest → (t ≡ true → r.outcome ≡ whole x rest → P) → P
   picked true r s k = k refl s
-  picked false r s k = absurd (let z : ◌≡◌ {A = ℕ} 0 1 = cc in omega arith)
+  picked false r s k = absurd cc
 
   pub word-length : (n : ℕ) (s : Subtype) → (fixlen base id n (known s) bs).outcome ≡ whole x rest → Said (length (header id t_fixlen) + length (word n s)) n bs rest x
   unfolding fixlen field_bytes
@@ -165,4 +165,4 @@ module _ (id : ℕ) (x : Field) (bs rest : List ℕ) (a : Bytes bs) where
       let u : length (word (bytes_of w) (float w)) ≡ length (word n (float w)) = ap (λ (m : ℕ). length (word m (float w))) n≡ in
       let v : length (shortest (length xs)) ≡ varint_length c = ap (λ (m : ℕ). length (shortest m)) i in
       (simp length-append (omega arith), omega (arith, g.shorter))))
-  floats_length c n (raw r) s = absurd (let z : ◌≡◌ {A = ℕ} 0 1 = cc in omega arith)
+  floats_length c n (raw r) s = absurd cc

@@ -9,7 +9,7 @@ use lib.ListN.{length, get_or}
 use native.Mathlib.Nat.{mod-lt}
 use lib.Dec.{leb, lit<}
 use borrow.Author.Tests.{le-leb}
-use Rattle.std.specs.Prelude.{Result, Ok, Err, IsErr, IsErrAnd}
+use Rattle.std.specs.Prelude.{Result, Err, IsErr, IsErrAnd}
 use Rattle.std.proofs.lemmas.Result.{err_from_is_err_and}
 use Rattle.layout.specs.Limits.{base, pick}
 use Rattle.layout.specs.Varint.{Outcome, whole, short, broken, varint}

@@ -7,7 +7,6 @@ use native.Mathlib.Omega.{arith}
 use lib.Dec.{lit<}
 use lib.ListN.{length, take, drop, get_or, length-drop}
 use lib.Seq.{take_all}
-use Rattle.std.specs.Prelude.{Ok, Err}
 use Rattle.layout.specs.Limits.{base, last_byte}
 use Rattle.layout.specs.Varint.{Outcome, whole, short, broken, Push, more, value, overrun, push, digit, varint_from, varint}
 use Rattle.varint.specs.declared.Acc.{Acc}

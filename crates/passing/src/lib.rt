@@ -11,22 +11,24 @@ ghost use Rattle.passing.specs.Passing.{Reaches, Passes, ends, skips, hop};
 use types::{ARRAY_MAX, ID_MAX};
 use varint::{Acc, LAST_BYTE, Push};
 
-// Why there is no going on: the message ends within what was to be passed; or a byte breaks it. P says where: the bytes left after that byte,
-// or, of a message given whole, its number. It is the error of today's Result, and `Short` and `Broken` are both reasons.
+// Why there is no going on: the message ends within what was to be passed; or a byte breaks it. P says which: that byte's number, or what is
+// known where a part is read, the bytes left after it. It is the error of Results, and `Short` is a reason, not a missing value.
 #[derive(Clone, Copy)]
-pub enum Stop<P> {
+pub enum Stop<P = usize> {
     Short,
     Broken(P),
 }
 
 // ---- varints: a value and the bytes after it
 
-// Any varint, out of line.
+// Any varint, out of line. (`own` and `read_at_once` push bytes so too: each has another thing to do at each answer, and what they share is
+// these three arms.)
 pub fn long_varint_at(bytes: &[u8]) -> Result<(u64, &[u8]), Stop<&[u8]>>
     ensures { Reaches (varint base bytes.now) result }
 {
     let mut acc = Acc::new();
     let mut rest = bytes;
+    // Byte by byte to the one that ends it: a `for` has the bytes, but not those left.
     while let [b, after @ ..] = rest {
         match acc.push(*b) {
             Push::More(more) => acc = more,
@@ -77,7 +79,8 @@ pub fn count_at(bytes: &[u8]) -> Result<(u64, &[u8]), Stop<&[u8]>>
 
 // ---- varints whose values are not asked for: the bytes after them
 
-// A varint, out of line: its end, and the rule of the tenth byte.
+// A varint, out of line: its end, and the rule of the tenth byte. (`shortest` looks for such an end too, but of the shortest form alone, which
+// has another rule for the last byte at each length: what they share is the loop's head.)
 #[inline(never)]
 pub fn skip_at(bytes: &[u8]) -> Result<&[u8], Stop<&[u8]>>
     ensures { Passes (λ d. ends d (varint base bytes.now)) result }

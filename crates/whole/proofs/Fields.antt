@@ -1,37 +1,35 @@
--- A field from a place on, and the fields of a message one after another: what the layout's reader makes of the bytes from a place on
--- depends on the field there only by its end and the depth after it.
-use Prim.Native.Nat.{ℕ, zero, suc, ◌+◌, ◌-◌, ◌*◌, ◌/◌, ◌%◌, ◌^◌, ◌≤◌, ◌<◌}
-use mathlib.Core.Path.{◌≡◌, refl, sym, ap, ◌∙◌, subst}
-use mathlib.Core.Bool.{Bool, true}
-use mathlib.Core.List.{List, [], ◌∷◌}
+-- A field, and the fields of a message one after another: what the layout's reader makes of some bytes depends on the field at their start only
+-- by its end and the depth after it.
+use Prim.Native.Nat.{ℕ, zero, suc, ◌+◌, ◌-◌, ◌*◌, ◌/◌, ◌%◌, ◌≤◌, ◌<◌}
+use mathlib.Core.Path.{◌≡◌, refl, sym, ap, ◌∙◌}
+use mathlib.Core.Bool.{Bool}
+use mathlib.Core.List.{List, [], ◌∷◌, ◌++◌}
 use native.Mathlib.Numerals.{add-one}
 use native.Mathlib.Omega.{arith}
-use lib.Dec.{eqb, leb, lit<}
+use lib.Dec.{eqb, lit<}
 use native.Mathlib.Nat.{mod-lt}
-use lib.ListN.{length, drop, length-drop, drop_of_length-le}
+use lib.ListN.{length, length-append}
 use borrow.Author.Tests.{lt-ltb, le-ltb, eq-eqb, ne_eqb}
 use Rattle.layout.specs.Limits.{base, pick}
 use Rattle.layout.specs.Varint.{Outcome, whole, short, broken, varint, shortest}
 use Rattle.layout.specs.Copy.{field_bytes}
-use Rattle.varint.proofs.Shortest.{length_one}
-use Rattle.laws.proofs.Parser.{Parses}
-use Rattle.laws.proofs.Parts.{checked_parses}
-use Rattle.laws.proofs.Varint.{varint_parses}
-use Rattle.laws.proofs.Field.{wire_number_lem}
+use Rattle.laws.proofs.Field.{wire_number_lem, field_back}
+use Rattle.varint.proofs.Shortest.{length_some}
 use Rattle.lengths.specs.Lengths.{Point, point_of, reached, varint_length, field_length}
+use Rattle.lengths.proofs.Answers.{stops_place, there, comes}
 use Rattle.layout.specs.Event.{Event, Unsigned, Signed, Array}
 use Rattle.layout.specs.Reading.{Reading, raise, given, follow, becoming}
-use Rattle.layout.specs.Field.{Field, Wire, wire_of, wire_number, header, unsigneds, signeds, unsigned, signed, unsigned_array, signed_array}
-use Rattle.layout.specs.Field.{t_unsigneds, t_begin, t_end}
-use Rattle.layout.specs.Message.{header_of, count_of, unzigzagged, signed_varint, elements, body, field, depth_after}
+use Rattle.layout.specs.Field.{Field, Wire, wire_of, wire_number, header, unsigneds, signeds}
+use Rattle.layout.specs.Field.{unsigned, signed, float, payload, unsigned_array, signed_array, float_array, begin, end}
+use Rattle.layout.specs.Field.{t_unsigned, t_signed, t_fixlen, t_unsigneds, t_signeds, t_floats, t_begin, t_end}
+use Rattle.layout.specs.Message.{Bytes, header_of, count_of, unzigzagged, signed_varint, elements, body, field, depth_after}
 use Rattle.layout.specs.Message.{Fields, prepend, fields_from, message, complete, incomplete, broken_at, verdict_by, verdict_of}
 use Rattle.std.specs.Prelude.{Result, Ok, Err}
 use Rattle.passing.specs.declared.Stop.{Stop}
-use Rattle.passing.specs.declared.Stop.TheVariants.{Short, Broken}
-use Rattle.passing.specs.Passing.{Comes, Reaches, Passes, ends}
-use Rattle.passing.proofs.Ends.{before}
+use Rattle.passing.specs.Passing.{Rest, stop_in, Passes, ends}
+use Rattle.passing.proofs.Ends.{stopped}
 use Rattle.bodies.specs.Bodies.{deep, after_body}
-use Rattle.whole.specs.Whole.{Lands, Walks, after_field, counted_field}
+use Rattle.whole.specs.Whole.{Walks, after_field, counted_field}
 use Rattle.bodies.proofs.Bodies.{deep-scalar, deep-becoming, ends-elements}
 
 -- ---- what follows a header
@@ -81,43 +79,26 @@ end_wire (suc (suc (suc (suc (suc (suc zero)))))) h = absurd (omega arith)
 end_wire (suc (suc (suc (suc (suc (suc (suc n))))))) h = refl
 
 -- what passes, by its type
-module _ {t : List ℕ} {at : ℕ} (wire : ℕ) {r : Result ℕ Stop} where
-  pub scalar_passes : wire < 2 → Passes t at (λ d. ends d (varint base (drop at t))) r → (id : ℕ) → Passes t at (after_body id (wire_of wire) (drop at t)) r
-  scalar_passes h p id d = before r (λ i h. h) (scalar_wire wire id (drop at t) d h) (p d)
+module _ (wire : ℕ) (bs : List ℕ) (r : Result Rest (Stop Rest)) where
+  pub scalar_passes : wire < 2 → Passes (λ d. ends d (varint base bs)) r → (id : ℕ) → Passes (after_body id (wire_of wire) bs) r
+  scalar_passes h p id d = scalar_wire wire id bs d h ∙ p d
 
-  pub array_passes : 3 ≤ wire → wire < 5 → ((id : ℕ) → Passes t at (after_body id t_unsigneds (drop at t)) r) → (id : ℕ) → Passes t at (after_body id (wire_of wire) (drop at t)) r
-  array_passes h l p id d = before r (λ i h. h) (array_wire wire id (drop at t) d h l) (p id d)
+  pub array_passes : 3 ≤ wire → wire < 5 → ((id : ℕ) → Passes (after_body id t_unsigneds bs) r) → (id : ℕ) → Passes (after_body id (wire_of wire) bs) r
+  array_passes h l p id d = array_wire wire id bs d h l ∙ p id d
 
 -- ---- what a walk makes of it
 
 -- Of what keeps the depth the end says how far it goes, where nothing is counted.
-landed : {t : List ℕ} {i : ℕ} (d n : ℕ) (o : Outcome Field) (r : Result ℕ Stop) → Comes (λ j. d) (λ j. j) (λ j. (i ≤ j) × (j ≤ length t)) t (deep d o) r →
-    Lands (λ x. x) (λ x. d) (λ x n. Unit {0}) t i (reached d n o) r
-unfolding deep reached
-landed {t} d n (whole x rest) (Ok j) p =
-    let e = p.same in
-    let g : depth_after d x ≡ d = cc in
-    let q : rest ≡ drop j t = cc in
-    (n + field_length x, (λ i. whole (point_of (g i) (n + field_length x)) (q i)), tt, p.past.0, p.past.1)
-landed d n short (Ok j) p = absurd (let e = p.same in let z : ◌≡◌ {A = ℕ} 0 1 = cc in omega arith)
-landed d n (broken rest) (Ok j) p = absurd (let e = p.same in let z : ◌≡◌ {A = ℕ} 0 1 = cc in omega arith)
-landed d n (whole x rest) (Err Short) p = absurd (let e = p.same in let z : ◌≡◌ {A = ℕ} 0 1 = cc in omega arith)
-landed d n short (Err Short) p = refl
-landed d n (broken rest) (Err Short) p = absurd (let e = p.same in let z : ◌≡◌ {A = ℕ} 0 1 = cc in omega arith)
-landed d n (whole x rest) (Err (Broken j)) p = absurd (let e = p.same in let z : ◌≡◌ {A = ℕ} 0 1 = cc in omega arith)
-landed d n short (Err (Broken j)) p = absurd (let e = p.same in let z : ◌≡◌ {A = ℕ} 0 1 = cc in omega arith)
-landed {t} d n (broken rest) (Err (Broken j)) p = let e = p.same in let q : rest ≡ drop j t = cc in (ap broken q, p.past)
+module _ (id n d : ℕ) (w : Wire) (bs : List ℕ) where
+  pub landed : (rest : List ℕ) → after_body id w bs d ≡ whole d rest → (m : ℕ) × (reached d n (body base d id w bs).outcome ≡ whole (point_of d m) rest) × Unit {0}
+  unfolding after_body
+  landed rest p =
+      let x = there d (body base d id w bs).outcome rest p in
+      (n + field_length x.0, comes d n (n + field_length x.0) (body base d id w bs).outcome x.0 rest x.1 x.2 refl, tt)
 
--- what follows the header h, by its type
-abbrev pub After : List ℕ → ℕ → ℕ → ℕ → ℕ → Wire → Outcome Point
-After t i h d n w = reached d n (body base d (h / 8) w (drop i t)).outcome
-
-pub lands : {t : List ℕ} {i : ℕ} (h d n : ℕ) (w : Wire) {r : Result ℕ Stop} → wire_of (h % 8) ≡ w → Passes t i (after_body (h / 8) w (drop i t)) r →
-    Lands (λ x. x) (λ x. d) (λ x n. Unit {0}) t i (After t i h d n (wire_of (h % 8))) r
-unfolding after_body
-lands {t} {i} h d n w {r} q p =
-    landed d n (body base d (h / 8) (wire_of (h % 8)) (drop i t)).outcome r
-    (subst (λ (w : Wire). Passes t i (after_body (h / 8) w (drop i t)) r) (sym q) p d)
+  pub landed_not : (e : Stop Rest) → after_body id w bs d ≡ stop_in e → reached d n (body base d id w bs).outcome ≡ stop_in e
+  unfolding after_body
+  landed_not e p = stops_place (body base d id w bs).outcome e d n p
 
 -- a header's number is its id and its type
 pub header_of_lem : (h : ℕ) → length (header (h / 8) (wire_of (h % 8))) ≡ varint_length h
@@ -125,85 +106,79 @@ header_of_lem h =
     let e : h / 8 * 8 + wire_number (wire_of (h % 8)) ≡ h = omega (arith, wire_number_lem (h % 8) (mod-lt h {m = 8} (lit< tt))) in
     ap (λ (n : ℕ). length (shortest n)) e
 
-pub close_length : varint_length 7 ≡ 1
-close_length = length_one 7 (lit< tt)
-
-pub header_reads : Parses (header_of base) (λ h. (h < 2 ^ base.bits) × (leb (h / 8) base.id ≡ true)) shortest
-header_reads = checked_parses (varint_parses base) (λ h. leb (h / 8) base.id)
-
 abbrev given_header : ℕ → ℕ → Outcome ℕ → Outcome Point
 given_header d n o = reached d n (given o (λ h rest. body base d (h / 8) (wire_of (h % 8)) rest)).outcome
 
-module _ {A : Type 0} (at : A → ℕ) (counts : A → ℕ → Type 0) (t : List ℕ) where
-  pub stops : (i d : ℕ) (o : Outcome Point) (e : Stop) → Lands at (λ x. d) counts t i o (Err e) → Walks at counts t i o (Err e)
-  stops i d o Short l = l
-  stops i d o (Broken j) l = l
+-- what follows the header h, by its type
+abbrev pub After : ℕ → ℕ → ℕ → Wire → List ℕ → Outcome Point
+After h d n w bs = reached d n (body base d (h / 8) w bs).outcome
 
-  pub placed : {j i : ℕ} (h d n : ℕ) (r : Result A Stop) → j ≡ i → Lands at (λ x. d) counts t j (After t j h d n (wire_of (h % 8))) r → Lands at (λ x. d) counts t i (After t i h d n (wire_of (h % 8))) r
-  placed h d n r e l = subst (λ (i : ℕ). Lands at (λ x. d) counts t i (After t i h d n (wire_of (h % 8))) r) e l
+module _ (h d n : ℕ) (bs : List ℕ) where
+  by_type : (w : Wire) {o : Outcome Point} → wire_of (h % 8) ≡ w → After h d n w bs ≡ o → After h d n (wire_of (h % 8)) bs ≡ o
+  by_type w q e = ap (λ (w : Wire). After h d n w bs) q ∙ e
 
-  module _ (i h d n : ℕ) (l : i ≤ length t) where
-    by_type : (w : Wire) (r : Result (A × ℕ) Stop) → wire_of (h % 8) ≡ w → Walks at counts t i (After t i h d n w) r → Walks at counts t i (After t i h d n (wire_of (h % 8))) r
-    by_type w r q g = subst (λ (w : Wire). Walks at counts t i (After t i h d n w) r) (sym q) g
+  pub opens : wire_of (h % 8) ≡ t_begin → d < base.depth → After h d n (wire_of (h % 8)) bs ≡ whole (point_of (d + 1) (n + varint_length h)) bs
+  unfolding body reached depth_after field_bytes
+  opens q lt =
+      let y : length (header (h / 8) t_begin) ≡ varint_length h = ap (λ (w : Wire). length (header (h / 8) w)) (sym q) ∙ header_of_lem h in
+      let m : suc d ≡ d + 1 = sym (add-one d) in
+      by_type t_begin q (simp (lt-ltb d base.depth lt) (λ j. whole (point_of (m j) (n + y j)) bs))
 
-    pub opens : (x : A) → wire_of (h % 8) ≡ t_begin → d < base.depth → at x ≡ i → counts x (n + varint_length h) → Walks at counts t i (After t i h d n (wire_of (h % 8))) (Ok (x, d + 1))
-    unfolding body reached depth_after field_bytes
-    opens x q lt e k =
-        let y : length (header (h / 8) t_begin) ≡ varint_length h = ap (λ (w : Wire). length (header (h / 8) w)) (sym q) ∙ header_of_lem h in
-        let m : suc d ≡ d + 1 = sym (add-one d) in
-        by_type t_begin (Ok (x, d + 1)) q
-        (n + varint_length h, simp (lt-ltb d base.depth lt) (λ j. whole (point_of (m j) (n + y j)) (drop (sym e j) t)), k, omega arith, omega arith)
+  pub opens_not : wire_of (h % 8) ≡ t_begin → base.depth ≤ d → After h d n (wire_of (h % 8)) bs ≡ broken bs
+  unfolding body reached
+  opens_not q g = by_type t_begin q (simp (le-ltb d base.depth g))
 
-    pub opens_not : wire_of (h % 8) ≡ t_begin → base.depth ≤ d → Walks at counts t i (After t i h d n (wire_of (h % 8))) (Err (Broken i))
-    unfolding body reached
-    opens_not q g = by_type t_begin (Err (Broken i)) q (simp (le-ltb d base.depth g), l)
+  pub closes : wire_of (h % 8) ≡ t_end → 0 < d → After h d n (wire_of (h % 8)) bs ≡ whole (point_of (d - 1) (n + varint_length 7)) bs
+  unfolding body reached depth_after field_bytes
+  closes q g = by_type t_end q (simp (ne_eqb d 0 (λ z. omega arith)))
 
-    pub closes : (x : A) → wire_of (h % 8) ≡ t_end → 0 < d → at x ≡ i → counts x (n + varint_length 7) → Walks at counts t i (After t i h d n (wire_of (h % 8))) (Ok (x, d - 1))
-    unfolding body reached depth_after field_bytes
-    closes x q g e k =
-        by_type t_end (Ok (x, d - 1)) q
-        (n + varint_length 7, simp (ne_eqb d 0 (λ z. omega arith)) (λ j. whole (point_of (d - 1) (n + varint_length 7)) (drop (sym e j) t)), k, omega arith, omega arith)
+  pub closes_not : wire_of (h % 8) ≡ t_end → d ≡ 0 → After h d n (wire_of (h % 8)) bs ≡ broken bs
+  unfolding body reached
+  closes_not q g = by_type t_end q (simp (eq-eqb d 0 g))
 
-    pub closes_not : wire_of (h % 8) ≡ t_end → d ≡ 0 → Walks at counts t i (After t i h d n (wire_of (h % 8))) (Err (Broken i))
-    unfolding body reached
-    closes_not q g = by_type t_end (Err (Broken i)) q (simp (eq-eqb d 0 g), l)
+-- ---- a field
 
-  -- ---- a field
+module _ (d n : ℕ) (bs : List ℕ) where
+  pub field_then : {h : ℕ} {rest : List ℕ} → header_of base bs ≡ whole h rest → counted_field d n bs ≡ After h d n (wire_of (h % 8)) rest
+  unfolding counted_field field given
+  field_then q = ap (given_header d n) q
 
-  further : {i j : ℕ} {o o' : Outcome Point} (r : Result (A × ℕ) Stop) → i ≤ j → o' ≡ o → Walks at counts t j o r → Walks at counts t i o' r
-  further (Ok x) h e l = (l.0, e ∙ l.1, l.2, omega (arith, l.3), l.4)
-  further (Err Short) h e l = e ∙ l
-  further (Err (Broken k)) h e l = (e ∙ l.0, l.1)
+  pub field_stops : (e : Stop Rest) → header_of base bs ≡ stop_in e → counted_field d n bs ≡ stop_in e
+  unfolding counted_field field given reached
+  field_stops e q = stopped e (given_header d n) refl (λ bs. refl) q
 
-  module _ (a d n : ℕ) where
-    pub field_then : {b h i : ℕ} (r : Result (A × ℕ) Stop) → b ≡ a → Reaches t b (header_of base (drop b t)) (Ok (h, i)) →
-        Walks at counts t i (After t i h d n (wire_of (h % 8))) r → Walks at counts t (a + 1) (counted_field d n (drop a t)) r
-    unfolding counted_field field given
-    field_then {b} {h} {i} r e p g =
-        let q = subst (λ (b : ℕ). Reaches t b (header_of base (drop b t)) (Ok (h, i))) e p in
-        further r (omega (arith, q.past.0)) (ap (given_header d n) q.same) g
+pub further : {A : Type 0} (counts : A → ℕ → Type 0) {o o' : Outcome Point} (r : Result (A × ℕ × Rest) (Stop Rest)) → o' ≡ o → Walks counts o r → Walks counts o' r
+further counts (Ok (x, d, s)) e w = (w.0, e ∙ w.1, w.2)
+further counts (Err s) e w = e ∙ w
 
-    pub field_stops : {b : ℕ} (s : Stop) → b ≡ a → Reaches t b (header_of base (drop b t)) (Err s) → Walks at counts t (a + 1) (counted_field d n (drop a t)) (Err s)
-    unfolding counted_field field given reached
-    field_stops Short e p =
-        let q = subst (λ (b : ℕ). Reaches t b (header_of base (drop b t)) (Err Short)) e p in
-        ap (given_header d n) q.same
-    field_stops (Broken i) e p =
-        let q = subst (λ (b : ℕ). Reaches t b (header_of base (drop b t)) (Err (Broken i))) e p in
-        (ap (given_header d n) q.same, q.past)
+-- a field has bytes
+headed : (id : ℕ) (w : Wire) (bs : List ℕ) → 1 ≤ length (header id w ++ bs)
+headed id w bs = simp length-append (omega (arith, length_some (id * 8 + wire_number w)))
 
--- ---- the fields from a place on
+pub field_some : (x : Field) → 1 ≤ field_length x
+unfolding field_bytes
+field_some (unsigned id n) = headed id t_unsigned _
+field_some (signed id z) = headed id t_signed _
+field_some (float id w x) = headed id t_fixlen _
+field_some (payload id r bs) = headed id t_fixlen _
+field_some (unsigned_array id ns) = headed id t_unsigneds _
+field_some (signed_array id zs) = headed id t_signeds _
+field_some (float_array id w xs) = headed id t_floats _
+field_some (begin id) = length_some (id * 8 + 6)
+field_some (end id) = length_some 7
 
--- the verdict on t, as that on the bytes from `at` on at depth d
-pub record Left (t : List ℕ) (at d : ℕ) : Type 0 where
-  pub inside : at ≤ length t
+-- ---- the fields that are left
+
+-- the verdict on t, as that on the bytes left at depth d
+pub record Left (t rest : List ℕ) (d : ℕ) : Type 0 where
+  pub bytes : Bytes rest
   pub fuel : ℕ
-  pub enough : length (drop at t) ≤ fuel
-  pub same : verdict_of base t ≡ verdict_by (length t) (fields_from base fuel d (drop at t)).outcome
+  pub enough : length rest ≤ fuel
+  pub same : verdict_of base t ≡ verdict_by (length t) (fields_from base fuel d rest).outcome
 
-pub left_start : (t : List ℕ) → Left t 0 0
+pub left_start : (t : List ℕ) → Bytes t → Left t t 0
 unfolding verdict_of message
-left_start t = record { inside = omega arith; fuel = length t; enough = omega arith; same = refl }
+left_start t a = record { bytes = a; fuel = length t; enough = omega arith; same = refl }
 
 -- one field's end and depth decide what follows
 judged-prepend : (n : ℕ) (x : Field) (es : List Event) (o : Outcome Fields) → verdict_by n (becoming (prepend x) (record { events = es; outcome = o })).outcome ≡ verdict_by n o
@@ -222,20 +197,20 @@ module _ (n d m : ℕ) (es : List Event) where
       judged-prepend n x (fields_from base m (depth_after d x) bs).events (fields_from base m (depth_after d x) bs).outcome
       ∙ ap (λ (e : ℕ). verdict_by n (fields_from base m e bs).outcome) a
       ∙ ap (λ (bs : List ℕ). verdict_by n (fields_from base m e bs).outcome) b
-  next-whole short e rest k = absurd (let z : ◌≡◌ {A = ℕ} 0 1 = cc in omega arith)
-  next-whole (broken bs) e rest k = absurd (let z : ◌≡◌ {A = ℕ} 0 1 = cc in omega arith)
+  next-whole short e rest k = absurd cc
+  next-whole (broken bs) e rest k = absurd cc
 
   next_short : (o : Outcome Field) → deep d o ≡ short → verdict_by n (follow es o (λ x rest. becoming (prepend x) (fields_from base m (depth_after d x) rest))).outcome ≡ incomplete
   unfolding deep follow verdict_by
-  next_short (whole x bs) k = absurd (let z : ◌≡◌ {A = ℕ} 0 1 = cc in omega arith)
+  next_short (whole x bs) k = absurd cc
   next_short short k = refl
-  next_short (broken bs) k = absurd (let z : ◌≡◌ {A = ℕ} 0 1 = cc in omega arith)
+  next_short (broken bs) k = absurd cc
 
   next_broken : (o : Outcome Field) (rest : List ℕ) → deep d o ≡ broken rest →
       verdict_by n (follow es o (λ x rest. becoming (prepend x) (fields_from base m (depth_after d x) rest))).outcome ≡ broken_at (n - length rest)
   unfolding deep follow verdict_by
-  next_broken (whole x bs) rest k = absurd (let z : ◌≡◌ {A = ℕ} 0 1 = cc in omega arith)
-  next_broken short rest k = absurd (let z : ◌≡◌ {A = ℕ} 0 1 = cc in omega arith)
+  next_broken (whole x bs) rest k = absurd cc
+  next_broken short rest k = absurd cc
   next_broken (broken bs) rest k = let b : bs ≡ rest = cc in ap (λ (l : List ℕ). broken_at (n - length l)) b
 
 -- a turn: there is a byte, so there is a field or the start of one
@@ -251,30 +226,30 @@ fueled (suc m) d bs h l =
     let e : m ≡ suc m - 1 = omega arith in
     unfolded m d bs h ∙ ap (λ (k : ℕ). follow (field base d bs).events (field base d bs).outcome (λ x rest. becoming (prepend x) (fields_from base k (depth_after d x) rest))) e
 
-module _ {t : List ℕ} {at d : ℕ} (s : Left t at d) (h : at < length t) where
-  turned : verdict_of base t ≡ verdict_by (length t) (follow (field base d (drop at t)).events (field base d (drop at t)).outcome (λ x rest. becoming (prepend x) (fields_from base (s.fuel - 1) (depth_after d x) rest))).outcome
-  turned = s.same ∙ ap (λ (r : Reading Fields). verdict_by (length t) r.outcome) (fueled s.fuel d (drop at t) (omega (arith, length-drop at t)) s.enough)
+module _ {t rest : List ℕ} {d : ℕ} (s : Left t rest d) (h : 0 < length rest) where
+  turned : verdict_of base t ≡ verdict_by (length t) (follow (field base d rest).events (field base d rest).outcome (λ x rest. becoming (prepend x) (fields_from base (s.fuel - 1) (depth_after d x) rest))).outcome
+  turned = s.same ∙ ap (λ (r : Reading Fields). verdict_by (length t) r.outcome) (fueled s.fuel d rest h s.enough)
 
   -- by what the field there comes to
-  pub goes_on : (i e : ℕ) → at + 1 ≤ i → i ≤ length t → after_field d (drop at t) ≡ whole e (drop i t) → Left t i e
-  unfolding after_field
-  goes_on i e l m k =
+  pub goes_on : (x : Field) (after : List ℕ) (e : ℕ) → (field base d rest).outcome ≡ whole x after → depth_after d x ≡ e → Left t after e
+  unfolding deep
+  goes_on x after e q f =
+      let b = field_back base d rest x after s.bytes q in
+      let k : deep d (field base d rest).outcome ≡ whole e after = ap (deep d) q ∙ ap (λ (e : ℕ). whole e after) f in
       record {
-        inside = m;
+        bytes = b.bytes;
         fuel = s.fuel - 1;
-        enough = omega (arith, length-drop at t, length-drop i t, s.enough);
-        same = turned ∙ next-whole (length t) d (s.fuel - 1) (field base d (drop at t)).events (field base d (drop at t)).outcome e (drop i t) k;
+        enough = omega (arith, b.shorter, field_some x, s.enough);
+        same = turned ∙ next-whole (length t) d (s.fuel - 1) (field base d rest).events (field base d rest).outcome e after k;
       }
 
-  pub ends_short : after_field d (drop at t) ≡ short → incomplete ≡ verdict_of base t
+  pub ends_short : after_field d rest ≡ short → incomplete ≡ verdict_of base t
   unfolding after_field
-  ends_short k = sym (turned ∙ next_short (length t) d (s.fuel - 1) (field base d (drop at t)).events (field base d (drop at t)).outcome k)
+  ends_short k = sym (turned ∙ next_short (length t) d (s.fuel - 1) (field base d rest).events (field base d rest).outcome k)
 
-  pub ends_broken : (i : ℕ) → i ≤ length t → after_field d (drop at t) ≡ broken (drop i t) → broken_at i ≡ verdict_of base t
+  pub ends_broken : (after : List ℕ) → after_field d rest ≡ broken after → broken_at (length t - length after) ≡ verdict_of base t
   unfolding after_field
-  ends_broken i m k =
-      let c : length t - length (drop i t) ≡ i = omega (arith, length-drop i t) in
-      sym (turned ∙ next_broken (length t) d (s.fuel - 1) (field base d (drop at t)).events (field base d (drop at t)).outcome (drop i t) k ∙ ap broken_at c)
+  ends_broken after k = sym (turned ∙ next_broken (length t) d (s.fuel - 1) (field base d rest).events (field base d rest).outcome after k)
 
 -- the end
 none_left : (n k d : ℕ) → verdict_by k (fields_from base n d []).outcome ≡ pick (eqb d 0) complete incomplete
@@ -282,9 +257,13 @@ unfolding verdict_by fields_from
 none_left zero k d = refl
 none_left (suc n) k d = refl
 
-module _ {t : List ℕ} {at d : ℕ} (s : Left t at d) (h : length t ≤ at) where
+pub none : (bs : List ℕ) → length bs ≡ 0 → bs ≡ []
+none [] h = refl
+none (b ∷ bs) h = absurd (omega arith)
+
+module _ {t rest : List ℕ} {d : ℕ} (s : Left t rest d) (h : length rest ≡ 0) where
   over : verdict_of base t ≡ pick (eqb d 0) complete incomplete
-  over = s.same ∙ ap (λ (bs : List ℕ). verdict_by (length t) (fields_from base s.fuel d bs).outcome) (drop_of_length-le t h) ∙ none_left s.fuel (length t) d
+  over = s.same ∙ ap (λ (bs : List ℕ). verdict_by (length t) (fields_from base s.fuel d bs).outcome) (none rest h) ∙ none_left s.fuel (length t) d
 
   pub left_complete : d ≡ 0 → complete ≡ verdict_of base t
   left_complete e = sym (over ∙ ap (λ (b : Bool). pick b complete incomplete) (eq-eqb _ _ e))

@@ -1,11 +1,12 @@
 -- Which outcome of the layout's reader the answer on a field stands for, and the layout's verdict as this crate's.
-use Rattle.std.specs.Prelude.{ℕ, ◌+◌, ◌≤◌, ◌≡◌, List, length, drop, Result, Ok, Err}
+use Rattle.std.specs.Prelude.{ℕ, ◌-◌, ◌≡◌, List, length, Result, Ok, Err}
 use Rattle.layout.specs.Limits.{base}
-use Rattle.layout.specs.Varint.{Outcome, whole, short, broken}
+use Rattle.layout.specs.Varint.{Outcome, whole}
 use Rattle.layout.specs.Message as layout
 use Rattle.layout.specs.Message.{field}
 use Rattle.passing.specs.declared.Stop.{Stop}
 use Rattle.passing.specs.declared.Stop.TheVariants.{Short, Broken}
+use Rattle.passing.specs.Passing.{Rest, stop_in}
 use Rattle.layout.specs.Copy.{plain_copy}
 use Rattle.lengths.specs.Lengths.{Point, point_of, reached}
 use Rattle.bodies.specs.Bodies.{deep}
@@ -25,25 +26,25 @@ after_field d bs = deep d (field base d bs).outcome
 unfoldable pub counted_field : ℕ → ℕ → List ℕ → Outcome Point
 counted_field d len bs = reached d len (field base d bs).outcome
 
--- ---- answers of a walk, by what it counts: `at` is the place reached, and `counts` says of a number that so many bytes of the plain copy
--- may be counted up to there
+-- ---- answers of a walk, by what it counts: `counts` says of a number that so many bytes of the plain copy may be counted
 
--- a header of n bytes in the plain copy may be counted up to i
-abbrev pub Behind : {A : Type 0} → (A → ℕ) → (A → ℕ → Type 0) → A → ℕ → ℕ → Type 0
-Behind at counts x n i = ((m : ℕ) × counts x m) × (at x + n ≤ i)
+-- what a part comes to, at a depth that it keeps
+abbrev pub Lands : {A : Type 0} → (A → ℕ → Type 0) → ℕ → Outcome Point → Result (A × Rest) (Stop Rest) → Type 0
+Lands counts d o (Ok (x, s)) = (m : ℕ) × (o ≡ whole (point_of d m) s.now) × counts x m
+Lands counts d o (Err e) = o ≡ stop_in e
 
--- what stands at a place comes to this answer
-abbrev pub Lands : {A : Type 0} → (A → ℕ) → (A → ℕ) → (A → ℕ → Type 0) → List ℕ → ℕ → Outcome Point → Result A Stop → Type 0
-Lands at depth counts t i o (Ok x) = (m : ℕ) × (o ≡ whole (point_of (depth x) m) (drop (at x) t)) × counts x m × (i ≤ at x) × (at x ≤ length t)
-Lands at depth counts t i o (Err Short) = o ≡ short
-Lands at depth counts t i o (Err (Broken j)) = (o ≡ broken (drop j t)) × (j ≤ length t)
+-- and with the depth after it
+abbrev pub Walks : {A : Type 0} → (A → ℕ → Type 0) → Outcome Point → Result (A × ℕ × Rest) (Stop Rest) → Type 0
+Walks counts o (Ok (x, d, s)) = (m : ℕ) × (o ≡ whole (point_of d m) s.now) × counts x m
+Walks counts o (Err e) = o ≡ stop_in e
 
--- with the depth
-abbrev pub Walks : {A : Type 0} → (A → ℕ) → (A → ℕ → Type 0) → List ℕ → ℕ → Outcome Point → Result (A × ℕ) Stop → Type 0
-Walks {A} at counts t i o r = Lands (λ (e : A × ℕ). at e.0) (λ (e : A × ℕ). e.1) (λ (e : A × ℕ). counts e.0) t i o r
+-- by the number of the byte that breaks a message of n bytes
+abbrev pub placed_in : ℕ → Stop Rest → Stop ℕ
+placed_in n Short = Short
+placed_in n (Broken s) = Broken (n - length s.now)
 
 -- a message whole
-abbrev pub Judges : {A : Type 0} → (A → ℕ → Type 0) → List ℕ → Result A Stop → Type 0
+abbrev pub Judges : {A : Type 0} → (A → ℕ → Type 0) → List ℕ → Result A (Stop ℕ) → Type 0
 Judges counts t (Ok x) = (layout.verdict_of base t ≡ layout.complete) × counts x (length (plain_copy base t))
 Judges counts t (Err Short) = layout.verdict_of base t ≡ layout.incomplete
 Judges counts t (Err (Broken i)) = layout.verdict_of base t ≡ layout.broken_at i

@@ -1,25 +1,29 @@
--- `whole::walk` meets its contract: the verdict is that on the bytes from the place reached, at the depth there, and what may be counted up to
--- there is the length of the plain copy.
+-- `whole::walk` meets its contract: the verdict is that on the bytes left, at the depth there, and what is counted so far is the length of the
+-- plain copy up to there.
+use mathlib.Core.Path.{sym, subst}
 use borrow.Author.Rules.{rules}
+use Rattle.std.specs.Prelude.{Err}
+use Rattle.shortest.proofs.Spans.{all_bytes}
 use Rattle.whole.specs.Whole.{Judges}
-use Rattle.passing.proofs.Ends.{passed_on}
-use Rattle.whole.proofs.Sums.{walk_start, walk_next, walk_stops, walk_complete, walk_open}
+use Rattle.whole.proofs.Sums.{walk_start, walk_next, walk_shorter, walk_stops, walk_complete, walk_open}
 use Rattle.whole.proofs.walk.Goals as goal
 
-pub loop-reached-init : goal.loop-reached-init
-loop-reached-init g c = walk_start g.R.Reach.at g.R.Reach.counts _ _ c.requires
+pub loop-rest-init : goal.loop-rest-init
+loop-rest-init g c = walk_start g.C.Count.counts _ _ (all_bytes _ (λ i. (c.type_inv.message i).fits)) c.requires
 
-pub returns-in_err-reached : goal.returns-in_err-reached
-returns-in_err-reached g c =
-    passed_on (Judges g.R.Reach.counts _) _ _ c.from_residual.ensures
-    (walk_stops g.R.Reach.at g.R.Reach.counts _ _ _ c.loop-reached.invariant (search rules) _ c.in_err-reached.ensures)
+pub loop-rest-preserved : goal.loop-rest-preserved
+loop-rest-preserved g c = walk_next g.C.Count.counts _ _ _ _ c.loop-rest.invariant (search rules) c.in-Ok.ensures
 
-pub loop-reached-preserved : goal.loop-reached-preserved
-loop-reached-preserved g c =
-    walk_next g.R.Reach.at g.R.Reach.counts _ _ _ c.loop-reached.invariant (search rules) c.in_ok-reached.ensures
+pub loop-rest-smaller : goal.loop-rest-smaller
+loop-rest-smaller g c = walk_shorter g.C.Count.counts _ _ _ _ c.loop-rest.invariant (search rules) c.in-Ok.ensures
+
+pub returns-in-Err : goal.returns-in-Err
+returns-in-Err g c =
+    subst (λ s. Judges g.C.Count.counts c.args.message.now (Err s)) (sym c.placed.ensures)
+    (walk_stops g.C.Count.counts _ _ _ _ c.loop-rest.invariant (search rules) _ c.in-Err.ensures)
 
 pub returns-then-depth-eq0 : goal.returns-then-depth-eq0
-returns-then-depth-eq0 g c = walk_complete g.R.Reach.at g.R.Reach.counts _ _ _ c.loop-reached.invariant (search rules) c.if-depth-eq0.true
+returns-then-depth-eq0 g c = walk_complete g.C.Count.counts _ _ _ _ c.loop-rest.invariant (search rules) c.if-depth-eq0.true
 
 pub returns-else-depth-eq0 : goal.returns-else-depth-eq0
-returns-else-depth-eq0 g c = walk_open g.R.Reach.at g.R.Reach.counts _ _ _ c.loop-reached.invariant (search rules) c.if-depth-eq0.false
+returns-else-depth-eq0 g c = walk_open g.C.Count.counts _ _ _ _ c.loop-rest.invariant (search rules) c.if-depth-eq0.false

@@ -1,12 +1,11 @@
--- `whole::walk` meets its contract: the verdict is that on the bytes from the place reached, at the depth there, and what may be counted up to
--- there is the length of the plain copy.
-use Prim.Native.Nat.{◌-◌}
+-- `whole::walk` meets its contract: the verdict is that on the bytes left, at the depth there, and what is counted so far is the length of the
+-- plain copy up to there.
 use lib.ListN.{length}
 use Rattle.whole.proofs.Sums.{Counted}
 use Rattle.whole.proofs.walk.Given as goal
 
-abbrev pub invariant-loop-reached : goal.invariant-loop-reached
-invariant-loop-reached g l = Counted g.R.Reach.at g.R.Reach.counts l.message l.reached l.depth
+abbrev pub invariant-loop-rest : goal.invariant-loop-rest
+invariant-loop-rest g l = Counted g.C.Count.counts l.message l.counted l.rest l.depth
 
-abbrev pub decreases-loop-reached : goal.decreases-loop-reached
-decreases-loop-reached g l = length l.message - g.R.Reach.at l.reached
+abbrev pub decreases-loop-rest : goal.decreases-loop-rest
+decreases-loop-rest g l = length l.rest

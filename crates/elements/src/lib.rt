@@ -125,7 +125,8 @@ pub fn varints_out<T: Integer>(items: &[T], skip: usize) -> Out
     }
 }
 
-// How many bytes n elements take, of which so many are out after the first `most`; where they take more than that, one more.
+// How many bytes n elements take, of which so many are out after the first `most`; where they take more than that, one more. (With an
+// Option of that number the writer took 1.05 times as long on arrays written into one byte.)
 pub fn counted(out: Out, n: usize, most: usize) -> usize
     requires { (out.part ≤ most) × (most < 18446744073709551615) }
     ensures { result ≡ pick (ltb out.whole n) (most + 1) (most - out.part) }

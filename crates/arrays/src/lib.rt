@@ -7,7 +7,7 @@ ghost use Rattle.layout.specs.Copy.{field_bytes};
 ghost use Rattle.layout.specs.Limits.{base};
 ghost use Rattle.held.specs.Headers.{headers_of, Ended};
 
-use elements::{Integer, put_varints, varints_out};
+use elements::{Integer, counted, put_varints, varints_out};
 use emit::Cursor;
 use floats::{Float, put_floats};
 use held::{Held, tagged};
@@ -39,11 +39,10 @@ pub fn put_integer_array<T: Integer>(
     if end.skip == 0 && end.pos < size {
         return Ok(Reach::Through(end.pos));
     }
-    let room = size.saturating_sub(pos);
-    let most = place.saturating_add(room).min(ELEMENTS_MAX);
-    let Some(len) = varints_out(items, most).len(items.len(), most) else {
-        return Ok(Reach::Full(place + room));
-    };
+    let most = place
+        .saturating_add(size.saturating_sub(pos))
+        .min(ELEMENTS_MAX);
+    let len = counted(varints_out(items, most), items.len(), most);
     finish(pos, size, held.head_len(header, count) + len, place)
 }
 

@@ -3,14 +3,15 @@
 use mathlib.Core.Path.{◌≡◌, refl, sym, ap, ◌∙◌, subst}
 use mathlib.Core.List.{List, [], ◌∷◌, ◌++◌}
 use mathlib.Core.Bool.{Bool, true, false}
+use mathlib.Core.Logic.{◌⊎◌, inl, inr}
 use Prim.Native.Nat.{ℕ, ◌+◌, ◌-◌, ◌*◌, ◌/◌, ◌^◌, ◌≤◌, ◌<◌, min}
 use native.Mathlib.Nat.{div-add-mod', mod-lt, mul_comm, mul-le-mul_left, mul-le-mul_right}
 use native.Mathlib.Omega.{arith}
-use lib.Dec.{leb}
+use lib.Dec.{leb, ltb}
 use lib.ListN.{length, take, drop, get_or, length-append, length-drop, take-append-drop}
 use lib.Seq.{take_all, length-take-le, drop-append-le, drop-append-add, drop-drop}
-use borrow.Author.Tests.{leb-true, leb-false}
-use Rattle.layout.specs.Limits.{base, longest}
+use borrow.Author.Tests.{leb-true, leb-false, ltb-true, ltb-false}
+use Rattle.layout.specs.Limits.{base, longest, pick}
 use Rattle.layout.specs.Varint.{shortest}
 use Rattle.layout.specs.Field.{each}
 use Rattle.varint.proofs.Shortest.{drop-shortest, length-longest, length_some}
@@ -90,22 +91,26 @@ module _ {A : Type 0} (f : A → List ℕ) (l : List A) where
         few = λ i. let e = g i in let m = mul-le-mul_left whole t in omega arith;
       }
 
-  -- how many bytes the elements take, where they are all out after so many; else more
-  pub all_out : (most whole part : ℕ) → OutAfter f l most whole part → length l ≤ whole → most - part ≡ length (each f l)
-  all_out most whole part w h =
-      let s : length (each f (take whole l)) + part ≡ most = w.sum in
-      let a : length (each f (take whole l)) ≡ length (each f l) = ap (λ (k : List A). length (each f k)) (take_all whole l h) in
-      omega arith
+  -- how many bytes the elements take, where they are no more than so many; else more
+  pub counted_up : (most whole part r : ℕ) → OutAfter f l most whole part → r ≡ pick (ltb whole (length l)) (most + 1) (most - part)
+      → (r ≡ length (each f l)) ⊎ ((most < r) × (most < length (each f l)) × (most < elements_most (length l)))
+  counted_up most whole part r w e = go (ltb whole (length l)) refl e
+    where
+      s : length (each f (take whole l)) + part ≡ most
+      s = w.sum
 
-  pub more_left : (most whole part : ℕ) → OutAfter f l most whole part → whole < length l → (most < length (each f l)) × (most < elements_most (length l))
-  more_left most whole part w h =
-      let s : length (each f (take whole l)) + part ≡ most = w.sum in
-      let x : A = some_of l whole h in
-      let q = w.short x h in
-      let a = half_lengths whole in
-      let b = from_here whole x h in
-      let t = w.few h in
-      (omega arith, omega arith)
+      go : (t : Bool) → ltb whole (length l) ≡ t → r ≡ pick t (most + 1) (most - part) → (r ≡ length (each f l)) ⊎ ((most < r) × (most < length (each f l)) × (most < elements_most (length l)))
+      go true u e =
+          let h : whole < length l = ltb-true _ _ u in
+          let x : A = some_of l whole h in
+          let q = w.short x h in
+          let a = half_lengths whole in
+          let b = from_here whole x h in
+          let t = w.few h in
+          inr (omega arith, omega arith, omega arith)
+      go false t e =
+          let a : length (each f (take whole l)) ≡ length (each f l) = ap (λ (k : List A). length (each f k)) (take_all whole l (ltb-false _ _ t)) in
+          inl (omega arith)
 
 -- ---- one element more, less the bytes of it that are out
 

@@ -15,9 +15,9 @@ use Rattle.putting.proofs.Writes.{put-none, reached_is}
 use Rattle.std.specs.Prelude.{Result, Ok}
 use Rattle.types.specs.declared.Error.{Error}
 use Rattle.outcomes.specs.declared.Reach.{Reach}
-use Rattle.outcomes.specs.declared.Reach.TheVariants.{Through, Full}
+use Rattle.outcomes.specs.declared.Reach.TheVariants.{Through}
 use Rattle.outcomes.specs.Outcome.{reaches}
-use Rattle.outcomes.proofs.Outcomes.{reaches_through, reaches_full}
+use Rattle.outcomes.proofs.Outcomes.{reaches_through}
 use Rattle.held.specs.Headers.{buffer_after, Ended}
 
 -- held headers, a field's header and the varint after it, and the rest
@@ -54,10 +54,6 @@ module _ (c : Cursor) (b o : List ℕ) (c' : Cursor) (b' : List ℕ) (e : Emitte
   -- before the buffer's end: all of it is out
   pub stops_short : c'.skip ≡ 0 → c'.pos < length b → Ended c.pos b o c.skip (Ok (Through c'.pos)) b'
   stops_short z h = let (p, m) = ends_at in (reaches_through c.pos (length b) (length o) c.skip c'.pos (omega arith) (omega arith) (omega arith), left_any)
-
-  -- there is more of it than the place and the room
-  pub goes_on : (out : ℕ) → out ≡ c.skip + (length b - c.pos) → c.skip + (length b - c.pos) < length o → Ended c.pos b o c.skip (Ok (Full out)) b'
-  goes_on out q h = (reaches_full c.pos (length b) (length o) c.skip out (omega arith) (omega arith) q, left_any)
 
 -- all of it at once, where there is room
 pub at_once : (pos : ℕ) (b o : List ℕ) (place end : ℕ) (b' : List ℕ) → place ≡ 0 → pos + length o ≤ length b → Puts b pos o b' end → Ended pos b o place (Ok (Through end)) b'

@@ -77,7 +77,8 @@ pub fn fp64_bits(x: f64) -> u64
     }
 }
 
-// A float is whole, x being its bits. Only `step` calls this, with the bits of as many bytes as the float has.
+// A float is whole, x being its bits, which go to the function of their width. Only `step` calls this, with the bits of as many bytes as the
+// float has.
 pub fn float_event(id: u32, w: FloatType, x: u64) -> Event
     requires { x < 256 ^ bytes_of (width w) }
     ensures { result ≡ declared 0 (Float id (width w) x) }

@@ -24,8 +24,9 @@ pub struct IStream {
     pub carried: Carried,
 }
 
-// Where a reader stands between two calls: as a verdict says, or broken, after which every call is refused. The event list's last line has
-// three words like these: one type for both would have the crate `last_line` stand on the reader.
+// Where a reader stands between two calls: as a verdict says, or broken, after which every call is refused. A Result of a Status would be no
+// plainer, since nothing is refused here. The event list's last line has three words like these: one type for both would have the crate
+// `last_line` stand on the reader.
 #[derive(Clone, Copy)]
 pub enum Standing {
     Complete,

@@ -2,14 +2,14 @@
 // same digests.
 #![tactic(auto)]
 
-mod loops;
+mod reading;
 
 // Reads the bytes in chunks of `size` bytes (0, which is C's number: whole), and answers a digest of the events.
 pub fn bench_read(bytes: &[u8], size: usize) -> u64 {
-    loops::chunks(bytes, if size == 0 { bytes.len() } else { size })
+    reading::chunks(bytes, if size == 0 { bytes.len() } else { size })
 }
 
 // Gathers a payload from pieces of `size` bytes, and answers how many bytes are whole in the end: to C, so 0 where none are.
 pub fn bench_gather(payload: &[u8], size: usize, buf: &mut [u8]) -> u64 {
-    loops::gather(payload, size, buf)
+    reading::gather(payload, size, buf)
 }

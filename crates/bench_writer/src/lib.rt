@@ -221,10 +221,11 @@ fn alike(m: &Message<'_>, r: Run, n: usize, buf: &mut [u8]) -> Run {
     }
 }
 
-// The calls up to the first that meets the buffer's end, or up to the nth: none are made alike after "full". Each turn makes one at least.
+// The calls up to the first that meets the buffer's end, or up to the nth: none are made alike after "full". (Counted by `from.i..n`, with the
+// turns of `bench_write` by `out`'s length and an Option for `copy`'s answer, strings into 4,096 bytes took 1.75 times as long.)
 fn leg(m: &Message<'_>, from: Run, n: usize, buf: &mut [u8]) -> Run {
     let mut r = from;
-    for _ in from.i..n {
+    for _ in 0..u64::MAX {
         if n <= r.i || buf.len() <= r.stream.bytes_used() {
             break;
         }
@@ -236,15 +237,20 @@ fn leg(m: &Message<'_>, from: Run, n: usize, buf: &mut [u8]) -> Run {
     r
 }
 
-// Where the bytes end in `out`, if there is room for them.
-fn copy(bytes: &[u8], out: &mut [u8], at: usize) -> Option<usize> {
+// Where the bytes end in `out`, and where they would begin if there is no room for them (an Option: see `leg`).
+fn copy(bytes: &[u8], out: &mut [u8], at: usize) -> usize {
     let end = at.wrapping_add(bytes.len());
-    out.get_mut(at..end)?.copy_from_slice(bytes);
-    Some(end)
+    match out.get_mut(at..end) {
+        Some(place) => {
+            place.copy_from_slice(bytes);
+            end
+        }
+        None => at,
+    }
 }
 
-// Writes n fields of a kind, by its number, through the buffer, drains it into `out`, and answers how many bytes went there. Each turn but the
-// last fills the buffer, so `out` has a byte for each.
+// Writes n fields of a kind through the buffer, drains it into `out`, and answers how many bytes went there. (Its turns are
+// counted as those of `leg`, up to a number that none takes.)
 pub fn bench_write(kind: u32, n: usize, data: &[u8], buf: &mut [u8], out: &mut [u8]) -> u64 {
     // Fixed memory: an array's elements.
     let elements = [300u64; 64];
@@ -259,13 +265,16 @@ pub fn bench_write(kind: u32, n: usize, data: &[u8], buf: &mut [u8], out: &mut [
         place: 0,
     };
     let mut sent: usize = 0;
-    for _ in 0..=out.len() {
+    for _ in 0..u64::MAX {
         if n <= r.i {
             break;
         }
         r = leg(&m, r, n, buf);
-        let bytes = buf.get(..r.stream.bytes_used()).unwrap_or_default();
-        sent = copy(bytes, out, sent).unwrap_or(sent);
+        sent = copy(
+            buf.get(..r.stream.bytes_used()).unwrap_or_default(),
+            out,
+            sent,
+        );
         r.stream = rebuilt(rebuilt(r.stream).flush(buf).stream);
     }
     sent as u64

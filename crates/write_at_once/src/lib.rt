@@ -88,7 +88,8 @@ pub fn put_field(
     Some(put_rest(buf, end, bytes, 0))
 }
 
-// An array of integers, likewise: header, count, elements.
+// An array of integers, likewise: header, count, elements. (Without the fact a count beyond the limit would be refused here too, by a test
+// that no call needs.)
 pub fn put_integers<T: Integer>(
     buf: &mut [u8],
     pos: usize,

@@ -1,5 +1,6 @@
 // A field or an array from any state and any place on, by the state's numbers: what it refuses, in order, and else its bytes behind the
-// headers that are held back.
+// headers that are held back. (A struct of what all of these take, the start, the buffer, the open sequences and the id, would be made at
+// each call and taken apart here.)
 #![tactic(auto, using(crate::proofs::Went::refuses, crate::proofs::Went::goes))]
 
 ghost use Rattle.std.specs.Prelude.{◌≡◌, [], ◌∷◌, map, ◌++◌, ◌+◌, ◌*◌, length};

@@ -62,7 +62,8 @@ fn finish(
     written.or_else(|e| unwritten(err, NAME, e.kind()))
 }
 
-// A chunk of 4,096 bytes, whose lines fit the text: fixed memory. Only a line that standard error doesn't take ends it with an error of its own.
+// Fixed memory: a chunk of 4,096 bytes, whose lines fit the text. Only a line that standard error doesn't take ends it with an error of its
+// own.
 fn main(rt: HostRuntime) -> io::Result<()> {
     let mut chunk = [0u8; 4096];
     let mut out = [0u8; 65536];

@@ -2,7 +2,7 @@
 // goes out where it may have no room for the next. Nothing of the message is held but the reader's state.
 #![tactic(auto)]
 
-ghost use Rattle.std.specs.Prelude.{◌≡◌, ◌+◌, ◌*◌, leb, length};
+ghost use Rattle.std.specs.Prelude.{◌≡◌, ◌+◌, ◌*◌, ◌≤◌, leb, length, take};
 
 use istream::{Answer, IStream, Status};
 use last_line::Verdict;
@@ -32,8 +32,13 @@ impl Listing {
     }
 
     // The text that isn't out yet.
-    pub fn text(self, out: &[u8]) -> &[u8] {
-        out.get(..self.at).unwrap_or_default()
+    pub fn text(self, out: &[u8]) -> &[u8]
+        ensures { self.at ≤ length out.now → result.now ≡ take self.at out.now }
+    {
+        match out.get(..self.at) {
+            Some(text) => text,
+            None => b"",
+        }
     }
 }
 

@@ -24,8 +24,8 @@ pub enum Answer {
     Status(Status),
 }
 
-// The bytes read of the chunk, the answer or the refusal, and the state after the call. The reader's `Fed` has its `IStream` in place of the
-// last two, whose methods stand where `feed` does, above this crate; for one struct of the two here see `phase::Carried`.
+// The bytes read of the chunk, the answer or the refusal, and the state after the call. `Fed` has an `IStream` in place of the last two:
+// that type's methods need `feed`, and stand above this crate. Why the two are no struct here, `phase::Carried` says.
 #[derive(Clone, Copy)]
 pub struct CallEnd {
     pub read: usize,

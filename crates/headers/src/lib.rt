@@ -10,36 +10,29 @@ ghost use Rattle.phase.specs.Steps.{stepped};
 use event::Event;
 use phase::{Carried, Phase, Stepped, idle};
 use types::{
-    MAX_DEPTH, T_FIXLEN, T_FIXLENARRAY, T_SEQUENCE_START, T_VARINT_SIGNED, T_VARINT_UNSIGNED,
+    T_FIXLEN, T_FIXLENARRAY, T_SEQUENCE_START, T_VARINT_SIGNED, T_VARINT_UNSIGNED,
     T_VARINTARRAY_SIGNED, T_VARINTARRAY_UNSIGNED,
 };
 use varint::Acc;
 
-// A sequence is opened.
+// A sequence is opened. A depth above MAX_DEPTH has no place in a byte.
 pub fn sequence_begin(carried: Carried, id: u32) -> Option<Stepped>
     ensures { result ≡ stepped (at_wire base carried.depth id t_begin) }
 {
-    let depth = carried.depth;
-    if (depth as u32) < MAX_DEPTH {
-        Some(Stepped::Raised(Event::Begin(id), idle(), Carried { depth: depth + 1 }))
-    } else {
-        None
-    }
+    let depth = carried.depth.checked_add(1)?;
+    Some(Stepped::Raised(Event::Begin(id), idle(), Carried { depth }))
 }
 
 // A sequence is closed; the id that a close carries is ignored.
 pub fn sequence_end(carried: Carried) -> Option<Stepped>
     ensures { result ≡ stepped (at_wire base carried.depth 0 t_end) }
 {
-    let depth = carried.depth;
-    if depth == 0 {
-        None
-    } else {
-        Some(Stepped::Raised(Event::End, idle(), Carried { depth: depth - 1 }))
-    }
+    let depth = carried.depth.checked_sub(1)?;
+    Some(Stepped::Raised(Event::End, idle(), Carried { depth }))
 }
 
-// A header is whole. Its type is the wire's number, by the names of `types`: an enum of the eight would be made here only to be matched.
+// A header is whole and its id no larger than it may be: what its type begins. The type is the wire's number, by the names of `types`: an
+// enum of the eight would be made here only to be matched.
 pub fn field(carried: Carried, id: u32, wire: u8) -> Option<Stepped>
     ensures { result ≡ stepped (at_wire base carried.depth id (wire_of wire)) }
 {

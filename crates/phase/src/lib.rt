@@ -34,14 +34,15 @@ pub enum Phase {
     Broken,
 }
 
-// What every step carries along, whatever is under way: how many sequences are open. It goes beside the phase, not in a struct with it: with
-// one in `Stepped`, `Once` and `CallEnd`, strings, arrays and nested sequences took 1.2 times as long, a blob in chunks 1.5 times.
+// What every step carries along, whatever is under way: how many sequences are open. It goes beside the phase, not in a struct with it:
+// with one in `Stepped`, `Once` and `CallEnd`, strings, arrays and nested sequences took 1.2 times as long, a blob in chunks 1.5 times.
 #[derive(Clone, Copy)]
 pub struct Carried {
     pub depth: u8,
 }
 
-// What one byte comes to, where it doesn't break the message: the phase after it and what is carried along, or an event before them.
+// What one byte comes to, where it doesn't break the message: the phase after it and what is carried along, or an event before them. (No
+// struct with an Option<Event>: both cases would be asked for at each byte as they are here, by one more name.)
 #[derive(Clone, Copy)]
 pub enum Stepped {
     On(Phase, Carried),
@@ -125,13 +126,12 @@ pub fn sound(phase: Phase) -> bool
 {
     match phase {
         Phase::Header(a) => a.sound(),
-        Phase::Unsigned(id, left, a) => sound_varint(id, left, a),
-        Phase::Signed(id, left, a) => sound_varint(id, left, a),
-        Phase::Word(id, a) => sound_varint(id, 0, a),
-        Phase::UnsignedCount(id, a) => sound_varint(id, 0, a),
-        Phase::SignedCount(id, a) => sound_varint(id, 0, a),
-        Phase::FloatCount(id, a) => sound_varint(id, 0, a),
-        Phase::ArrayWord(id, count, a) => sound_varint(id, count, a),
+        Phase::Unsigned(id, left, a) | Phase::Signed(id, left, a) | Phase::ArrayWord(id, left, a) =>
+            sound_varint(id, left, a),
+        Phase::Word(id, a)
+        | Phase::UnsignedCount(id, a)
+        | Phase::SignedCount(id, a)
+        | Phase::FloatCount(id, a) => sound_varint(id, 0, a),
         Phase::Float(id, w, left, k, v) => sound_float(id, w, left, k, v),
         Phase::Payload(id, r, total, offset) => sound_payload(id, r, total, offset),
         Phase::Empty(id, _) => id <= ID_MAX,
@@ -139,7 +139,7 @@ pub fn sound(phase: Phase) -> bool
     }
 }
 
-// A varint under way, rebuilt from its numbers.
+// A varint under way, rebuilt from its numbers, for `rebuilt` below.
 #[inline(always)]
 fn acc_rebuilt(a: Acc) -> Acc
     ensures { result ≡ a }
@@ -150,7 +150,7 @@ fn acc_rebuilt(a: Acc) -> Acc
     }
 }
 
-// A phase, rebuilt from its numbers. (Where whole copies went to and from the slow form, reading took two to three times as long.)
+// A phase, rebuilt from its numbers. (Where whole copies went to and from the slow form, rows took 1.3 to 2.8 times as long.)
 #[inline(always)]
 pub fn rebuilt(phase: Phase) -> Phase
     ensures { result ≡ phase }

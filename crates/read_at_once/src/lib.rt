@@ -19,6 +19,7 @@ use varint::{Acc, Push, zigzag_decode};
 use words::fixlen;
 
 // The state after a call, its event and the bytes read; or the chunk is spent, and the state stays. (The fields' order is for speed.)
+// (No Option: `Spent` is an answer, and none of it says that nothing stands whole here; an Option in an Option would have two Nones.)
 #[derive(Clone, Copy)]
 pub enum Once {
     Done(Phase, Carried, Event, usize),
@@ -26,7 +27,7 @@ pub enum Once {
 }
 
 // Any varint: its value and the place after it, if it stands whole in the chunk and isn't broken.
-// By places: over the rest of the chunk by an iterator, long varints took 1.05 times as long.
+// By places: over the rest of the chunk by an iterator, here, long varints took 1.05 times as long.
 fn long_varint(chunk: &[u8], at: usize) -> Option<(u64, usize)>
     ensures { IfSome result (λ r. Reads base chunk.now at r.0 r.1) }
 {
@@ -42,7 +43,8 @@ fn long_varint(chunk: &[u8], at: usize) -> Option<(u64, usize)>
 }
 
 // Most varints are one byte or two; the longer ones are read out of line, by two places of call: as `#[inline(never)]`, long varints took
-// 1.4 times as long.
+// 1.4 times as long. The chunk goes with a place, here and in `value_at`: a call answers how many bytes it read, which the place after them
+// is. A rest of the chunk would go with that number too.
 #[inline(always)]
 fn varint(chunk: &[u8], at: usize) -> Option<(u64, usize)>
     ensures { IfSome result (λ r. Reads base chunk.now at r.0 r.1) }
@@ -146,7 +148,8 @@ fn field_at(carried: Carried, chunk: &[u8]) -> Option<Once>
     }
 }
 
-// A call that finds a field or an element whole in the chunk, or no byte, from a sound phase that has taken no byte of it.
+// A call that finds a field or an element whole in the chunk, or no byte, from a sound phase that has taken no byte of it. The test for a
+// spent chunk stands in each arm: before the match it would answer for phases that go to the slow form.
 pub fn at_once(carried: Carried, phase: Phase, chunk: &[u8]) -> Option<Once>
     ensures { RightFrom base carried.depth phase result chunk.now }
 {

@@ -40,7 +40,7 @@ fn varint<P: FnOnce(Acc) -> Phase, V: FnOnce(u64) -> Option<Stepped>>(
     }
 }
 
-// A header is whole.
+// A header's varint is whole: it is taken apart, and refused where its id is too large.
 #[tactic(auto, unfolding(machine::specs::Machine::at_header))]
 fn header(carried: Carried, h: u64) -> Option<Stepped>
     ensures { result ≡ stepped (at_header base carried.depth h) }
@@ -77,7 +77,8 @@ fn word(carried: Carried, id: u32, w: u64) -> Option<Stepped>
     fixlen(carried, id, w / 8, (w % 8) as u8)
 }
 
-// How many elements are counted, if an array can have so many.
+// How many elements are counted, if an array can have so many. (`own` and `passing` test their counts where they read them, and answer what
+// is left too.)
 fn count(n: u64) -> Option<u32>
     ensures { result ≡ pick (leb n base.count) (Some n) None }
 {

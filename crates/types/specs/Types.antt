@@ -88,8 +88,8 @@ number_of Errors.TooLong = 10
 number_of Errors.PlaceBeyond = 11
 number_of Errors.NoBuffer = 18
 
--- And back: the refusal with a number, by which the promises of all calls name their refusals. 01 gives no other numbers than 1 to 11, and of
--- 02's only 18 is given so far.
+-- And back: the refusal with a number, by which the promises of all calls name their refusals. 01 gives no other numbers than 1 to 11, and
+-- of 02's only 18 is given so far.
 abbrev pub refusal : ℕ → Error
 refusal zero = Errors.UnsoundReader
 refusal (suc zero) = Errors.UnsoundReader

@@ -8,7 +8,8 @@ ghost use Rattle.types.specs.Types.{subtyped, fixlen_raw, kind_raw, number_of, w
 // SofaBuffers wire and API version that this library implements.
 pub const API_VERSION: u32 = 1;
 
-// Largest field id.
+// Largest field id. (No type of ids: a caller may make a state of any numbers (01), so each id would be tested and made where one comes
+// in.)
 pub const ID_MAX: u32 = 2147483647;
 
 // Deepest nesting of sequences.
@@ -38,8 +39,8 @@ pub const SEQUENCE: bool = true;
 
 pub const FP64: bool = true;
 
-// The type in a header's low three bits. Code hands it on as the wire's number and matches it by these names: an enum of the eight would need
-// a conversion, with a proof of its own, at each of these places, and be no plainer.
+// The type in a header's low three bits. Code hands it on as the wire's number and matches it by these names: an enum of the eight would
+// need a conversion, with a proof of its own, at each of these places, and be no plainer.
 pub const T_VARINT_UNSIGNED: u8 = 0;
 
 pub const T_VARINT_SIGNED: u8 = 1;

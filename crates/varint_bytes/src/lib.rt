@@ -4,7 +4,8 @@
 ghost use Rattle.layout.specs.Varint.{shortest};
 ghost use Rattle.putting.specs.Put.{Puts};
 
-// The varint of v from pos on; where it ends.
+// The varint of v from pos on; where it ends. (The buffer with a place, and not the slice from there on: what Puts says is of the whole
+// buffer, and so are the callers' contracts.)
 pub fn put_whole(buf: &mut [u8], pos: usize, v: u64) -> usize
     ensures { Puts buf.old pos (shortest v) buf.new result }
 {

@@ -12,7 +12,7 @@ use event::Event;
 use phase::{Carried, Phase, Stepped, floats};
 use types::{FIXLEN_MAX, FixlenType, FloatType, RawType};
 
-// A scalar float is announced.
+// A scalar float is announced. (`float_array` has this test too: they share it, and not the event or the phase.)
 pub fn scalar(carried: Carried, id: u32, w: FloatType, len: u64) -> Option<Stepped>
     ensures { result ≡ stepped (at_subtype base carried.depth id len (known (float (width w)))) }
 {

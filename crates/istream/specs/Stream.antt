@@ -9,7 +9,7 @@ use Rattle.istream.specs.declared.IStream.{IStream}
 use Rattle.istream.specs.declared.Standing.{Standing}
 use Rattle.istream.specs.declared.Standing.TheVariants as Standings
 use Rattle.istream.specs.declared.Fed.{Fed}
-use Rattle.istream.specs.declared.Taken.{Taken}
+use Rattle.istream.specs.declared.Heard.{Heard}
 -- the machine's verdict and answer as the code's
 pub use Rattle.call_end.specs.CallEnd.{status_in, answer_in}
 
@@ -59,5 +59,5 @@ unfoldable pub fed_of : Limits → IStream → List ℕ → Fed
 fed_of L s c = fed_from L (state_of s) s c
 
 -- a call's answer apart from the state that it leaves
-unfoldable pub taken_of : Limits → IStream → List ℕ → Taken
-taken_of L s c = record { heard = record { read = (fed_of L s c).read; answer = (fed_of L s c).answer }; stream = (fed_of L s c).stream }
+abbrev pub heard_of : Fed → Heard
+heard_of f = record { read = f.read; answer = f.answer }

@@ -7,7 +7,7 @@
 ghost use Rattle.std.specs.Prelude.{◌≡◌};
 ghost use Rattle.layout.specs.Limits.{base};
 ghost use Rattle.machine.specs.Calls.{fresh};
-ghost use Rattle.istream.specs.Stream.{stream_in, sound_stream, status_of, fed_of, taken_of};
+ghost use Rattle.istream.specs.Stream.{stream_in, sound_stream, status_of, fed_of, heard_of};
 ghost use Rattle.istream.specs.Private.{fed_at, fed_by};
 
 pub use call_end::{Answer, Status};
@@ -24,8 +24,8 @@ pub struct IStream {
     pub carried: Carried,
 }
 
-// Where a reader stands between two calls: as a verdict says, or broken, after which every call is refused. A Result of a Status would be no
-// plainer, since nothing is refused here. The event list's last line has three words like these: one type for both would have the crate
+// Where a reader stands between two calls: as a verdict says, or broken, after which every call is refused. A Result of a Status would be
+// no plainer, since nothing is refused here. The event list's last line has three words like these: one type for both would have the crate
 // `last_line` stand on the reader.
 #[derive(Clone, Copy)]
 pub enum Standing {
@@ -49,13 +49,7 @@ pub struct Heard {
     pub answer: Result<Answer, Error>,
 }
 
-#[derive(Clone, Copy)]
-pub struct Taken {
-    pub heard: Heard,
-    pub stream: IStream,
-}
-
-// A call's end. Every call that alters the reader makes it here.
+// A call's end: whichever way `feed` goes, it is made here.
 #[inline(always)]
 fn answered(read: usize, answer: Result<Answer, Error>, phase: Phase, carried: Carried) -> Fed
     ensures { result ≡ fed_at read answer phase carried }
@@ -93,7 +87,7 @@ fn feed_slowly(stream: IStream, chunk: &[u8]) -> Fed
     Fed::from(slowly(phase, carried, chunk))
 }
 
-// The same, handed the state and handing it back as made from its numbers (`phase::rebuilt`).
+// The same; the state goes in, and comes back, rebuilt from its numbers (`phase::rebuilt` says why).
 #[inline(always)]
 fn feed_out_of_line(stream: IStream, chunk: &[u8]) -> Fed
     ensures { result ≡ fed_of base stream chunk.now }
@@ -161,13 +155,12 @@ impl IStream {
                 return Fed::from(payload(carried, id, r, total, offset, chunk));
             }
         }
-        let other = self.phase;
-        let q = at_once(carried, other, chunk);
+        let q = at_once(carried, phase, chunk);
         match q {
             Some(Once::Done(p, k, e, n)) => answered(n, Ok(Answer::Event(e)), p, k),
             Some(Once::Spent) => {
-                let status = verdict(other, carried);
-                answered(0, Ok(Answer::Status(status)), rebuilt(other), carried)
+                let status = verdict(phase, carried);
+                answered(0, Ok(Answer::Status(status)), rebuilt(phase), carried)
             }
             None => feed_out_of_line(self, chunk),
         }
@@ -175,9 +168,8 @@ impl IStream {
 }
 
 // The thin feed: the reader is taken out of the reference, fed by value and stored back.
-#[tactic(auto, unfolding(crate::specs::Stream::taken_of))]
 pub fn feed_ref(r: &mut IStream, chunk: &[u8]) -> Heard
-    ensures { (result ≡ (taken_of base r.old chunk.now).heard) × (r.new ≡ (taken_of base r.old chunk.now).stream) }
+    ensures { (result ≡ heard_of (fed_of base r.old chunk.now)) × (r.new ≡ (fed_of base r.old chunk.now).stream) }
 {
     let Fed {
         read,
@@ -189,10 +181,14 @@ pub fn feed_ref(r: &mut IStream, chunk: &[u8]) -> Heard
 }
 
 // The reader lent by mutable reference, for callers that have it by value: what a main loop calls.
-pub fn lent(r: IStream, chunk: &[u8]) -> Taken
-    ensures { result ≡ taken_of base r chunk.now }
+pub fn lent(r: IStream, chunk: &[u8]) -> Fed
+    ensures { result ≡ fed_of base r chunk.now }
 {
     let mut stream = r;
-    let heard = feed_ref(&mut stream, chunk);
-    Taken { heard, stream }
+    let Heard { read, answer } = feed_ref(&mut stream, chunk);
+    Fed {
+        read,
+        answer,
+        stream,
+    }
 }

@@ -1,5 +1,5 @@
-// The event list of a message, chunk by chunk: the reader's calls on a chunk, and the lines of each event put into a lent buffer, whose text
-// goes out where it may have no room for the next. Nothing of the message is held but the reader's state.
+// The event list of a message, chunk by chunk: the reader's calls on a chunk, and the lines of each event put into a lent buffer, whose
+// text goes out where it may have no room for the next. Nothing of the message is held but the reader's state.
 #![tactic(auto)]
 
 ghost use Rattle.std.specs.Prelude.{◌≡◌, ◌+◌, ◌*◌, ◌≤◌, leb, length, take};
@@ -68,10 +68,10 @@ pub fn list<E: Drop, F: FnMut(&[u8]) -> Result<(), E>>(
         }
         let told = istream::lent(stream, rest);
         stream = told.stream;
-        let verdict = match told.heard.answer {
+        let verdict = match told.answer {
             Ok(Answer::Event(e)) => {
                 at = put_event(out, at, rest, e);
-                rest = &rest[told.heard.read..];
+                rest = &rest[told.read..];
                 continue;
             }
             Ok(Answer::Status(Status::Complete)) => Verdict::Complete,

@@ -23,8 +23,7 @@ use Rattle.istream.specs.declared.IStream.{IStream}
 use Rattle.call_end.specs.declared.Answer.{Answer}
 use Rattle.call_end.specs.declared.Answer.TheVariants.{Event, Status}
 use Rattle.istream.specs.declared.Fed as Given
-use Rattle.istream.specs.declared.Taken.{Taken}
-use Rattle.istream.specs.Stream.{state_of, sound_stream, answer_in, fed_in, fed_from, fed_of, taken_of}
+use Rattle.istream.specs.Stream.{state_of, sound_stream, answer_in, fed_in, fed_from, fed_of}
 use Rattle.istream.proofs.Calls.{state_of_stream}
 use Rattle.reading.specs.Feeds.{Fed, feeds, feed}
 
@@ -117,18 +116,6 @@ module _ (L : Limits) where
   read_nearer s c r e q h =
       subst (λ (x : Given.Fed). turns (state_of x.stream) (take (length c - x.read) (drop x.read c)) < turns (state_of s) c) (sym q)
       (all_left (state_of s) (state_of (fed_of L s c).stream) c (fed_of L s c).read (fed_nearer s c e (ap (λ (x : Given.Fed). x.answer) (sym q) ∙ h)))
-
-  -- The same of the thin feed.
-  pub taken_few : (s : IStream) (c : List ℕ) (t : Taken) → t ≡ taken_of L s c → t.heard.read ≤ length c
-  unfolding taken_of
-  taken_few s c t q = subst (λ (x : Taken). x.heard.read ≤ length c) (sym q) (read_few s c (fed_of L s c) refl)
-
-  pub taken_nearer : (s : IStream) (c : List ℕ) (t : Taken) (e : Events.Event) → t ≡ taken_of L s c → t.heard.answer ≡ Ok (Event e)
-      → turns (state_of t.stream) (take (length c - t.heard.read) (drop t.heard.read c)) < turns (state_of s) c
-  unfolding taken_of
-  taken_nearer s c t e q h =
-      subst (λ (x : Taken). turns (state_of x.stream) (take (length c - x.heard.read) (drop x.heard.read c)) < turns (state_of s) c) (sym q)
-      (read_nearer s c (fed_of L s c) e refl (ap (λ (x : Taken). x.heard.answer) (sym q) ∙ h))
 
   -- ---- a chunk
 

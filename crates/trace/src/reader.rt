@@ -92,7 +92,8 @@ pub fn store(stream: IStream, desk: &mut [u64]) {
     lay(desk, 0, &[phase, depth, kind, id, count, taken, value]);
 }
 
-// What a call tells, the desk's words 23 to 30 with the bytes read at 24. Numbers: the desk is how C and the Rust ask (compare/PROTOCOL.md).
+// What a call tells, the desk's words 23 to 30 with the bytes read at 24. Numbers: the desk is how C and the Rust ask
+// (compare/PROTOCOL.md).
 #[derive(Clone, Copy)]
 struct Tale {
     tag: u64,
@@ -172,13 +173,9 @@ fn tell(t: Tale, read: usize, desk: &mut [u64]) {
 fn fed(desk: &[u64], chunk: &[u8]) -> Fed {
     let stream = reader(desk);
     if word(desk, 31) == 0 {
-        return stream.feed(chunk);
-    }
-    let taken = istream::lent(stream, chunk);
-    Fed {
-        read: taken.heard.read,
-        answer: taken.heard.answer,
-        stream: taken.stream,
+        stream.feed(chunk)
+    } else {
+        istream::lent(stream, chunk)
     }
 }
 

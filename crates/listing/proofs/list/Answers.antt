@@ -2,16 +2,16 @@
 use Rattle.std.proofs.Common.{rules, ◌≡◌, Ok}
 use Rattle.layout.specs.Limits.{base}
 use Rattle.call_end.specs.declared.Answer.TheVariants.{Event}
-use Rattle.reading.proofs.Ends.{taken_few, taken_nearer}
+use Rattle.reading.proofs.Ends.{read_few, read_nearer}
 use Rattle.listing.proofs.list.Goals as goal
 
 pub loop-send-smaller : goal.loop-send-smaller
 loop-send-smaller g c =
-    let a : c.lent-told.result.heard.answer ≡ Ok (Event c.in-Ok-Event.e) = search rules in
-    taken_nearer base c.loop-send.stream c.loop-send.rest.now c.lent-told.result c.in-Ok-Event.e c.lent-told.ensures a
+    let a : c.lent-told.result.answer ≡ Ok (Event c.in-Ok-Event.e) = search rules in
+    read_nearer base c.loop-send.stream c.loop-send.rest.now c.lent-told.result c.in-Ok-Event.e c.lent-told.ensures a
 
 pub slice_bounds-rest-start : goal.slice_bounds-rest-start
-slice_bounds-rest-start g c = taken_few base _ _ _ c.lent-told.ensures
+slice_bounds-rest-start g c = read_few base _ _ _ c.lent-told.ensures
 
 pub slice_bounds-rest-count : goal.slice_bounds-rest-count
-slice_bounds-rest-count g c = taken_few base _ _ _ c.lent-told.ensures
+slice_bounds-rest-count g c = read_few base _ _ _ c.lent-told.ensures

@@ -31,7 +31,13 @@ fn list_all(
         if n == 0 {
             break;
         }
-        *l = list(*l, &chunk[..n], out, |text| send(rt, text))?;
+        let mut sent = Ok(());
+        *l = list(*l, &chunk[..n], out, |text| {
+            if sent.is_ok() {
+                sent = send(rt, text);
+            }
+        });
+        sent?;
     }
     Ok(())
 }

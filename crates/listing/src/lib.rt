@@ -50,12 +50,7 @@ fn roomy(at: usize, chunk: &[u8], out: &[u8]) -> bool
 }
 
 // A chunk's calls, the reader lent to each by mutable reference, and the lines of their events.
-pub fn list<E: Drop, F: FnMut(&[u8]) -> Result<(), E>>(
-    l: Listing,
-    chunk: &[u8],
-    out: &mut [u8],
-    mut send: F,
-) -> Result<Listing, E>
+pub fn list<F: FnMut(&[u8])>(l: Listing, chunk: &[u8], out: &mut [u8], mut send: F) -> Listing
     requires { F.IsAlwaysCallable send }
 {
     let mut stream = l.stream;
@@ -63,7 +58,7 @@ pub fn list<E: Drop, F: FnMut(&[u8]) -> Result<(), E>>(
     let mut rest = chunk;
     loop {
         if !roomy(at, rest, out) {
-            send(out.get(..at).unwrap_or_default())?;
+            send(out.get(..at).unwrap_or_default());
             at = 0;
         }
         let told = istream::lent(stream, rest);
@@ -78,10 +73,10 @@ pub fn list<E: Drop, F: FnMut(&[u8]) -> Result<(), E>>(
             Ok(Answer::Status(Status::Incomplete)) => Verdict::Incomplete,
             Err(_) => Verdict::Invalid,
         };
-        return Ok(Listing {
+        return Listing {
             stream,
             at,
             verdict,
-        });
+        };
     }
 }

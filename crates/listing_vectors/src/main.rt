@@ -34,9 +34,17 @@ impl<'a> Iterator for Records<'a> {
 
 // The list of a message, the verdict behind it.
 fn print(rt: &impl Print, first: &[u8], second: &[u8], out: &mut [u8]) -> io::Result<()> {
-    let l = list(Listing::new(), first, out, |text| rt.write_all(text))?;
-    let m = list(l, second, out, |text| rt.write_all(text))?;
-    let end = put_verdict(out, m.at, m.verdict);
+    let mut sent = Ok(());
+    let mut l = Listing::new();
+    for chunk in [first, second] {
+        l = list(l, chunk, out, |text| {
+            if sent.is_ok() {
+                sent = rt.write_all(text);
+            }
+        });
+    }
+    sent?;
+    let end = put_verdict(out, l.at, l.verdict);
     rt.write_all(out.get(..end).unwrap_or_default())
 }
 

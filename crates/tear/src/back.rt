@@ -26,11 +26,6 @@ impl Sum {
     }
 }
 
-fn added(s: &mut Sum, lines: &[u8]) -> io::Result<()> {
-    *s = s.with(lines);
-    Ok(())
-}
-
 // The bytes, torn and read: the lines of a chunk, as far as there is room for them, and where it is spent another chunk. At the end the
 // verdict stays; where it isn't complete there is no sum. (Tried as `loop`: its measure stayed open, since the end is drawn at random.
 // The text is fixed memory.)
@@ -40,7 +35,7 @@ pub fn read(log: &mut impl Write, bytes: &[u8], seed: u64) -> io::Result<Option<
     let mut cuts = Cuts::new(seed, bytes);
     let mut s = Sum { sum: 0, bytes: 0 };
     for _ in 0..u64::MAX {
-        listing = list(listing, cuts.chunk, &mut text, |lines| added(&mut s, lines))?;
+        listing = list(listing, cuts.chunk, &mut text, |lines| s = s.with(lines));
         if cuts.turn(log)? == Turn::End {
             break;
         }

@@ -18,8 +18,9 @@ use varint::VARINT_MAX;
 // Most bytes of an array's elements.
 const ELEMENTS_MAX: usize = VARINT_MAX * (ARRAY_MAX as usize);
 
-// An array of integers. Where it ends before the buffer does, its elements need no second look; nor do those beyond the buffer's end. (How
-// many items, here and below, the callers have tested, in the refusals' order: the answer counts bytes, which must fit it whatever a T takes.)
+// An array of integers. Where it ends before the buffer does, its elements need no second look; nor do those beyond the buffer's end.
+// (How many items, here and below, the callers have tested, in the refusals' order: the answer counts bytes, which must fit it whatever a
+// T takes.)
 pub fn put_integer_array<T: Integer>(
     start: Cursor,
     buf: &mut [u8],

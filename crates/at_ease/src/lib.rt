@@ -1,5 +1,5 @@
-// Whether a field can be written at once, no byte of it tested for by itself: nothing is held, and there is room for the longest that it can
-// be. And a close, which is one byte, and an open, which is held back.
+// Whether a field can be written at once, no byte of it tested for by itself: nothing is held, and there is room for the longest that it
+// can be. And a close, which is one byte, and an open, which is held back.
 #![tactic(auto)]
 
 ghost use Rattle.std.specs.Prelude.{◌≡◌, [], ◌∷◌, ◌&&◌, ltb, length};
@@ -14,17 +14,12 @@ use varint::VARINT_MAX;
 pub const PAIR_MAX: usize = 2 * VARINT_MAX;
 
 // Whether no id is held, and nothing but the places and the room stands against a field.
+#[tactic(auto, unfolding(crate::specs::AtOnce::easy_at))]
 pub fn at_ease(nest: Nest, id: u32) -> bool
     ensures { result ≡ easy_at nest.depth nest.held id }
 {
     let Nest { depth, held, .. } = nest;
-    if ID_MAX < id {
-        return false;
-    }
-    if 0 < held {
-        return false;
-    }
-    depth <= MAX_DEPTH as u16
+    id <= ID_MAX && held == 0 && depth <= MAX_DEPTH as u16
 }
 
 // And against one with a payload or an array of `len`, of which `most` is the limit.
@@ -35,44 +30,31 @@ pub fn at_ease_with(nest: Nest, id: u32, len: usize, most: u32) -> bool
 }
 
 // Whether no id is held, a sequence is open, and nothing but the places and the room stands against a close.
+#[tactic(auto, unfolding(crate::specs::AtOnce::closes_at))]
 pub fn closes_at_ease(nest: Nest) -> bool
     ensures { result ≡ closes_at nest.depth nest.held }
 {
-    let depth = nest.depth;
-    if depth == 0 {
-        return false;
-    }
-    at_ease(nest, 0)
+    0 < nest.depth && at_ease(nest, 0)
 }
 
 // Whether a sequence can be opened and held back, from a state with these numbers.
+#[tactic(auto, unfolding(crate::specs::AtOnce::holds_at))]
 pub fn can_hold(offset: usize, nest: Nest, size: usize, id: u32) -> bool
     ensures { result ≡ holds_at offset nest.depth nest.held nest.places size id }
 {
     let Nest { depth, held, .. } = nest;
-    if (LAZY_SEQ_DEPTH as u16) <= held {
-        return false;
-    }
-    if (MAX_DEPTH as u16) <= depth {
-        return false;
-    }
-    if ID_MAX < id {
-        return false;
-    }
-    nest.sound_for(offset, size)
+    held < LAZY_SEQ_DEPTH as u16
+        && depth < MAX_DEPTH as u16
+        && id <= ID_MAX
+        && nest.sound_for(offset, size)
 }
 
 // Whether there is room from pos on for two varints, however long, and `more` bytes.
+#[tactic(auto, unfolding(crate::specs::AtOnce::room_for))]
 pub fn has_room(size: usize, pos: usize, more: usize) -> bool
     ensures { result ≡ room_for size pos more }
 {
-    if size < PAIR_MAX {
-        return false;
-    }
-    if size - PAIR_MAX < pos {
-        return false;
-    }
-    more <= size - PAIR_MAX - pos
+    PAIR_MAX <= size && pos <= size - PAIR_MAX && more <= size - PAIR_MAX - pos
 }
 
 // The one byte of a close, where it can be written and no place is in use (there are eight, in fixed memory); where it ends.

@@ -10,7 +10,8 @@ ghost use Rattle.checks.specs.Check.{check_of, alone};
 
 use types::{Error, FIXLEN_MAX, FixlenType, ID_MAX, MAX_DEPTH};
 
-// The test of a state, an id, a length against the limit of its kind: each alone.
+// The test of a state, an id, a length against the limit of its kind: each alone. (One function of a test and an error would have both
+// named at each of its calls.)
 fn sound_state(sound: bool) -> Result<(), Error>
     ensures { result ≡ alone (unsound_writer sound) }
 {

@@ -1,5 +1,5 @@
 -- Rounded up: enough buffers hold all bytes, one fewer doesn't; and what full buffers, with a rest or without, come to.
-use Prim.Native.Nat.{ℕ, suc, ◌+◌, ◌*◌, ◌/◌, ◌%◌, ◌≤◌, ◌<◌}
+use Prim.Native.Nat.{ℕ, suc, ◌+◌, ◌*◌, ◌/◌, ◌%◌, ◌≤◌, ◌<◌, min}
 use native.Mathlib.Nat.{div-add-mod', mod-lt, suc-mul, lt_of_mul-lt-mul_right, mul-le-mul_left, mul-one}
 use native.Mathlib.Omega.{arith}
 use mathlib.Core.Path.{◌≡◌, refl, subst}
@@ -30,12 +30,9 @@ by_rest n b P even over = go (eqb (n % b) 0) refl
         one_more : (x : ℕ) → suc x ≡ x + 1
         one_more x = omega arith
 
--- as it is worked out
-pub rounded_quotient : (n b : ℕ) → n % b ≡ 0 → n / b ≡ rounded_up n b
-rounded_quotient n b e = by_rest n b (λ k. n / b ≡ k) (λ z. refl) (λ z. absurd (z e))
-
-pub rounded_more : (n b : ℕ) → (n % b ≡ 0 → ⊥) → n / b + 1 ≡ rounded_up n b
-rounded_more n b e = by_rest n b (λ k. n / b + 1 ≡ k) (λ z. absurd (e z)) (λ z. omega arith)
+-- as the library's `div_ceil` says it
+pub rounded_ceil : (n b : ℕ) → n / b + min 1 (n % b) ≡ rounded_up n b
+rounded_ceil n b = by_rest n b (λ k. n / b + min 1 (n % b) ≡ k) (λ e. omega (arith, e)) (λ e. omega (arith, some (n % b) e))
 
 -- so many buffers hold all bytes
 pub rounded_enough : (n b : ℕ) → 1 ≤ b → n ≤ rounded_up n b * b
@@ -80,7 +77,3 @@ rounded_parts k b p h l = go (ltb 0 p) refl
         let m = ltb-true 0 p e in
         omega (arith, rounded_is (k * b + p) b (suc k) h (omega (arith, suc-mul k b)) (omega (arith, suc-mul k b, m)))
     go false e = omega (arith, rounded_is (k * b + p) b k h (omega (arith, ltb-false 0 p e)) (omega arith))
-
--- No sum on the way can overflow: one more than a quotient with a remainder is at most the number divided.
-pub quotient_more : (n b : ℕ) → 1 ≤ b → (n % b ≡ 0 → ⊥) → suc (n / b) ≤ n
-quotient_more n b h e = omega (arith, times (n / b) b h, div-add-mod' n b, some (n % b) e)

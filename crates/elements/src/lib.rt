@@ -1,5 +1,5 @@
-// The elements of an array of integers, in bulk: all at once where there is room for them, else from the first byte on that is not out until
-// the buffer is full. Those that are out already are only counted, and those beyond the buffer's end not looked at.
+// The elements of an array of integers, in bulk: all at once where there is room for them, else from the first byte on that is not out
+// until the buffer is full. Those that are out already are only counted, and those beyond the buffer's end not looked at.
 #![tactic(auto)]
 
 ghost use Rattle.std.specs.Prelude.{List, ℕ, ◌≡◌, ◌+◌, ◌-◌, ◌*◌, ◌≤◌, ◌<◌, ltb, length};
@@ -73,7 +73,8 @@ pub struct Out {
     pub part: usize,
 }
 
-// The elements' varints where there is room for the longest of each, two at a turn: one took up to 1.2 times as long.
+// The elements' varints where there is room for the longest of each, two at a turn: one took up to 1.2 times as long. (Room: as
+// `emit::put_fitting`.)
 pub fn put_fittings<T: Integer>(buf: &mut [u8], pos: usize, items: &[T]) -> usize
     requires { pos + elements_most (length items.now) ≤ length buf.old }
     ensures { PutsAll buf.old pos (each (λ x. shortest (T.number x)) items.now) buf.new result }

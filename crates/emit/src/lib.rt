@@ -1,6 +1,8 @@
 // Emission: the bytes of one call's output, segment by segment, straight into the lent buffer as far as there is room.
 // A call that goes on from a place skips the bytes that are out already. Every write stops at the buffer's end, so a call may emit
 // all its segments with no test between them; how much went follows from the lengths.
+// (Here and in the crates above, a position stands beside its buffer: a rest slice would be cut at each call, and where it ends added up
+// again by the caller.)
 #![tactic(auto)]
 
 ghost use Rattle.std.specs.Prelude.{◌≡◌, ◌+◌, ◌-◌, ◌≤◌, ◌<◌, length, drop};
@@ -20,7 +22,8 @@ pub struct Cursor {
     pub skip: usize,
 }
 
-// The varint of v where there is room for the longest, with no test for the buffer's end at each byte; where it ends.
+// The varint of v where there is room for the longest, with no test for the buffer's end at each byte; where it ends. (That there is room
+// is asked for, here and wherever a name says `fitting`: not to test for it at each byte is what these are for.)
 pub fn put_fitting(buf: &mut [u8], pos: usize, v: u64) -> usize
     requires { pos + longest base ≤ length buf.old }
     ensures { Puts buf.old pos (shortest v) buf.new result }
@@ -39,8 +42,8 @@ pub fn put_fitting(buf: &mut [u8], pos: usize, v: u64) -> usize
     put_third(buf, pos + 2, second / 128)
 }
 
-// Such a varint from its third byte on. (One function for the two bytes that both begin with took 1.1 to 1.16 times as long on small
-// integers.)
+// Such a varint from its third byte on. (Room: as `put_fitting`. One function for the two bytes that both begin with took 1.1 to 1.16
+// times as long on small integers.)
 fn put_third(buf: &mut [u8], pos: usize, v: u64) -> usize
     requires { pos + (longest base - 2) ≤ length buf.old }
     ensures { Puts buf.old pos (shortest v) buf.new result }
@@ -64,7 +67,8 @@ fn put_third(buf: &mut [u8], pos: usize, v: u64) -> usize
     put_whole(buf, pos + 2, third)
 }
 
-// The given bytes from their place `from` on, from pos on; where they end.
+// The given bytes from their place `from` on, from pos on; where they end. (Cut at the call, they would be tested there once more, since
+// the place may be behind their end.)
 pub fn put_rest(buf: &mut [u8], pos: usize, bytes: &[u8], from: usize) -> usize
     ensures { Puts buf.old pos (drop from bytes.now) buf.new result }
 {

@@ -14,8 +14,9 @@ use types::{Error, LAZY_SEQ_DEPTH, T_SEQUENCE_END};
 use varint::varint_len;
 use write_at_once::{put_field, put_pair};
 
-// The held headers, a header and one varint: where there is room for the longest that they can be, at once. (A struct of what all of these
-// take, the start, the buffer and what is held, would be made at each call and taken apart here.)
+// The held headers, a header and one varint: where there is room for the longest that they can be, at once. (No call of the next with no
+// bytes: the fast way here is `put_pair`, there `put_field`, and one function would take it as a closure that holds the buffer. A struct
+// of what all of these take, the start, the buffer and what is held, would be made at each call and taken apart here.)
 pub fn put_varint_field(
     start: Cursor,
     buf: &mut [u8],

@@ -7,7 +7,7 @@ ghost use Rattle.places.specs.Places.{lazy_depth};
 ghost use Rattle.at_ease.specs.AtOnce.{pair_most};
 ghost use Rattle.held.specs.Headers.{held_most, head_most, headers_of, head_of};
 
-use at_ease::PAIR_MAX;
+use at_ease::has_room;
 use emit::Cursor;
 use places::Nest;
 use types::{LAZY_SEQ_DEPTH, T_SEQUENCE_START};
@@ -31,7 +31,7 @@ pub struct Held {
 }
 
 impl Held {
-    // Those of a state that was tested.
+    // Those of a state that was tested. (What makes the ghost field asks for it.)
     pub fn of(nest: Nest) -> Held
         requires { nest.held ≤ lazy_depth }
         ensures { (result.places ≡ nest.places) × (result.count ≡ nest.held) }
@@ -69,12 +69,7 @@ impl Held {
     pub fn has_room(self, size: usize, pos: usize, more: usize) -> bool
         ensures { result ≡ leb (length (headers_of self.count self.places) + pair_most + more) (size - pos) }
     {
-        let room = size.saturating_sub(pos);
-        let head = self.len() + PAIR_MAX;
-        if room < head {
-            return false;
-        }
-        more <= room - head
+        has_room(size, pos, self.len().saturating_add(more))
     }
 
     // How many bytes those headers, a field's header and the varint after it take.

@@ -1,4 +1,5 @@
-// The calls that write an array: of integers, and of floats. (What they take is 01's; the private ones take the same, to hand it on.)
+// The calls that write an array: of integers, and of floats. (Names and parameters are 01's; the private calls take the same, to hand it
+// on.)
 ghost use Rattle.std.specs.Prelude.{◌≡◌, map, length};
 ghost use Rattle.std.specs.Float.{binary32, binary64};
 ghost use Rattle.std.specs.Float.Ieee.{to_bits};
@@ -74,7 +75,7 @@ impl OStream {
         self.write_floats(buf, id, items, place)
     }
 
-    // An array of integers.
+    // An array of integers. Fast and slow form stand as in `write_varint_field`.
     fn write_integers<T: Integer>(
         self,
         buf: &mut [u8],
@@ -110,7 +111,7 @@ impl OStream {
         self.settle(size, outcome, self.depth)
     }
 
-    // An array of floats. (With the trait, the call and the statement it differs from `write_integers_slowly` in all but the last line.)
+    // An array of floats. (The trait, the statement and the call are its own; with `write_integers_slowly` it has two lines in common.)
     fn write_floats<T: Float>(self, buf: &mut [u8], id: u32, items: &[T], place: usize) -> Written
         ensures { result_of result buf.new ≡ written (float_array_call self (length buf.old) id T.width (map T.bits items.now)) self buf.old place }
     {

@@ -1,5 +1,5 @@
-// The calls that write a field of fixed length: floats, strings, blobs, and any bytes. (What they take is 01's; the private ones take the
-// same, to hand it on.)
+// The calls that write a field of fixed length: floats, strings, blobs, and any bytes. (Names and parameters are 01's; the private calls
+// take the same, to hand it on.)
 ghost use Rattle.std.specs.Prelude.{◌≡◌, length};
 ghost use Rattle.std.specs.Float.{binary32, binary64};
 ghost use Rattle.std.specs.Float.Ieee.{to_bits};
@@ -36,7 +36,7 @@ impl OStream {
             .rebuilt()
     }
 
-    // The slow form of `write_fixlen_raw`, from any state and place.
+    // The slow form of `write_fixlen_raw`, from any state and place. (Alone, as the slow form of a varint's field is.)
     #[inline(never)]
     fn write_fixlen_slowly(
         self,

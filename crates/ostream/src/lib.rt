@@ -41,7 +41,8 @@ pub enum Answer {
     Full(usize),
 }
 
-// And the state, which a refusal hands back as it was.
+// And the state, which a refusal hands back as it was. (This and `Counted` are types of their own: one generic in the answer would have
+// that named at every use, in the definitions too.)
 #[derive(Clone, Copy)]
 pub struct Written {
     pub answer: Result<Answer, Error>,
@@ -262,18 +263,12 @@ impl OStream {
     fn count(mut self, moved: Result<Moved, Error>) -> Counted
         ensures { result ≡ counted_at self moved }
     {
-        match moved {
-            Ok(to) => {
-                self.offset = to.next;
-                Counted {
-                    answer: Ok(to.sent),
-                    stream: self,
-                }
-            }
-            Err(e) => Counted {
-                answer: Err(e),
-                stream: self,
-            },
+        if let Ok(to) = moved {
+            self.offset = to.next;
+        }
+        Counted {
+            answer: moved.map(|to| to.sent),
+            stream: self,
         }
     }
 

@@ -23,8 +23,8 @@ impl OStream {
         let places = self.pending;
         let more = add_id(places, self.npending, id);
         self.pending = more;
-        self.npending = self.npending + 1;
-        self.depth = self.depth + 1;
+        self.npending += 1;
+        self.depth += 1;
         self
     }
 
@@ -69,13 +69,13 @@ impl OStream {
         self.settle(size, outcome, self.depth + 1)
     }
 
-    // The last opened sequence is closed; one that is held back vanishes.
+    // The last opened sequence is closed; one that is held back vanishes. Fast and slow form stand as in `write_varint_field`.
     pub fn write_sequence_end(mut self, buf: &mut [u8], place: usize) -> Written
         ensures { result_of result buf.new ≡ written (end_call self (length buf.old)) self buf.old place }
     {
         if place == 0 {
             if let Some(end) = close_at_once(buf, self.offset, self.nest()) {
-                self.depth = self.depth - 1;
+                self.depth -= 1;
                 return self.done(end);
             }
         }

@@ -38,7 +38,8 @@ impl Output {
         }
     }
 
-    // Its bytes from pos on, where there is room for the longest, with no test for the buffer's end; where they end.
+    // Its bytes from pos on, where there is room for the longest, with no test for the buffer's end; where they end. (Room, here and in the
+    // next: as `emit::put_fitting`.)
     pub fn put_fitting(self, buf: &mut [u8], pos: usize) -> usize
         requires { pos + output_most ≤ length buf.old }
         ensures { (result ≡ reached buf.old pos (output_bytes self)) × (buf.new ≡ put buf.old pos (output_bytes self)) × (length (output_bytes self) ≤ output_most) }
@@ -63,8 +64,8 @@ impl Output {
         self.put(buf, pos, 0)
     }
 
-    // Its bytes from the place on, as far as there is room from pos on; where they end. (By two numbers: the copier would make a `Cursor` of
-    // them for this call, and read where it stands.)
+    // Its bytes from the place on, as far as there is room from pos on; where they end. (By two numbers: the copier would make a `Cursor`
+    // of them for this call, and read where it stands.)
     pub fn put(self, buf: &mut [u8], pos: usize, place: usize) -> usize
         ensures { Puts buf.old pos (drop place (output_bytes self)) buf.new result }
     {

@@ -28,7 +28,7 @@ fn is_roomy(size: usize, pos: usize, places: [u32; LAZY_SEQ_DEPTH], more: usize)
 }
 
 // Two varints, where there is room for the longest; where they end. Two bytes go with no call: with all of it out of line small integers
-// took 1.5 times as long.
+// took 1.5 times as long. (Room, here and in the next: as `emit::put_fitting`.)
 #[inline(always)]
 fn put_two(buf: &mut [u8], pos: usize, header: u64, second: u64) -> usize
     requires { pos + pair_most ≤ length buf.old }
@@ -69,7 +69,8 @@ pub fn put_pair(
     Some(put_two(buf, pos, header, second))
 }
 
-// Two varints and bytes after them, likewise. (Out of line, as `put_integers`.)
+// Two varints and bytes after them, likewise. (Out of line, as `put_integers`; `put_longer` in the place of the two varints here and there
+// would be one line for two, and a call more.)
 pub fn put_field(
     buf: &mut [u8],
     pos: usize,
@@ -88,8 +89,7 @@ pub fn put_field(
     Some(put_rest(buf, end, bytes, 0))
 }
 
-// An array of integers, likewise: header, count, elements. (Without the fact a count beyond the limit would be refused here too, by a test
-// that no call needs.)
+// An array of integers, likewise: header, count, elements. (How many, the test before it has told: ten bytes each then fit a usize.)
 pub fn put_integers<T: Integer>(
     buf: &mut [u8],
     pos: usize,
@@ -109,6 +109,9 @@ pub fn put_integers<T: Integer>(
 }
 
 // ---- the same behind the tests that come before them, as a call of the writer makes them first
+
+// One function for the four would take the test's answer and a closure that holds the buffer, and be no shorter. Position and nest are the
+// writer's state by parts: `OStream`, which has both, stands above.
 
 // A field of one varint, its type the wire's number, a term of the header: an enum would be made a number again, by a match with a law.
 pub fn pair_at_once(

@@ -1,6 +1,6 @@
 // A field or an array from any state and any place on, by the state's numbers: what it refuses, in order, and else its bytes behind the
-// headers that are held back. (A struct of what all of these take, the start, the buffer, the open sequences and the id, would be made at
-// each call and taken apart here.)
+// headers that are held back. (Start, buffer, nest and id are what the writer's calls have: a struct of them would be made at each call and
+// taken apart here.)
 #![tactic(auto, using(crate::proofs::Went::refuses, crate::proofs::Went::goes))]
 
 ghost use Rattle.std.specs.Prelude.{◌≡◌, [], ◌∷◌, map, ◌++◌, ◌+◌, ◌*◌, length};
@@ -64,8 +64,8 @@ pub fn fixlen_field(
     )
 }
 
-// An array of integers. (This and the next have the trait of the elements, the put and the bytes in which they differ: one generic would
-// take a closure with a contract of four lines for the two of a body.)
+// An array of integers. (This and the next differ in the elements' trait, the put and the bytes: one generic would take a closure with a
+// contract of four lines for the three of a body.)
 pub fn integer_array<T: Integer>(
     start: Cursor,
     buf: &mut [u8],

@@ -12,7 +12,7 @@ ghost use Rattle.bodies.specs.Bodies.{fits, after_body, after_word, after_floats
 use passing::{Stop, count_at, jump, skip_varints, varint_at};
 use types::{FIXLEN_MAX, FP32_WORD, FP64_WORD, FixlenType};
 
-// Whether n bytes can be a fixed-length field of this subtype: a fact of the layout for each, told once.
+// Whether n bytes can be a fixed-length field of this subtype: a fact of the layout for each case.
 fn fits(t: FixlenType, n: u64) -> bool
     ensures { result ≡ fits (subtype t) n }
 {
@@ -50,7 +50,8 @@ pub fn array_at(bytes: &[u8]) -> Result<&[u8], Stop<&[u8]>>
     skip_varints(rest, n)
 }
 
-// The bytes of n floats, by their word.
+// The bytes of n floats, by their word. (`shortest::float_bytes` has this match too, in a crate that stands beside this one: it would come
+// to stand below for these two lines.)
 pub fn floats_at(bytes: &[u8], n: u64, word: u64) -> Result<&[u8], Stop<&[u8]>>
     requires { n ≤ base.count }
     ensures { (id : ℕ) → Passes (after_floats id n word bytes.now) result }

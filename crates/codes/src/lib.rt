@@ -1,5 +1,5 @@
-// The numbers that C is answered for a verdict on a message given whole, for the length of its plain copy, and for the drains that this costs:
-// what stands here case by case is the C interface, and `include/sofab.h` has it.
+// The numbers that C is answered for a verdict on a message given whole, for the length of its plain copy, and for the drains that this
+// costs: what stands here case by case is the C interface, and `include/sofab.h` has it.
 #![tactic(auto)]
 
 ghost use Rattle.std.specs.Prelude.{◌≡◌, ◌≢◌, ℕ, ◌<◌, MatchOption};
@@ -24,7 +24,8 @@ pub fn number(v: Verdict) -> i64
     }
 }
 
-// By a call that asks for more than the verdict: none where the message is complete, and the call goes on.
+// By a call that asks for more than the verdict: none where the message is complete, and the call goes on. (Two of its numbers are
+// in `stopped` too: `Verdict` and `Stop` have two cases alike, which such calls answer alike.)
 pub fn refusal(v: Verdict) -> Option<i64>
     ensures { (w : layout.Verdict) → v ≡ verdict_in w → MatchOption result (w ≡ layout.complete) (λ n. (w ≢ layout.complete) × (n ≡ refused w)) }
 {

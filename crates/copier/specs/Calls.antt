@@ -15,8 +15,7 @@ pub use Rattle.turns.specs.Said.{Said, full, verdict, said_of, said_in}
 use Rattle.copier.specs.declared.Copier.{Copier}
 use Rattle.copier.specs.declared.Copied.{Copied}
 use Rattle.owed.specs.declared.Owed.TheVariants.{Nothing}
-use Rattle.copier.specs.declared.Opened.{Opened}
-use Rattle.copier.specs.declared.Drained.{Drained}
+use Rattle.copier.specs.declared.Answered.{Answered}
 use Rattle.copier.specs.Copier.{copy_of, copier_in, sound_reader, sound_writer}
 
 -- ---- feeding
@@ -62,7 +61,7 @@ pub record Started : Type 0 where
   pub opens : Opens
   pub copier : Copier
 
-abbrev pub started_by : Opened → Started
+abbrev pub started_by : Answered ⊤ → Started
 started_by r = record { opens = opens_of r.answer; copier = r.copier }
 
 -- a fresh reader over a writer, and nothing owed
@@ -86,7 +85,7 @@ pub record Sent : Type 0 where
   pub sends : Sends
   pub copier : Copier
 
-abbrev pub sent_by : Drained → Sent
+abbrev pub sent_by : Answered ℕ → Sent
 sent_by r = record { sends = sends_of r.answer; copier = r.copier }
 
 abbrev pub over : Copier → OStream → Copier

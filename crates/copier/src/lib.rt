@@ -18,6 +18,7 @@ pub use turns::Answer;
 use turns::{Stop, run};
 use types::Error;
 
+// The event still owed and the place reached in it are the state that 01 names; the place is not in force where nothing is owed.
 #[derive(Clone, Copy)]
 pub struct Copier {
     pub reader: IStream,
@@ -34,17 +35,11 @@ pub struct Copied {
     pub copier: Copier,
 }
 
-// Whether the buffer was taken, or the refusal, and a copier over it.
+// What another call answers, or the refusal, and the state after it: of an opening, that the buffer was taken; of a drain, how many bytes of
+// it the caller has to send.
 #[derive(Clone, Copy)]
-pub struct Opened {
-    pub answer: Result<(), Error>,
-    pub copier: Copier,
-}
-
-// How many bytes of the buffer the caller has to send, or the refusal, and the state after it.
-#[derive(Clone, Copy)]
-pub struct Drained {
-    pub answer: Result<usize, Error>,
+pub struct Answered<T> {
+    pub answer: Result<T, Error>,
     pub copier: Copier,
 }
 
@@ -71,11 +66,11 @@ fn finish(writer: OStream, stop: Stop) -> Copied
 impl Copier {
     // A copier over a buffer from the offset on.
     #[tactic(auto, unfolding(crate::specs::Calls::started))]
-    pub fn new(buf: &[u8], offset: usize) -> Opened
+    pub fn new(buf: &[u8], offset: usize) -> Answered<()>
         ensures { started_by result ≡ started (length buf.now) offset }
     {
         let opened = OStream::with_flush(buf, offset);
-        Opened {
+        Answered {
             answer: opened.answer.map(|_| ()),
             copier: Copier {
                 reader: IStream::new(),
@@ -87,10 +82,10 @@ impl Copier {
     }
 
     // What the writer answered, and the copier over the writer that it left.
-    fn over(self, counted: Counted) -> Drained
+    fn over(self, counted: Counted) -> Answered<usize>
         ensures { result ≡ record { answer = counted.answer; copier = over self counted.stream } }
     {
-        Drained {
+        Answered {
             answer: counted.answer,
             copier: Copier {
                 writer: counted.stream,
@@ -101,7 +96,7 @@ impl Copier {
 
     // The caller drains the buffer: as many bytes as answered are to be sent, and writing starts at 0.
     #[tactic(auto, unfolding(crate::specs::Calls::drained))]
-    pub fn flush(self, buf: &[u8]) -> Drained
+    pub fn flush(self, buf: &[u8]) -> Answered<usize>
         ensures { sent_by result ≡ drained self (length buf.now) }
     {
         self.over(self.writer.flush(buf))
@@ -109,7 +104,7 @@ impl Copier {
 
     // Another buffer from the offset on. The answer counts the old one's bytes, which the caller still sends.
     #[tactic(auto, unfolding(crate::specs::Calls::changed))]
-    pub fn buffer_set(self, old: &[u8], new: &[u8], offset: usize) -> Drained
+    pub fn buffer_set(self, old: &[u8], new: &[u8], offset: usize) -> Answered<usize>
         ensures { sent_by result ≡ changed self (length old.now) (length new.now) offset }
     {
         self.over(self.writer.buffer_set(old, new, offset, true))

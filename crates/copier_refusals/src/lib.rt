@@ -3,11 +3,9 @@
 #![tactic(auto)]
 
 ghost use Rattle.std.specs.Prelude.{◌≡◌, ◌+◌, ◌<◌};
-ghost use Rattle.copying.specs.Owed.{owes_nothing};
 ghost use Rattle.copying.specs.Refusals.{is_broke};
 ghost use Rattle.istream.specs.Stream.{state_of};
 ghost use Rattle.places.specs.Places.{sound_for};
-ghost use Rattle.owed.specs.Owed.{owed_of};
 ghost use Rattle.checks.specs.Check.{check_of};
 ghost use Rattle.copier_refusals.specs.Checked.{fits_writer, judged_by};
 
@@ -23,12 +21,7 @@ fn is_broken(reader: IStream) -> bool
     matches!(reader.phase, Phase::Broken)
 }
 
-fn is_nothing(owed: Owed) -> bool
-    ensures { result ≡ owes_nothing (owed_of owed 0) }
-{
-    matches!(owed, Owed::Nothing)
-}
-
+// By hand and not by `sum()`: that is a loop over the places, and what was measured is the eight looked at together.
 fn sum(a: u32, b: u32, c: u32, d: u32) -> u64
     ensures { (result ≡ a + b + c + d) × (result < 17179869184) }
 {
@@ -63,7 +56,7 @@ fn sound_writer(reader: IStream, writer: OStream, owed: Owed, place: u8, size: u
         return false;
     }
     if is_broken(reader) {
-        return is_nothing(owed);
+        return owed.is_nothing();
     }
     owed.sound(place, reader.carried.depth, writer.depth)
 }

@@ -17,7 +17,8 @@ pub struct Drains {
     pub len: usize,
 }
 
-// Why there is no number of drains: the message is incomplete, or broken; or a buffer of no bytes is refused.
+// Why there is no number of drains: the message is incomplete, or broken; or a buffer of no bytes is refused. It is the error of a Result;
+// `Refused` holds `NoBuffer` alone, as the other refusals hold theirs.
 #[derive(Clone, Copy)]
 pub enum Uncounted {
     Stopped(Stop),

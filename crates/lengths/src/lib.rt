@@ -1,5 +1,7 @@
-// Past one thing at the start of a message's bytes, as in `passing` and `bodies`, with how many bytes the plain copy has for it: each varint as
-// many as its value needs, all else as many as it has.
+// Past one thing at the start of a message's bytes, as in `passing` and `bodies`, with how many bytes the plain copy has for it: each
+// varint as many as its value needs, all else as many as it has. Each function has one beside it there that gives no length; what is done
+// at each step is other here (a varint of two bytes is taken as it stands only in its shortest form), so one for both would take a trait
+// with a member for each.
 #![tactic(auto)]
 
 ghost use Rattle.layout.specs.Limits.{base};
@@ -22,7 +24,7 @@ fn value_len(bytes: &[u8]) -> Result<(usize, &[u8]), Stop<&[u8]>>
     Ok((varint_len(v), rest))
 }
 
-// Out of line. Most varints are in their shortest form, and so as long as they stand.
+// Out of line, as it has two places of call. Most varints are in their shortest form, and so as long as they stand.
 fn long_len(bytes: &[u8]) -> Result<(usize, &[u8]), Stop<&[u8]>>
     ensures { Sizes (λ n. sized varint_length n (varint base bytes.now)) result }
 {

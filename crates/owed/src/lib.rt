@@ -4,7 +4,7 @@
 ghost use Rattle.std.specs.Prelude.{◌≡◌, ◌&&◌, leb, ◌+◌, ◌*◌};
 ghost use Rattle.layout.specs.Field.{bytes_of, float, subtype_number};
 ghost use Rattle.layout.specs.Limits.{base};
-ghost use Rattle.copying.specs.Owed.{agrees};
+ghost use Rattle.copying.specs.Owed.{agrees, owes_nothing};
 ghost use Rattle.types.specs.Types.{width};
 ghost use Rattle.owed.specs.Owed.{owed_of, array_output, output_of, level_of, legal_of, place_is_in};
 
@@ -19,8 +19,8 @@ use varint::zigzag_encode;
 
 // An event that is read and not yet written whole. Only events that the layout allows, but for their numbers' limits: `Element` and
 // `SignedElement` stand in an array, and go out bare as the floats do; `Float` and `Payload` announce a fixed-length field. A payload's
-// piece is never owed: it counts as read only as far as it is out. (`Nothing` is a case beside the others: with an Option each method would be
-// a `map_or` that says the same of none, an empty output, equal depths, any place.)
+// piece is never owed: it counts as read only as far as it is out. (`Nothing` is a case beside the others: with an Option each method would
+// be a `map_or` that says the same of none, an empty output, equal depths, any place.)
 #[derive(Clone, Copy)]
 pub enum Owed {
     Nothing,
@@ -65,6 +65,13 @@ fn within(id: u32, n: u32, most: u32) -> bool
 }
 
 impl Owed {
+    // Whether it is the case for nothing owed.
+    pub fn is_nothing(self) -> bool
+        ensures { result ≡ owes_nothing (owed_of self 0) }
+    {
+        matches!(self, Owed::Nothing)
+    }
+
     // The bytes that it is written as.
     pub fn output(self) -> Output
         ensures { result ≡ output_of self }
@@ -118,7 +125,7 @@ impl Owed {
     fn has_place(self, place: u8) -> bool
         ensures { result ≡ place_is_in self place }
     {
-        matches!(self, Owed::Nothing) || (place as usize) < self.output().len()
+        self.is_nothing() || (place as usize) < self.output().len()
     }
 
     // Whether it can be owed with its output out to the place, by a reader and a writer at these depths.

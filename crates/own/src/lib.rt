@@ -17,7 +17,8 @@ use types::{
 };
 use varint::{Acc, Push};
 
-// Fields: the place after them, and the depth there.
+// Fields: the place after them, and the depth there. (An end, here and in `Row`, and not what is behind it: the callers hand on the bytes
+// before it.)
 #[derive(Clone, Copy)]
 pub struct Run {
     pub end: usize,
@@ -33,8 +34,9 @@ pub struct Row {
 
 // ---- varints
 
-// Most elements are one byte or two. What the call out of line answers is taken apart at once: handed on, all answers went through memory,
-// and fields with headers of two bytes took 1.8 times as long.
+// Most elements are one byte or two. (Passing's `element_at`, and its `scalar_at` beside the one below, take longer varints too, and say
+// why there is none.) What the call out of line answers is taken apart at once: handed on, all answers went through memory, and fields with
+// headers of two bytes took 1.8 times as long.
 fn number_at(t: &[u8]) -> Option<&[u8]>
     ensures { IfSome result (λ r. Ends t.now Number r.now) }
 {
@@ -107,7 +109,8 @@ fn header_at(t: &[u8]) -> Option<(u64, &[u8])>
     short_value_at(t).or_else(|| long_value_at(t).filter(|(h, _)| *h / 8 <= ID_MAX as u64))
 }
 
-// As passing's `count_at`, and `jump` below as its `jump`, but for the answer: theirs says why there is none, which nobody asks here.
+// As passing's `count_at`; and below `jump`, `fixlen_at`, `array_at` and `float_array_at` as those of passing and bodies, but for the
+// answer: theirs says why there is none, which nobody asks here, and takes varints that are longer than needed.
 fn count_at(t: &[u8]) -> Option<(u32, &[u8])>
     ensures { IfSome result (λ r. Ends t.now (λ bs. (r.0 ≤ base.count) × (bs ≡ shortest r.0)) r.1.now) }
 {
@@ -216,7 +219,8 @@ fn smalls_at(t: &[u8]) -> &[u8]
     rest
 }
 
-// An open of one byte, or a close.
+// An open of one byte, or a close, looked for before the rest, where `body_at` has them again: in one loop with all, fields took at best
+// 1.3 to 1.4 times as long (docs/PERFORMANCE.md).
 fn sequence_at(t: &[u8], depth: u8) -> Option<(u8, &[u8])>
     ensures { IfSome result (λ r. (length r.1.now < length t.now) × Ends t.now (λ bs. OwnFields base depth bs r.0) r.1.now) }
 {

@@ -1,5 +1,6 @@
-// Past one thing at the start of a message's bytes: a varint, a header, a count, n varints, n bytes. What comes out are the bytes that are left
-// after it. The layout's reader says what that is (`crates/layout/specs/Message`), and `specs/Passing` which of its outcomes an answer stands for.
+// Past one thing at the start of a message's bytes: a varint, a header, a count, n varints, n bytes. What comes out are the bytes that are
+// left after it. The layout's reader says what that is (`crates/layout/specs/Message`), and `specs/Passing` which of its outcomes an answer
+// stands for.
 #![tactic(auto)]
 
 ghost use Rattle.std.specs.Prelude.{◌≡◌};
@@ -11,8 +12,8 @@ ghost use Rattle.passing.specs.Passing.{Reaches, Passes, ends, skips, hop};
 use types::{ARRAY_MAX, ID_MAX};
 use varint::{Acc, LAST_BYTE, Push};
 
-// Why there is no going on: the message ends within what was to be passed; or a byte breaks it. P says which: that byte's number, or what is
-// known where a part is read, the bytes left after it. It is the error of Results, and `Short` is a reason, not a missing value.
+// Why there is no going on: the message ends within what was to be passed; or a byte breaks it. P says which byte: by its number, or, where
+// only a part is read, by the bytes left after it. It is the error of Results, and `Short` is a reason, not a missing value.
 #[derive(Clone, Copy)]
 pub enum Stop<P = usize> {
     Short,
@@ -21,8 +22,8 @@ pub enum Stop<P = usize> {
 
 // ---- varints: a value and the bytes after it
 
-// Any varint, out of line. (`own` and `read_at_once` push bytes so too: each has another thing to do at each answer, and what they share is
-// these three arms.)
+// Any varint, out of line. (`own` and `read_at_once` push bytes so too: each has another thing to do at each answer, and all that they
+// share are these three arms.)
 pub fn long_varint_at(bytes: &[u8]) -> Result<(u64, &[u8]), Stop<&[u8]>>
     ensures { Reaches (varint base bytes.now) result }
 {
@@ -79,8 +80,8 @@ pub fn count_at(bytes: &[u8]) -> Result<(u64, &[u8]), Stop<&[u8]>>
 
 // ---- varints whose values are not asked for: the bytes after them
 
-// A varint, out of line: its end, and the rule of the tenth byte. (`shortest` looks for such an end too, but of the shortest form alone, which
-// has another rule for the last byte at each length: what they share is the loop's head.)
+// A varint, out of line: its end, and the rule of the tenth byte. (`shortest` looks for such an end too, but of the shortest form alone,
+// which has another rule for the last byte at each length: what they share is the loop's head.)
 #[inline(never)]
 pub fn skip_at(bytes: &[u8]) -> Result<&[u8], Stop<&[u8]>>
     ensures { Passes (λ d. ends d (varint base bytes.now)) result }

@@ -17,7 +17,7 @@ pub struct PayloadAcc {
     pub complete: bool,
 }
 
-// Where a payload is that is whole: the first so many bytes of the chunk or of the buffer.
+// Where a whole payload is: the first so many bytes of the chunk or of the buffer.
 #[derive(Clone, Copy)]
 pub enum Whole {
     InChunk(usize),
@@ -31,7 +31,8 @@ pub struct Fed {
     pub acc: PayloadAcc,
 }
 
-// The first n bytes of src into buf, from pos on.
+// The first n bytes of src into buf, from pos on. (n beside src, as the definitions have it: with src cut to n, `append` would take a lemma
+// more, that what is pasted is the same.)
 fn copy_in(buf: &mut [u8], pos: usize, src: &[u8], n: usize)
     requires { (pos + n ≤ length buf.old) × (n ≤ length src.now) }
     ensures { buf.new ≡ paste buf.old pos src.now n }
@@ -56,10 +57,11 @@ fn holds_whole(total: usize, offset: usize, given: usize) -> bool
     offset == 0 && total <= given
 }
 
+// The first n bytes, or none.
 fn first<'a>(s: &'a [u8], n: usize) -> &'a [u8]
     ensures { result.now ≡ first_of s.now n }
 {
-    if n <= s.len() { &s[..n] } else { &s[..0] }
+    s.get(..n).unwrap_or_default()
 }
 
 impl PayloadAcc {
@@ -182,7 +184,8 @@ impl PayloadAcc {
     }
 }
 
-// The payload that an answer of `feed` calls whole, given the state and the slices that this call left: a part of one of them.
+// The payload that an answer of `feed` calls whole, given the state and the slices that this call left: a part of one of them. Empty where
+// the answer isn't whole, the state isn't sound or the slice lent is too short: 01 asks for an empty part, so it is no Option.
 pub fn payload<'a>(
     answer: Result<Option<Whole>, Error>,
     acc: PayloadAcc,

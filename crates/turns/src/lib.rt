@@ -1,5 +1,6 @@
-// The copier's loop, nothing being owed when it starts: turn by turn an event is written out again, a payload's bytes go out, or what stands in
-// its shortest form already goes as it came, until the buffer is full, the chunk is spent or the message is broken.
+// The copier's loop, nothing being owed when it starts: turn by turn an event is written out again, a payload's bytes go out, or what
+// stands in its shortest form already goes as it came, until the buffer is full, the chunk is spent or the message is broken. The buffer
+// comes with a position, and not as the slice from there on: what `Puts` says is of the whole buffer, and so are the callers' contracts.
 #![tactic(auto)]
 
 ghost use Rattle.std.specs.Prelude.{◌≡◌, ◌+◌, ◌<◌};
@@ -23,7 +24,8 @@ pub enum Answer {
     Status(Status),
 }
 
-// Where a call stops: the bytes used, the answer or the refusal, and the state, but for the writer's places.
+// Where a call stops: the bytes used, the answer or the refusal, and the state, but for the writer's places. (The event still owed and the
+// place reached in it are the state that 01 names; the place is not in force where nothing is owed.)
 #[derive(Clone, Copy)]
 pub struct Stop {
     pub used: usize,
@@ -43,7 +45,8 @@ enum Turn {
     Stop(Stop),
 }
 
-// How many elements of an array are due, the one under way included: 0 where none is, as the phases count them and `owe` asks.
+// How many elements of an array are due, the one under way included: 0 where none is. (An Option would be made here only for `owe` to take
+// apart.)
 #[tactic(auto, unfolding(copying::specs::Owed::due_in))]
 fn due(reader: IStream) -> u32
     ensures { result ≡ due_in (state_of reader) }
@@ -125,8 +128,8 @@ fn cut(n: usize, len: usize) -> Answer
     Answer::Status(Status::Incomplete)
 }
 
-// A payload's bytes go out at once, as many as there is room for; the next phase is made here (docs/PERFORMANCE.md). Its numbers come as the
-// match in `one_turn` binds them: taken from the reader here, they would need that match again, with an arm that never is.
+// A payload's bytes go out at once, as many as there is room for; the next phase is made here (docs/PERFORMANCE.md). Its numbers come as
+// the match in `one_turn` binds them: taken from the reader here, they would need that match again, with an arm that never is.
 fn piece(
     reader: IStream,
     id: u32,
@@ -158,9 +161,9 @@ fn piece(
     Turn::On(IStream { phase, carried }, n, end)
 }
 
-// One turn: a payload's bytes, what stands in its shortest form already, or an event. (Reader and position go each on its own: in one struct,
-// handed on, small integers with long headers took 1.06 to 1.09 times as long. Nor does a struct hold what `GoesOn` says as ghost fields: it
-// would be made anew after each turn, and `written` and `heard`, which make turns, know of no reader that it goes on.)
+// One turn: a payload's bytes, what stands in its shortest form already, or an event. (Reader and position go each on its own: in one
+// struct, handed on, small integers with long headers took 1.06 to 1.09 times as long. Nor does a struct hold what `GoesOn` says as ghost
+// fields: it would be made anew after each turn, and `written` and `heard`, which make turns, know of no reader that it goes on.)
 fn one_turn(reader: IStream, pos: usize, rest: &[u8], buf: &mut [u8]) -> Turn
     requires { GoesOn reader }
     ensures { Turned reader pos rest.now buf.old result buf.new }

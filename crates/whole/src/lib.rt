@@ -19,8 +19,9 @@ use types::{
     T_VARINTARRAY_SIGNED, T_VARINTARRAY_UNSIGNED,
 };
 
-// What a message comes to; a broken one with the number of bytes up to the offending one, which is counted. They are the three words that 01
-// has for a verdict: an incomplete message is no error, and a Result would name them no more plainly.
+// What a message comes to; a broken one with the number of bytes up to the offending one, which is counted. They are the three words that
+// 01 has for a verdict, and each of them is an answer: a Result would name the three no more plainly. (In `walk` incomplete is an error,
+// since what was counted is then none.)
 #[derive(Clone, Copy)]
 pub enum Verdict {
     Complete,
@@ -42,8 +43,8 @@ pub trait Count: Copy {
         ensures { (n : ℕ) → (d : ℕ) → counts self (n + length (shortest h)) → Lands counts d (reached d n (body base d (h / 8) (wire_of (h % 8)) bytes.now).outcome) result };
 }
 
-// What follows the header h, where that keeps the depth: an enum of the four kinds in place of a type below 6 would be one more match, where
-// the header is read. (`copy_len` has this match with lengths: a trait for both would name each of the four twice.)
+// What follows the header h, where that keeps the depth, here and in `past`: an enum of the four kinds in place of a type below 6 would be
+// one more match, where the header is read. (`copy_len` has this match with lengths: a trait for both would name each of the four twice.)
 fn end_at(bytes: &[u8], h: u64) -> Result<&[u8], Stop<&[u8]>>
     requires { h % 8 < 6 }
     ensures { Passes (after_body (h / 8) (wire_of (h % 8)) bytes.now) result }
@@ -123,6 +124,8 @@ pub fn walk<C: Count>(message: &[u8], start: C) -> Result<C, Stop>
     while !rest.is_empty() {
         match field_at(counted, depth, rest) {
             Ok(next) => (counted, depth, rest) = next,
+            // (By `map_err` and `?` three answers of the proof were open: what is known of `field_at` would have to be found in what those
+            // hand on.)
             Err(stop) => return Err(placed(message, stop)),
         }
     }

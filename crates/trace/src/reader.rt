@@ -92,7 +92,8 @@ pub fn store(stream: IStream, desk: &mut [u64]) {
     lay(desk, 0, &[phase, depth, kind, id, count, taken, value]);
 }
 
-// What a call tells, the desk's words 23 to 30 with the bytes read at 24. Numbers: the desk is how C and the Rust ask (compare/PROTOCOL.md).
+// What a call tells, the desk's words 23 to 30 with the bytes read at 24. Numbers: the desk is how C and the Rust ask
+// (compare/PROTOCOL.md).
 #[derive(Clone, Copy)]
 struct Tale {
     tag: u64,

@@ -17,11 +17,7 @@ pub enum NoNumber {
 fn digit(b: u8) -> Option<u8>
     ensures { IfSome result (λ d. d < 10) }
 {
-    if b.is_ascii_digit() {
-        Some(b - b'0')
-    } else {
-        None
-    }
+    b.is_ascii_digit().then(|| b - b'0')
 }
 
 // A word in decimal, of up to 19 digits after its leading zeros. (By hand: `parse` takes a sign as well, and 20 digits,

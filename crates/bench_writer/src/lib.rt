@@ -1,5 +1,5 @@
-// The writer's calls for the benchmark in compare/, one after another through a buffer that is drained into `out` whenever it is full and at
-// the end: the same work as the loops over the Rust there. A message's calls are numbered, and each follows from its number.
+// The writer's calls for the benchmark in compare/, one after another through a buffer that is drained into `out` whenever it is full and
+// at the end: the same work as the loops over the Rust there. A message's calls are numbered, and each follows from its number.
 #![tactic(auto)]
 
 use ostream::{Answer, OStream, Written};
@@ -58,7 +58,7 @@ struct Run {
     place: usize,
 }
 
-// A state made anew from its fields: handed on as it is, strings took 1.26 times as long.
+// A state made anew from its fields: handed on as it is, strings took 1.26 times as long. (ostream's own is private: no caller's business.)
 fn rebuilt(s: OStream) -> OStream {
     let pending = s.pending;
     OStream {
@@ -73,7 +73,8 @@ fn number(i: usize) -> u32 {
     (i % 16) as u32
 }
 
-// Two opens, a number, two closes.
+// Two opens, a number, two closes. (By the call's place, here and below: the message's calls, and no steps to run; a table of a page's 34
+// would be longer.)
 fn nested(i: usize) -> Call {
     match i % 5 {
         0 => Call::Begin(1),
@@ -182,7 +183,8 @@ fn calls<F: FnMut(OStream, usize, &mut [u8]) -> Written>(
     }
 }
 
-// Where the settings end of the page that has the ith call; i itself where it is another call.
+// Where the settings end of the page that has the ith call; i itself where it is another call. (No Option: up to i itself there is no call,
+// an empty range.)
 fn last(i: usize, n: usize) -> usize {
     let step = i % 34;
     if step == 0 || 30 < step {
@@ -191,14 +193,15 @@ fn last(i: usize, n: usize) -> usize {
     i.wrapping_add(31 - step).min(n)
 }
 
-// Numbers and strings, and a page's settings, whose id is counted along, which takes less time than a remainder for each.
+// Numbers and strings, and a page's settings, whose id is counted along, which takes less time than a remainder for each (`% 64`, which
+// none reaches, bounds it for the compiler).
 fn alike(m: &Message<'_>, r: Run, n: usize, buf: &mut [u8]) -> Run {
     match m.kind {
         Kind::Smalls => calls(r, n, buf, |s, i, buf| {
-            s.write_unsigned(buf, number(i), (i % 100) as u64, 0)
+            s.write_unsigned(buf, number(i), value(Kind::Smalls, i), 0)
         }),
         Kind::Longs => calls(r, n, buf, |s, i, buf| {
-            s.write_unsigned(buf, 100000, u64::MAX - (i % 1000) as u64, 0)
+            s.write_unsigned(buf, 100000, value(Kind::Longs, i), 0)
         }),
         Kind::Strings => {
             let text = text(m.kind, m.data);
@@ -212,7 +215,7 @@ fn alike(m: &Message<'_>, r: Run, n: usize, buf: &mut [u8]) -> Run {
         Kind::Pages => {
             let mut id = (r.i % 34) as u32;
             calls(r, last(r.i, n), buf, |s, i, buf| {
-                let w = s.write_unsigned(buf, id, (i % 1000) as u64, 0);
+                let w = s.write_unsigned(buf, id, value(Kind::Pages, i), 0);
                 id = id.wrapping_add(1) % 64;
                 w
             })

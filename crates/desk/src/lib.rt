@@ -21,7 +21,7 @@ pub fn lay(desk: &mut [u64], at: usize, words: &[u64]) {
     }
 }
 
-// A word's low bits, a function for each width: `as` drops none, and a generic one would need a trait with these three bodies.
+// A word's low bits, a function for each width: `as` drops no bits, and a generic one would need a trait with these three bodies.
 pub fn narrow(n: u64) -> u32 {
     (n & 0xffff_ffff) as u32
 }

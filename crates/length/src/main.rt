@@ -11,8 +11,7 @@ use std::io::{self, Read};
 use std::num::NonZeroUsize;
 use streams::read_full;
 
-// Fixed memory: this name, and the message, chunk and output below.
-const NAME: [u8; 6] = *b"length";
+const NAME: &[u8] = b"length";
 
 // A message that is here whole.
 fn measure(message: &[u8]) -> Result<u64, Trouble> {
@@ -24,7 +23,7 @@ fn measure(message: &[u8]) -> Result<u64, Trouble> {
 }
 
 // One that may be longer is copied, and what would go out is counted: for every complete message that is the same number. Where the buffer
-// isn't full, the input has ended.
+// isn't full, the input has ended. Fixed memory: the message, chunk and output below.
 fn length(input: &mut impl Read) -> Result<u64, Trouble> {
     let mut message = [0u8; 65536];
     let n = read_full(input, &mut message).map_err(|_| Failure::Unread)?;
@@ -49,11 +48,11 @@ fn tell(rt: &impl Print, n: u64, buffer: Option<NonZeroUsize>) -> io::Result<()>
 fn tell_all(rt: &HostRuntime, buffer: Option<NonZeroUsize>) -> io::Result<()> {
     let err = rt.stderr();
     match length(&mut rt.stdin()) {
-        Ok(n) => tell(rt, n, buffer).or_else(|e| unwritten(&err, &NAME, e.kind())),
+        Ok(n) => tell(rt, n, buffer).or_else(|e| unwritten(&err, NAME, e.kind())),
         Err(Trouble::Failed(Failure::Unwritten(_))) => {
-            complain(&err, &NAME, b": the copy cannot be counted\n")
+            complain(&err, NAME, b": the copy cannot be counted\n")
         }
-        Err(trouble) => trouble.say(&err, &NAME),
+        Err(trouble) => trouble.say(&err, NAME),
     }
 }
 
@@ -65,12 +64,12 @@ fn main(rt: HostRuntime) -> io::Result<()> {
         Err(NoNumber::Missing) => return tell_all(&rt, None),
         Err(NoNumber::Malformed) => None,
     };
-    if buffer.is_none() {
+    let Some(bytes) = buffer else {
         return complain(
             &rt.stderr(),
-            &NAME,
+            NAME,
             b": a buffer of 0 bytes is refused: number 18\n",
         );
-    }
-    tell_all(&rt, buffer)
+    };
+    tell_all(&rt, Some(bytes))
 }

@@ -32,6 +32,7 @@ fn put_hexadecimal(out: &mut [u8], at: usize, n: u64, digits: usize) -> usize
     put_rest(out, at, &text[..k], 0)
 }
 
+// (The blank stands in each arm: before the match it would need the sign taken apart first.)
 fn put_some(out: &mut [u8], at: usize, p: Part) -> usize
     ensures { Puts out.old at (part_text (Some p)) out.new result }
 {
@@ -68,11 +69,14 @@ fn put_part(out: &mut [u8], at: usize, p: Option<Part>) -> usize
 fn put_line(out: &mut [u8], at: usize, l: Line) -> usize
     ensures { Puts out.old at (line_text l) out.new result }
 {
-    let letter = [l.letter];
-    let first = l.first;
-    let second = l.second;
-    let third = l.third;
-    let a = put_rest(out, at, &letter, 0);
+    let Line {
+        letter,
+        first,
+        second,
+        third,
+    } = l;
+    let start = [letter];
+    let a = put_rest(out, at, &start, 0);
     let b = put_part(out, a, first);
     let c = put_part(out, b, second);
     let d = put_part(out, c, third);

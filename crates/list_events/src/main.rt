@@ -14,8 +14,8 @@ fn send(rt: &impl Print, text: &[u8]) -> Result<(), Failure> {
     rt.write_all(text).map_err(|e| Failure::Unwritten(e.kind()))
 }
 
-// Chunk by chunk to the end of the input; a message found broken is read no further. The chunks are counted, up to a number that no run uses
-// up: a `loop` wants proof of an end, and that an input has one is what nothing says.
+// Chunk by chunk to the end of the input; a message found broken is read no further. (Tried as a `loop`: its measure stayed open, since no
+// Read says that it ends. So the chunks are counted, up to a number that no run uses up.)
 fn list_all(
     input: &mut impl Read,
     rt: &impl Print,
@@ -68,8 +68,8 @@ fn finish(
     written.or_else(|e| unwritten(err, NAME, e.kind()))
 }
 
-// Fixed memory: a chunk of 4,096 bytes, whose lines fit the text. Only a line that standard error doesn't take ends it with an error of its
-// own.
+// Fixed memory: a chunk of 4,096 bytes, whose lines fit the text. Only a line that standard error doesn't take ends it with an error of
+// its own.
 fn main(rt: HostRuntime) -> io::Result<()> {
     let mut chunk = [0u8; 4096];
     let mut out = [0u8; 65536];

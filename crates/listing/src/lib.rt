@@ -13,7 +13,8 @@ const LINE: u128 = 80;
 
 const BYTE_LINE: u128 = 6;
 
-// The reader, where the text ends that isn't out yet, and where the message stands.
+// The reader, where the text ends that isn't out yet, and where the message stands. (The buffer is lent to each call: held here it would be
+// borrowed between the calls too, where the callers write it out.)
 #[derive(Clone, Copy)]
 pub struct Listing {
     pub stream: IStream,
@@ -49,7 +50,8 @@ fn roomy(at: usize, chunk: &[u8], out: &[u8]) -> bool
     at as u128 + (LINE + BYTE_LINE * chunk.len() as u128) <= out.len() as u128
 }
 
-// A chunk's calls, the reader lent to each by mutable reference, and the lines of their events.
+// A chunk's calls, the reader lent to each by mutable reference, and the lines of their events. Where `out` has no room for those of one event
+// of the chunk, they are cut off: `roomy` tells how much is enough. (No `for`: how many events a chunk has, its calls alone say.)
 pub fn list<F: FnMut(&[u8])>(l: Listing, chunk: &[u8], out: &mut [u8], mut send: F) -> Listing
     requires { F.IsAlwaysCallable send }
 {

@@ -26,8 +26,13 @@ impl Trouble {
     // What goes to standard error, by the program's name.
     pub fn say(self, err: &impl Print, name: &[u8]) -> io::Result<()> {
         match self {
-            Trouble::Incomplete(bytes) => incomplete(err, name, bytes),
-            Trouble::Broken(byte) => broken(err, name, byte),
+            Trouble::Incomplete(bytes) => complain_at(
+                err,
+                name,
+                b": incomplete, it ends after byte ",
+                bytes,
+            ),
+            Trouble::Broken(byte) => complain_at(err, name, b": broken at byte ", byte),
             Trouble::Failed(failure) => failure.say(err, name),
         }
     }
@@ -46,19 +51,16 @@ impl Copy {
     fn drain(&mut self, sink: &mut impl Write, out: &[u8]) -> Result<(), Failure> {
         let drained = self.copier.flush(out);
         self.copier = drained.copier;
-        let Ok(n) = drained.answer else {
+        let Some(bytes) = drained.answer.ok().and_then(|n| out.get(..n)) else {
             return Err(Failure::Unwritten(ErrorKind::WriteZero));
         };
-        let Some(bytes) = out.get(..n) else {
-            return Err(Failure::Unwritten(ErrorKind::WriteZero));
-        };
-        self.sent = self.sent.wrapping_add(n as u64);
+        self.sent = self.sent.wrapping_add(bytes.len() as u64);
         sink.write_all(bytes)
             .map_err(|e| Failure::Unwritten(e.kind()))
     }
 
-    // A chunk, call by call until it is spent. After "full" that goes on, once the bytes are out. (Tried as `loop`: its measure stayed open,
-    // since no contract of one call says that a feed after a drain uses a byte or writes one.)
+    // A chunk, call by call until it is spent. After "full" that goes on, once the bytes are out. (Tried as `loop`: its measure stayed
+    // open, since no contract of one call says that a feed after a drain uses a byte or writes one.)
     fn take(
         &mut self,
         chunk: &[u8],
@@ -133,12 +135,4 @@ pub fn complain(err: &impl Print, name: &[u8], what: &[u8]) -> io::Result<()> {
 fn complain_at(err: &impl Print, name: &[u8], what: &[u8], byte: u64) -> io::Result<()> {
     complain(err, name, what)?;
     println!(err; "{byte}")
-}
-
-pub fn broken(err: &impl Print, name: &[u8], byte: u64) -> io::Result<()> {
-    complain_at(err, name, b": broken at byte ", byte)
-}
-
-pub fn incomplete(err: &impl Print, name: &[u8], bytes: u64) -> io::Result<()> {
-    complain_at(err, name, b": incomplete, it ends after byte ", bytes)
 }

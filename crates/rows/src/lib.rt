@@ -35,6 +35,7 @@ pub struct State {
 
 // ---- what a row says
 
+// (An Option, no TryFrom, here and below: its error would say no more than None.)
 fn writer_call(name: &[u8]) -> Option<WriterCall> {
     Some(match name {
         b"unsigned" => WriterCall::Unsigned,
@@ -119,7 +120,8 @@ fn unnamed(told: &[u8], before: Desk, after: Desk) -> Desk {
     if told.contains(&b'~') { after } else { before }
 }
 
-// The buffer begins with these bytes, and is behind them as it was.
+// The buffer begins with these bytes, and is behind them as it was. (By `eq` on iterators, here and below, not == on slices: a row's bytes
+// never stand in memory.)
 fn same_bytes(start: &[u8], before: &[u8], after: &[u8]) -> bool {
     let n = unhex(start).count();
     before.get(n..) == after.get(n..) && unhex(start).eq(after.iter().take(n).copied())

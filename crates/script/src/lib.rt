@@ -25,7 +25,7 @@ pub fn after(line: &[u8], mark: u8) -> &[u8] {
     word(parted(line, mark).1, 0)
 }
 
-// A hexadecimal digit's value.
+// A hexadecimal digit's value. (`to_digit` would take small letters too.)
 fn nibble(b: u8) -> Option<u8> {
     match b {
         b'0'..=b'9' => Some(b - b'0'),

@@ -76,8 +76,7 @@ pub fn shown_of(e: Event) -> Shown
         Event::Fp32Nan(id, n) => with_id(b'F', id, Some(Part::Bits32(n)), None),
         Event::Fp64(id, x) => with_id(b'D', id, Some(Part::Bits64(fp64_bits(x))), None),
         Event::Fp64Nan(id, n) => with_id(b'D', id, Some(Part::Bits64(n)), None),
-        Event::Str(_, b) => Shown::Piece(b),
-        Event::Blob(_, b) => Shown::Piece(b),
+        Event::Str(_, b) | Event::Blob(_, b) => Shown::Piece(b),
         Event::Fixlen(id, s, total) => with_id(
             b'P',
             id,

@@ -1,5 +1,5 @@
-// Standard input and output where they end or fail: a buffer filled, and what a program says of a stream that failed it. `./sofab` makes its
-// status of these lines.
+// Standard input and output where they end or fail: a buffer filled, and what a program says of a stream that failed it. `./sofab` makes
+// its status of these lines.
 #![tactic(auto)]
 
 ghost use Rattle.std.specs.Prelude.{◌<◌, ◌≤◌, length, take, IfOk};

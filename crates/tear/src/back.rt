@@ -41,9 +41,5 @@ pub fn read(log: &mut impl Write, bytes: &[u8], seed: u64) -> io::Result<Option<
         }
     }
     s = s.with(listing.text(&text));
-    Ok(if listing.verdict == Verdict::Complete {
-        Some(s)
-    } else {
-        None
-    })
+    Ok((listing.verdict == Verdict::Complete).then_some(s))
 }

@@ -54,8 +54,8 @@ impl<'a> Cuts<'a> {
         self.chunk = self.chunk.get(n..).unwrap_or_default();
     }
 
-    // The chunk is spent: another one, also an empty one, or the end. A drain comes at the end, and now and then between. Each length goes to
-    // the log.
+    // The chunk is spent: another one, also an empty one, or the end. A drain comes at the end, and now and then between. Each length goes
+    // to the log.
     pub fn turn(&mut self, log: &mut impl Write) -> io::Result<Turn> {
         let left = self.behind.len();
         self.random = next(self.random);

@@ -8,7 +8,8 @@ use istream::IStream;
 use ostream::OStream;
 use std::io;
 
-// The events of a chunk. A call stops at each; the next one, on the chunk's rest, goes on behind it.
+// The events of a chunk. A call stops at each; the next one, on the chunk's rest, goes on behind it. (No `for`: how many events a chunk
+// has, its calls alone say.)
 fn read(rt: &impl Print, start: IStream, chunk: &[u8]) -> io::Result<IStream> {
     let mut reader = start;
     let mut rest = chunk;
@@ -25,7 +26,7 @@ fn read(rt: &impl Print, start: IStream, chunk: &[u8]) -> io::Result<IStream> {
 }
 
 // A number into a buffer of any length: at "full" the buffer is drained, and the call made again from the place that it answered.
-// (The turns are counted: a `loop` wants proof of an end, and over a buffer of no byte there is none.)
+// (Tried as a `loop`: its measure stayed open, since over a buffer of no byte there is no end. So the turns are counted.)
 fn write(
     rt: &impl Print,
     start: OStream,

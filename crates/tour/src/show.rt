@@ -23,7 +23,7 @@ pub fn verdict(rt: &impl Print, answer: Result<Answer, Error>) -> io::Result<()>
     }
 }
 
-// The first n bytes of a buffer.
+// The first n bytes of a buffer. (Cut here once, not at each caller.)
 pub fn bytes(rt: &impl Print, buf: &[u8], n: usize) -> io::Result<()> {
     rt.write_all(buf.get(..n).unwrap_or_default())
 }

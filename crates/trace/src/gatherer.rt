@@ -11,7 +11,8 @@ fn acc(desk: &[u64]) -> PayloadAcc {
     }
 }
 
-// What a call tells, the desk's words 23 and 24 by the protocol's numbers, and its way back.
+// What a call tells, the desk's words 23 and 24 by the protocol's numbers, and its way back. (Of a refusal the part is empty,
+// whichever it is.)
 fn told(a: Result<Option<Whole>, Error>) -> [u64; 2] {
     match a {
         Ok(None) => [0, 0],

@@ -7,9 +7,10 @@ fn send(k: Copier, buf: &[u8], out: &mut [u8], sent: usize) -> usize {
     put_rest(out, sent, buf.get(..k.writer.offset).unwrap_or(b""), 0)
 }
 
-// Copies the ticket in chunks of `size` bytes (0, which is C's number: whole) through the buffer, drains it into `out`, and answers how many
-// bytes went there. A call after another, and a drain whenever the buffer is full: after "full" the chunk's rest, after a verdict the next
-// chunk. Each "full" sends a byte at least, so `out` has a byte for each of a chunk's calls but its last.
+// Copies the ticket in chunks of `size` bytes (0, which is C's number: whole) through the buffer, drains it into `out`, and answers how
+// many bytes went there. A call after another, and a drain whenever the buffer is full: after "full" the chunk's rest, after a verdict the
+// next chunk. Each "full" sends a byte at least, so `out` has a byte for each of a chunk's calls but its last. (A `loop` would need a
+// contract of one call to say that.)
 pub fn bench_copy(ticket: &[u8], size: usize, buf: &mut [u8], out: &mut [u8]) -> usize {
     let most = if size == 0 { ticket.len() } else { size };
     let mut k = Copier::new(buf, 0).copier;

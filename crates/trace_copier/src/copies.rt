@@ -76,7 +76,7 @@ fn store(k: Copier, desk: &mut [u64]) {
     lay(desk, 18, &numbers(k.owed, k.place));
 }
 
-// ---- what a call leaves: the copier, and the words 23 to 27
+// ---- what a call leaves: the copier, and the words 23 to 27, by the protocol's numbers
 
 fn opened(o: Opened, desk: &mut [u64]) {
     let told = match o.answer {
@@ -104,7 +104,7 @@ fn sent(d: Drained, desk: &mut [u64]) {
     lay(desk, 23, &counted(d.answer));
 }
 
-// Of a buffer change `data` is the new buffer. A number of no call is one.
+// Of a buffer change `data` is the new buffer. A number of no call is a buffer change's.
 pub fn trace_copy(desk: &mut [u64], data: &[u8], buf: &mut [u8]) {
     let call = CopierCall::try_from(word(desk, 24)).unwrap_or(CopierCall::BufferSet);
     let k = copier(desk);

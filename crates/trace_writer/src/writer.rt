@@ -56,7 +56,7 @@ pub fn asked(desk: &[u64]) -> Call {
     }
 }
 
-// ---- what a call tells
+// ---- what a call tells, by the protocol's numbers
 
 fn refused(e: Error) -> [u64; 2] {
     [3, e.number() as u64]
@@ -80,6 +80,7 @@ pub fn told(w: Written, desk: &mut [u64]) {
     lay(desk, 23, &answer);
 }
 
+// (The copier's stores a reader too, which is half of each.)
 fn sent(c: Counted, desk: &mut [u64]) {
     store(c.stream, desk);
     lay(desk, 23, &counted(c.answer));
@@ -95,7 +96,8 @@ fn subtype(n: u64) -> FixlenType {
     known.unwrap_or(FixlenType::Blob)
 }
 
-// Floats go by the calls for floats, and where one is a NaN, whose bits no float carries, by those for bits.
+// Floats go by the calls for floats, and where one is a NaN, whose bits no float carries, by those for bits. (One each: a function for both
+// would take the event's case and both calls as closures.)
 fn fp32(c: Call, buf: &mut [u8]) -> Written {
     let bits = narrow(c.value);
     match event::fp32(c.id, bits) {
@@ -120,7 +122,7 @@ fn open(c: Call, buf: &[u8]) -> Written {
     }
 }
 
-// Of a buffer change `data` is the new buffer, and kind 1 says that the old one is drained.
+// Of a buffer change `data` is the new buffer, and kind 1 says that the writer is drained: the protocol's number.
 fn made(call: WriterCall, c: Call, data: &[u8], buf: &mut [u8], desk: &mut [u64]) {
     let w = c.writer;
     let written = match call {

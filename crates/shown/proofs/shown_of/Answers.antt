@@ -39,12 +39,6 @@ returns-in-Fp64 c c' = ap (shown_text c') c.with_id-in-Fp64.ensures ∙ ap (λ (
 pub returns-in-Fp64Nan : goal.returns-in-Fp64Nan
 returns-in-Fp64Nan c c' = ap (shown_text c') c.with_id-in-Fp64Nan.ensures ∙ shows c' _ _ c.in-Fp64Nan.is
 
-pub returns-in-Str : goal.returns-in-Str
-returns-in-Str c c' = shows c' _ _ c.in-Str.is
-
-pub returns-in-Blob : goal.returns-in-Blob
-returns-in-Blob c c' = shows c' _ _ c.in-Blob.is
-
 pub returns-in-Fixlen : goal.returns-in-Fixlen
 returns-in-Fixlen c c' = ap (shown_text c') c.with_id-in-Fixlen.ensures ∙ ap (λ (n : ℕ). shown_text c' (lined 80 c.in-Fixlen.id (Some (Number n)) (Some (Number c.in-Fixlen.total)))) c.raw.ensures ∙ shows c' _ _ c.in-Fixlen.is
 

@@ -28,8 +28,8 @@ fn sum(digest: u64, e: Event) -> u64 {
     }
 }
 
-// Each chunk is called on until it is spent and the verdict comes. With a `loop`, which proves as `tour`'s does, a blob in 64-byte chunks
-// took 1.39 times as long, arrays 1.26.
+// Each chunk is called on until it is spent and the verdict comes. With a `loop`, which proves as `tour`'s does, a blob in 64-byte
+// chunks took 1.39 times as long, arrays 1.26.
 pub fn chunks(bytes: &[u8], size: usize) -> u64 {
     let mut stream = IStream::new();
     let mut digest: u64 = 0;
@@ -51,7 +51,7 @@ pub fn chunks(bytes: &[u8], size: usize) -> u64 {
     digest
 }
 
-// By places: over `chunks`, pieces of 16 bytes took 1.4 times as long. (C gets a number: 0 where no payload is whole.)
+// By places: over `chunks`, pieces of 16 bytes took 1.3 to 1.38 times as long. (C gets a number: 0 where no payload is whole.)
 pub fn gather(bytes: &[u8], size: usize, buf: &mut [u8]) -> u64 {
     let mut acc = PayloadAcc::new();
     let mut at: usize = 0;

@@ -1,4 +1,5 @@
 // `trace_copier` for C: the copier's calls, and its loop for the benchmark, under the names by which compare/ links them.
+// (An export that tells its answer on the desk answers 0, as compare/PROTOCOL.md has it.)
 #![tactic(auto)]
 
 #[unsafe(no_mangle)]

@@ -1,4 +1,5 @@
 // `trace_writer` for C: the writer's calls under the names by which compare/ links them.
+// (An export that tells its answer on the desk answers 0, as compare/PROTOCOL.md has it.)
 #![tactic(auto)]
 
 #[unsafe(no_mangle)]

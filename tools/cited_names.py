@@ -13,7 +13,7 @@ import re
 import sys
 
 # the Rust's own, which has no part here; an instruction; what went; a variable; parts of names; marks of a script's row
-KNOWN = set("""check_install push_raw write_id_type commit_pending on_header on_fixlen_len on_array_count advance_after_element payload_chunk
+KNOWN = set("""require check_install push_raw write_id_type commit_pending on_header on_fixlen_len on_array_count advance_after_element payload_chunk
 step_fixlen_val NoFlush push_byte Handoff Handover config from_raw bsr TMPDIR shm _bits _slowly K V J
 ARCHITECTURE SENTENCES DECISIONS DIFFERENCES CHANGES PORT DESIGN-PASS NOTICE cited_names""".split())
 TOPS = ("crates", "compare", "examples", "include", "tools", "sofab", "crates.txt", ".ci")

@@ -224,7 +224,8 @@ fn alike(m: &Message<'_>, r: Run, n: usize, buf: &mut [u8]) -> Run {
     }
 }
 
-// The calls up to the first that meets the buffer's end, or up to the nth: none are made alike after "full". (Counted by `from.i..n`,
+// The calls up to the first that meets the buffer's end, or up to the nth: none are made alike after "full". (No `while`: that a leg goes
+// on, no contract of one call says. Counted by `from.i..n`,
 // with the turns of `bench_write` by `out`'s length and an Option for `copy`'s answer, strings into 4,096 bytes took 1.75 times as long.)
 fn leg(m: &Message<'_>, from: Run, n: usize, buf: &mut [u8]) -> Run {
     let mut r = from;

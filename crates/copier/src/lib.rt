@@ -35,8 +35,8 @@ pub struct Copied {
     pub copier: Copier,
 }
 
-// What another call answers, or the refusal, and the state after it: of an opening, that the buffer was taken; of a drain, how many bytes of
-// it the caller has to send.
+// What another call answers, or the refusal, and the state after it: of an opening, that the buffer was taken; of a drain, how many bytes
+// of it the caller has to send.
 #[derive(Clone, Copy)]
 pub struct Answered<T> {
     pub answer: Result<T, Error>,
@@ -125,7 +125,8 @@ impl Copier {
         finish(self.writer, self.carry(chunk, buf))
     }
 
-    // The call of a sound copier whose reader goes on: what is owed goes out first.
+    // The call of a sound copier whose reader goes on: what is owed goes out first. (`written` in turns stops so too; it starts at the
+    // output's first byte, and has the way with no test for the buffer's end before that.)
     fn carry(self, chunk: &[u8], buf: &mut [u8]) -> Stop
         requires { Ready self (length buf.old) }
         ensures { Stops (copy base (copy_of self) chunk.now buf.old) result buf.new }

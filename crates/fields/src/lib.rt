@@ -1,7 +1,7 @@
 // A field of one varint or of fixed length, and the markers of a sequence, from any place on and behind the headers that are held back.
 #![tactic(auto)]
 
-ghost use Rattle.std.specs.Prelude.{◌≡◌, ◌++◌};
+ghost use Rattle.std.specs.Prelude.{◌++◌};
 ghost use Rattle.layout.specs.Varint.{shortest};
 ghost use Rattle.layout.specs.Field.{end};
 ghost use Rattle.layout.specs.Copy.{field_bytes};

@@ -14,6 +14,7 @@ fn send(rt: &impl Print, text: &[u8]) -> Result<(), Failure> {
     rt.write_all(text).map_err(|e| Failure::Unwritten(e.kind()))
 }
 
+// (A write that failed is not tried again: the text's closure keeps its error, here and in `listing_vectors`, since `list` can't fail.)
 // Chunk by chunk to the end of the input; a message found broken is read no further. (Tried as a `loop`: its measure stayed open, since no
 // Read says that it ends. So the chunks are counted, up to a number that no run uses up.)
 fn list_all(

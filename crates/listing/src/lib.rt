@@ -36,10 +36,7 @@ impl Listing {
     pub fn text(self, out: &[u8]) -> &[u8]
         ensures { self.at ≤ length out.now → result.now ≡ take self.at out.now }
     {
-        match out.get(..self.at) {
-            Some(text) => text,
-            None => b"",
-        }
+        out.get(..self.at).unwrap_or_default()
     }
 }
 
@@ -50,8 +47,8 @@ fn roomy(at: usize, chunk: &[u8], out: &[u8]) -> bool
     at as u128 + (LINE + BYTE_LINE * chunk.len() as u128) <= out.len() as u128
 }
 
-// A chunk's calls, the reader lent to each by mutable reference, and the lines of their events. Where `out` has no room for those of one event
-// of the chunk, they are cut off: `roomy` tells how much is enough. (No `for`: how many events a chunk has, its calls alone say.)
+// A chunk's calls, the reader lent to each by mutable reference, and the lines of their events. Where `out` has no room for those of one
+// event of the chunk, they are cut off: `roomy` tells how much is enough. (No `for`: how many events a chunk has, its calls alone say.)
 pub fn list<F: FnMut(&[u8])>(l: Listing, chunk: &[u8], out: &mut [u8], mut send: F) -> Listing
     requires { F.IsAlwaysCallable send }
 {

@@ -41,8 +41,8 @@ pub enum Answer {
     Full(usize),
 }
 
-// And the state, which a refusal hands back as it was. (This and `Counted` are types of their own: one generic in the answer would have
-// that named at every use, in the definitions too.)
+// And the state, which a refusal hands back as it was. (This and `Counted` are types of their own, and no generic one as
+// the copier's `Answered`: their names stand in the definitions of all calls.)
 #[derive(Clone, Copy)]
 pub struct Written {
     pub answer: Result<Answer, Error>,

@@ -1,5 +1,5 @@
 // The calls that open and close a sequence. An opened one is held back until it has content.
-ghost use Rattle.std.specs.Prelude.{◌≡◌, ◌≤◌, ◌<◌, true, length};
+ghost use Rattle.std.specs.Prelude.{◌≡◌, ◌<◌, true, length};
 ghost use Rattle.layout.specs.Limits.{base};
 ghost use Rattle.ostream.specs.Stream.{lazy_depth, sound_stream, holding, dropped};
 ghost use Rattle.ostream.specs.Emission.{result_of, written};

@@ -4,7 +4,7 @@
 // would be slower and no less right. The private functions answer none for what is not so, or not whole.
 #![tactic(auto)]
 
-ghost use Rattle.std.specs.Prelude.{◌≡◌, ℕ, ◌+◌, ◌/◌, ◌%◌, ◌≤◌, ◌<◌, ◌++◌, length, take, true, IfSome};
+ghost use Rattle.std.specs.Prelude.{◌≡◌, ℕ, ◌+◌, ◌/◌, ◌%◌, ◌≤◌, ◌<◌, ◌++◌, length, take, IfSome};
 ghost use Rattle.layout.specs.Limits.{base};
 ghost use Rattle.layout.specs.Varint.{shortest};
 ghost use Rattle.layout.specs.Field.{t_fixlen, t_unsigneds, t_signeds, t_floats};
@@ -102,7 +102,7 @@ fn value_at(t: &[u8]) -> Option<(u64, &[u8])>
     short_value_at(t).or_else(|| long_value_at(t))
 }
 
-// A header of one byte or two has a small id.
+// A header of one byte or two has a small id. (Passing's says why there is none, as its `count_at`.)
 fn header_at(t: &[u8]) -> Option<(u64, &[u8])>
     ensures { IfSome result (λ r. Ends t.now (λ bs. (r.0 / 8 ≤ base.id) × (bs ≡ shortest r.0)) r.1.now) }
 {
@@ -122,7 +122,8 @@ fn count_at(t: &[u8]) -> Option<(u32, &[u8])>
     }
 }
 
-// How many numbers stand at the start, `most` at most, and what is behind them.
+// How many numbers stand at the start, `most` at most, and what is behind them. (Passing's `skip_varints` and the loop of lengths have no
+// count to answer.)
 fn numbers_at(t: &[u8], most: u32) -> (u32, &[u8])
     ensures { (result.0 ≤ most) × Ends t.now (Numbers base result.0) result.1.now }
 {

@@ -3,7 +3,6 @@
 // stands for.
 #![tactic(auto)]
 
-ghost use Rattle.std.specs.Prelude.{◌≡◌};
 ghost use Rattle.layout.specs.Limits.{base};
 ghost use Rattle.layout.specs.Varint.{varint};
 ghost use Rattle.layout.specs.Message.{header_of, count_of};

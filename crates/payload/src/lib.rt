@@ -58,7 +58,7 @@ fn holds_whole(total: usize, offset: usize, given: usize) -> bool
 }
 
 // The first n bytes, or none.
-fn first<'a>(s: &'a [u8], n: usize) -> &'a [u8]
+fn first(s: &[u8], n: usize) -> &[u8]
     ensures { result.now ≡ first_of s.now n }
 {
     s.get(..n).unwrap_or_default()

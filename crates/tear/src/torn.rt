@@ -7,9 +7,7 @@ use std::io::{self, Write};
 fn drained<'a>(copier: &mut Copier, buf: &[u8], due: &'a [u8]) -> Option<&'a [u8]> {
     let drained = copier.flush(buf);
     *copier = drained.copier;
-    let Ok(n) = drained.answer else {
-        return None;
-    };
+    let n = drained.answer.ok()?;
     due.strip_prefix(buf.get(..n)?)
 }
 

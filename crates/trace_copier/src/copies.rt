@@ -1,7 +1,7 @@
 // One call of the copier. Its state are the reader's words and the writer's, then at 18 to 22 what is owed: its number, an id, a kind, a
 // value, and the place reached in it. A call finds its number at 24 and an offset at 28, tells its answer at 23, the bytes used or to be
 // sent at 24, and a refusal's number at 27 (of drain and change at 24).
-use copier::{Answer, Copied, Copier, Drained, Opened};
+use copier::{Answer, Answered, Copied, Copier};
 use desk::calls::CopierCall;
 use desk::{byte, lay, narrow, word};
 use owed::Owed;
@@ -78,7 +78,7 @@ fn store(k: Copier, desk: &mut [u64]) {
 
 // ---- what a call leaves: the copier, and the words 23 to 27, by the protocol's numbers
 
-fn opened(o: Opened, desk: &mut [u64]) {
+fn opened(o: Answered<()>, desk: &mut [u64]) {
     let told = match o.answer {
         Ok(()) => [0u64; 5],
         Err(e) => [3, 0, 0, 0, e.number() as u64],
@@ -99,7 +99,7 @@ fn copied(f: Copied, desk: &mut [u64]) {
 }
 
 // The words 25 to 27 stay as they are. (Its namesake of `trace_writer` stores the writer alone, which is half of each.)
-fn sent(d: Drained, desk: &mut [u64]) {
+fn sent(d: Answered<usize>, desk: &mut [u64]) {
     store(d.copier, desk);
     lay(desk, 23, &counted(d.answer));
 }

@@ -41,7 +41,7 @@ pub fn announced(carried: Carried, id: u32, r: RawType, len: u64) -> Option<Step
 }
 
 // A fixed-length field's word is whole. The subtype is the wire's number still, which may name none: a FixlenType would leave that refusal
-// to each of the callers.
+// to each of the callers. (Case by case, here and below, as in `owing`, which says why.)
 pub fn fixlen(carried: Carried, id: u32, len: u64, subtype: u8) -> Option<Stepped>
     ensures { result ≡ stepped (at_subtype base carried.depth id len (subtype_of subtype)) }
 {

@@ -8,9 +8,8 @@ ghost use Rattle.layout.specs.Varint.{shortest};
 ghost use Rattle.layout.specs.Field.{float_array};
 ghost use Rattle.layout.specs.Copy.{field_bytes, fixlen_bytes};
 ghost use Rattle.types.specs.Types.{subtype};
-ghost use Rattle.checks.specs.Check.{check_of};
 ghost use Rattle.refusals.specs.Tests.{payload_too_long, array_too_long};
-ghost use Rattle.write_slowly.specs.Went.{went_by, judgement_of, field_from};
+ghost use Rattle.write_slowly.specs.Went.{went_by, field_from};
 
 use arrays::{put_float_array, put_integer_array};
 use checks::{check_field, check_sized};

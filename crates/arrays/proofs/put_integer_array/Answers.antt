@@ -13,7 +13,7 @@ use Rattle.outcomes.specs.Outcome.{reaches}
 use Rattle.arrays.proofs.Integers.{stopped, counted-out}
 use Rattle.arrays.proofs.put_integer_array.Goals as goal
 
--- one more byte than was asked for, at most
+-- one more byte than was asked for, at most: a lemma by cases, and no answer to a goal
 at_most : (t : Bool) (most part r : ℕ) → r ≡ pick t (most + 1) (most - part) → r ≤ most + 1
 at_most true most part r e = omega arith
 at_most false most part r e = omega arith

@@ -79,20 +79,17 @@ pub fn put_fittings<T: Integer>(buf: &mut [u8], pos: usize, items: &[T]) -> usiz
     requires { pos + elements_most (length items.now) ≤ length buf.old }
     ensures { PutsAll buf.old pos (each (λ x. shortest (T.number x)) items.now) buf.new result }
 {
+    let mut left = items;
     let mut at = pos;
-    let mut i: usize = 0;
-    while 1 < items.len() - i {
-        let v = items[i].number();
-        let w = items[i + 1].number();
-        let mid = put_fitting(buf, at, v);
-        at = put_fitting(buf, mid, w);
-        i += 2;
+    while let [v, w, rest @ ..] = left {
+        let mid = put_fitting(buf, at, v.number());
+        at = put_fitting(buf, mid, w.number());
+        left = rest;
     }
-    if i < items.len() {
-        let v = items[i].number();
-        return put_fitting(buf, at, v);
+    match left {
+        [v, ..] => put_fitting(buf, at, v.number()),
+        [] => at,
     }
-    at
 }
 
 // The varint of v from pos on, with a test for the buffer's end at each byte only where it is near.

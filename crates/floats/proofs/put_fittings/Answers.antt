@@ -9,9 +9,10 @@ pub loop-x-preserved : goal.loop-x-preserved
 loop-x-preserved g c =
     let float = g.T.Float in
     let e = c.bits.ensures ∙ ap float.bits c.x-item.is in
-    roomy_next (λ x. low_bytes float.BYTES (float.bits x)) _ _ _ _ _ _ _ c.loop-x.invariant c.x-item.result _ _ _ c.loop-x-test.true (ap (low_bytes float.BYTES) e) (low_fits float.BYTES _) (rw c.BYTES.ensures at c.put_low-at.ensures)
+    roomy_next (λ x. low_bytes float.BYTES (float.bits x)) _ _ _ _ _ _ _ _ c.loop-x.invariant c.x-item.result _ _ _ c.loop-x-test.true (ap (low_bytes float.BYTES) e) (low_fits float.BYTES _) (rw c.BYTES.ensures at c.put_low-at.ensures)
 
 pub returns : goal.returns
 returns g c =
     let float = g.T.Float in
-    roomy_end (λ x. low_bytes float.BYTES (float.bits x)) _ _ _ _ _ _ _ c.loop-x.invariant c.loop-x-test.false
+    let w = roomy_end (λ x. low_bytes float.BYTES (float.bits x)) _ _ _ _ _ _ _ _ c.loop-x.invariant c.loop-x-test.false in
+    (w.0, w.1)

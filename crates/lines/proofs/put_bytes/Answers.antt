@@ -1,7 +1,5 @@
 -- `lines::put_bytes`.
-use mathlib.Core.Path.{sym, ap}
-use lib.Seq.{take_all}
-use Rattle.layout.specs.Field.{each}
+use mathlib.Core.Path.{sym}
 use Rattle.event_list.specs.Lines.{byte_line}
 use Rattle.putting.proofs.Turns.{says}
 use Rattle.lines.proofs.Texts.{joined, nothing, each_none, each_more}
@@ -13,6 +11,3 @@ loop-b-init c = says _ _ _ _ _ _ (sym (each_none byte_line)) (nothing _ _)
 pub loop-b-preserved : goal.loop-b-preserved
 loop-b-preserved c =
     says _ _ _ _ _ _ (each_more byte_line c.args.bytes.now c.loop-b.b-index c.loop-b-test.true) (joined _ _ _ _ _ _ _ _ c.loop-b.invariant c.put_byte-next.ensures)
-
-pub returns : goal.returns
-returns c = says _ _ _ _ _ _ (ap (each byte_line) (take_all _ _ c.loop-b-test.false)) c.loop-b.invariant

@@ -2,12 +2,9 @@
 use mathlib.Core.Path.{sym}
 use native.Mathlib.Omega.{arith}
 use Rattle.shortest.proofs.Spans.{ends_behind}
-use Rattle.own.proofs.Values.{coming_start, coming_more, coming_value, coming_one}
+use Rattle.own.proofs.Values.{coming_more, coming_value, coming_one}
 use Rattle.own.proofs.long_value_at.Goals as goal
 use Rattle.own.proofs.long_value_at.Goals.{else-b-eq0-via-then-b-eq0+else-k-gt0, else-b-eq0-via-else-b-eq0}
-
-pub loop-k-init : goal.loop-k-init
-loop-k-init c = coming_start c.args.t.now _ c.new-acc.ensures
 
 pub loop-k-preserved : goal.loop-k-preserved
 loop-k-preserved c = coming_more c.loop-k.invariant c.loop-k-test.true _ (c.type_inv.t _).fits (sym c.in-More.ensures)

@@ -7,7 +7,7 @@ use Rattle.layout.specs.Varint.{shortest}
 use Rattle.layout.specs.Copy.{field_bytes}
 use Rattle.refusals.specs.Judged.{accepted, judged}
 use Rattle.checks.proofs.Checks.{check_passes}
-use Rattle.ostream.proofs.Calls.{refuses, Sound, settles, alters, begin_knows, few_clears}
+use Rattle.ostream.proofs.Calls.{refuses, Sound, settles, alters, begin_knows}
 use borrow.Author.Tests.{lt-ltb, le-ltb}
 use Rattle.ostream.specs.declared.OStream.{OStream}
 use Rattle.ostream.specs.Stream.{lazy_depth, held_bytes, holding, committed}
@@ -31,9 +31,6 @@ returns-then-self c =
     let w = (goal.at.returns-then-self c).In_default in
     let n = lt-ltb c.args.self.npending lazy_depth c.if-self.true in
     alters (begin_call c.args.self (length c.args.buf.now) c.args.id) _ _ _ _ (holding c.args.self c.args.id) (simp n) (simp n) (passes w) (knows w).inside refl (c.alter.ensures ∙ ap (λ (x : OStream). unwritten c.args.self c.args.place x) c.hold.ensures)
-
-pub settle-requires : goal.settle-requires
-settle-requires c = few_clears c.args.self (knows (goal.at.settle-requires c).In_default).few c.put_marker-outcome.result
 
 pub returns : goal.returns
 unfolding held_bytes field_bytes

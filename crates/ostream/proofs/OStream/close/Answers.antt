@@ -4,11 +4,8 @@ use native.Mathlib.Omega.{arith}
 use lib.ListN.{length}
 use borrow.Author.Tests.{ne_eqb}
 use Rattle.ostream.specs.Stream.{held_bytes}
-use Rattle.ostream.proofs.Calls.{is_sound, few_clears, settles}
+use Rattle.ostream.proofs.Calls.{is_sound, settles}
 use Rattle.ostream.proofs.OStream.close.Goals as goal
-
-pub settle-requires : goal.settle-requires
-settle-requires c = few_clears c.args.self (is_sound c.args.self (length c.args.buf.now) c.requires.0).few c.put_close-outcome.result
 
 pub returns : goal.returns
 unfolding held_bytes

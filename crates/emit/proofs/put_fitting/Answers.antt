@@ -1,8 +1,7 @@
 -- `emit::put_fitting`: each byte leaves the varint of the rest to write.
 use native.Mathlib.Omega.{arith}
-use lib.ListN.{length-set}
 use Rattle.layout.specs.Varint.{shortest}
-use Rattle.putting.proofs.Turns.{followed, same_size}
+use Rattle.putting.proofs.Turns.{followed}
 use Rattle.putting.specs.Put.{Puts}
 use Rattle.varint_bytes.proofs.Digits.{one_byte, two_bytes, after_two}
 use Rattle.emit.proofs.put_fitting.Goals as goal
@@ -12,18 +11,6 @@ returns-then-v-lt128 c = one_byte _ _ _ (omega arith) c.if-v-lt128.true
 
 pub returns-then-second-lt128 : goal.returns-then-second-lt128
 returns-then-second-lt128 c = two_bytes _ _ _ (omega arith) c.if-v-lt128.false c.if-second-lt128.true
-
-pub bounds-buf-pos-then-second-lt128 : goal.bounds-buf-pos-then-second-lt128
-bounds-buf-pos-then-second-lt128 c = simp length-set (omega arith)
-
-pub bounds-buf-pos-3 : goal.bounds-buf-pos-3
-bounds-buf-pos-3 c = simp length-set (omega arith)
-
-pub put_third-requires : goal.put_third-requires
-put_third-requires c = simp length-set (omega arith)
-
-pub shape_of-buf : goal.shape_of-buf
-shape_of-buf c = same_size _ _ _ _ _ (let done : Puts c.args.buf.now c.args.pos (shortest c.args.v) c.put_third.new.buf c.put_third.result = followed _ _ _ _ _ _ _ _ (after_two _ _ _ (omega arith) c.if-v-lt128.false c.if-second-lt128.false) c.put_third.ensures in done)
 
 pub returns : goal.returns
 returns c = (let done : Puts c.args.buf.now c.args.pos (shortest c.args.v) c.put_third.new.buf c.put_third.result = followed _ _ _ _ _ _ _ _ (after_two _ _ _ (omega arith) c.if-v-lt128.false c.if-second-lt128.false) c.put_third.ensures in done)

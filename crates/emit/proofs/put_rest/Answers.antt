@@ -3,7 +3,7 @@ use mathlib.Core.Path.{◌≡◌, subst}
 use Prim.Native.Nat.{ℕ, ◌+◌}
 use native.Mathlib.Omega.{arith}
 use lib.ListN.{drop, length-drop}
-use Rattle.putting.proofs.Turns.{start, no_room, none_left, copied, copied_all, copy_start}
+use Rattle.putting.proofs.Turns.{start, no_room, none_left, copied, copied_all}
 use Rattle.putting.specs.Put.{Puts}
 use Rattle.emit.proofs.put_rest.Goals as goal
 
@@ -12,9 +12,6 @@ returns-then-buf-pos c = no_room _ _ _ _ _ _ (start _ _ _) c.if-buf-pos.true
 
 pub returns-then-bytes-from : goal.returns-then-bytes-from
 returns-then-bytes-from c = none_left _ _ _ _ _ _ (start _ _ _) (omega (arith, length-drop c.args.from c.args.bytes.now))
-
-pub loop-k-init : goal.loop-k-init
-loop-k-init c = copy_start c.args.buf.now c.args.pos c.args.bytes.now c.args.from
 
 pub loop-k-preserved : goal.loop-k-preserved
 loop-k-preserved c = copied _ _ _ _ _ _ _ c.loop-k.invariant (omega arith) (omega arith)

@@ -1,5 +1,5 @@
 -- `read_slowly::slowly` meets its contract: refused as unsound, a payload, an empty piece that is due, broken, or byte by byte.
-use mathlib.Core.Path.{refl, sym, ap, ◌∙◌, subst}
+use mathlib.Core.Path.{refl, sym, ap, ◌∙◌}
 use native.Mathlib.Omega.{arith}
 use mir.Syntax.{w8}
 use mir.Val.{Fits}
@@ -7,7 +7,6 @@ use borrow.Author.Tests.{not-true, not-false}
 use Rattle.layout.specs.Limits.{base}
 use Rattle.phase.specs.declared.Phase.{Phase}
 use Rattle.phase.specs.Phases.{state_at}
-use Rattle.phase.specs.Sound.{SoundState}
 use Rattle.phase.proofs.Phases.{phase_is, at_bytes, at_bytes_live}
 use Rattle.read_slowly.proofs.Ways.{call_end_sound, call_end_broken, call_end_unsound, owed-piece}
 use borrow.Author.Rules.{rules}
@@ -18,11 +17,6 @@ pub returns-then-not-sound : goal.returns-then-not-sound
 returns-then-not-sound c =
     let f : Fits w8 c.args.carried.depth = search rules in
     c.unsound.ensures ∙ call_end_unsound base c.args.phase c.args.carried c.args.chunk.now (omega (arith, f.fits)) (sym c.sound.ensures ∙ not-true _ c.if-not-sound.true-raw)
-
-pub payload-requires : goal.payload-requires
-payload-requires c =
-    let f : Fits w8 c.args.carried.depth = search rules in
-    (subst (λ (p : Phase). SoundState base (state_at c.args.carried.depth p)) c.in-Payload.is (phase_is base c.args.carried.depth c.args.phase (omega (arith, f.fits)) (sym c.sound.ensures ∙ not-false _ c.if-not-sound.false-raw))).1.1.1
 
 pub scan-requires : goal.scan-requires
 scan-requires c =

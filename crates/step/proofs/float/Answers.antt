@@ -17,17 +17,6 @@ use Rattle.step.proofs.Steps.{joined_byte, float_more, float_whole}
 use Rattle.phase.proofs.Steps.{raised}
 use Rattle.step.proofs.float.Goals as goal
 
-pub overflow_mul-x : goal.overflow_mul-x
-overflow_mul-x c =
-    record { fits = omega (arith, bytes_8 c.args.w, c.requires.0) }
-
-pub overflow_shl-x : goal.overflow_shl-x
-overflow_shl-x c = omega (arith, bytes_8 c.args.w, c.requires.0)
-
-pub overflow_add-k : goal.overflow_add-k
-overflow_add-k c =
-    record { fits = omega (arith, bytes_8 c.args.w, c.requires.0) }
-
 pub float_event-requires : goal.float_event-requires
 float_event-requires c =
     let e : c.args.k + 1 ≡ bytes_of (width c.args.w) = omega (arith, c.requires.0, c.if-k-bytes.false, c.bytes.ensures) in

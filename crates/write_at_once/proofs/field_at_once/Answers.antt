@@ -1,21 +1,14 @@
 -- `write_at_once::field_at_once`: the tests, and then the write.
 use Prim.Native.Nat.{ℕ, ◌+◌, ◌*◌}
 use mathlib.Core.Path.{ap, ◌∙◌}
-use native.Mathlib.Omega.{arith}
 use lib.ListN.{length}
 use Rattle.layout.specs.Limits.{base}
 use Rattle.layout.specs.Copy.{fixlen_bytes}
 use Rattle.types.specs.Types.{subtype, fixlen_raw}
 use Rattle.at_ease.specs.AtOnce.{easy_with, roomy_at}
-use Rattle.at_ease.proofs.AtOnce.{refused, behind, within}
+use Rattle.at_ease.proofs.AtOnce.{behind}
 use Rattle.write_at_once.proofs.Rows.{field-whole}
 use Rattle.write_at_once.proofs.field_at_once.Goals as goal
-
-pub returns-then-not-at_ease_with : goal.returns-then-not-at_ease_with
-returns-then-not-at_ease_with c = refused _ (easy_with c.args.nest.depth c.args.nest.held c.args.id (length c.args.bytes.now) base.size) (roomy_at (length c.args.buf.now) c.args.pos c.args.nest.places (length c.args.bytes.now)) c.args.buf.now c.args.pos (fixlen_bytes c.args.id (subtype c.args.t) c.args.bytes.now) c.at_ease_with.ensures c.if-not-at_ease_with.true-raw
-
-pub overflow_cast-bytes : goal.overflow_cast-bytes
-overflow_cast-bytes c = let n = within _ c.args.nest.depth c.args.nest.held c.args.id (length c.args.bytes.now) base.size c.at_ease_with.ensures c.if-not-at_ease_with.false-raw in record { fits = omega arith }
 
 pub returns : goal.returns
 unfolding fixlen_bytes

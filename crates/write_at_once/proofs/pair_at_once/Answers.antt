@@ -1,15 +1,11 @@
 -- `write_at_once::pair_at_once`: the tests, and then the write.
 use Prim.Native.Nat.{◌+◌, ◌*◌}
 use mathlib.Core.List.{◌++◌}
-use lib.ListN.{length}
 use Rattle.layout.specs.Varint.{shortest}
-use Rattle.at_ease.specs.AtOnce.{easy_at, roomy_at}
-use Rattle.at_ease.proofs.AtOnce.{refused, behind}
+use Rattle.at_ease.specs.AtOnce.{easy_at}
+use Rattle.at_ease.proofs.AtOnce.{behind}
 use Rattle.write_at_once.proofs.Rows.{pair_whole}
 use Rattle.write_at_once.proofs.pair_at_once.Goals as goal
-
-pub returns-then-not-at_ease : goal.returns-then-not-at_ease
-returns-then-not-at_ease c = refused _ (easy_at c.args.nest.depth c.args.nest.held c.args.id) (roomy_at (length c.args.buf.now) c.args.pos c.args.nest.places 0) c.args.buf.now c.args.pos (shortest (c.args.id * 8 + c.args.wire) ++ shortest c.args.value) c.at_ease.ensures c.if-not-at_ease.true-raw
 
 pub returns : goal.returns
 returns c =

@@ -1,14 +1,9 @@
 -- `write_at_once::put_field`: the tests, then one write after another.
-use mathlib.Core.List.{◌++◌}
 use native.Mathlib.Omega.{arith}
 use lib.ListN.{length}
-use Rattle.layout.specs.Varint.{shortest}
-use Rattle.at_ease.proofs.AtOnce.{has_room, fails, passes, roomy, made, unmade}
+use Rattle.at_ease.proofs.AtOnce.{has_room, passes, roomy, made}
 use Rattle.write_at_once.proofs.Rows.{second_fits, row_made}
 use Rattle.write_at_once.proofs.put_field.Goals as goal
-
-pub returns-then-not-is_roomy : goal.returns-then-not-is_roomy
-returns-then-not-is_roomy c = unmade _ c.args.buf.now c.args.pos (shortest c.args.header ++ (shortest c.args.second ++ c.args.bytes.now)) (fails _ _ c.is_roomy.ensures c.if-not-is_roomy.true-raw)
 
 pub put_fitting-mid-requires : goal.put_fitting-mid-requires
 put_fitting-mid-requires c = let h = has_room _ _ _ (roomy _ _ _ (length c.args.bytes.now) c.args.places c.is_roomy.ensures c.if-not-is_roomy.false-raw) in omega arith

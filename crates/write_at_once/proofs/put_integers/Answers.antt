@@ -1,14 +1,10 @@
 -- `write_at_once::put_integers`: the tests, then one write after another.
 use native.Mathlib.Omega.{arith}
 use lib.ListN.{length}
-use Rattle.layout.specs.Varint.{shortest}
-use Rattle.elements.specs.OutAfter.{elements_most, row_of}
-use Rattle.at_ease.proofs.AtOnce.{has_room, fails, passes, roomy, unmade_whole}
+use Rattle.elements.specs.OutAfter.{elements_most}
+use Rattle.at_ease.proofs.AtOnce.{has_room, passes, roomy}
 use Rattle.write_at_once.proofs.Rows.{second_fits, rest-fits, array_made}
 use Rattle.write_at_once.proofs.put_integers.Goals as goal
-
-pub returns-then-not-is_roomy : goal.returns-then-not-is_roomy
-returns-then-not-is_roomy g c = unmade_whole _ c.args.buf.now c.args.pos (row_of c.args.header (λ x. shortest (g.T.Integer.number x)) c.args.items.now) (fails _ _ c.is_roomy.ensures c.if-not-is_roomy.true-raw)
 
 pub put_fitting-mid-requires : goal.put_fitting-mid-requires
 put_fitting-mid-requires g c = let h = has_room _ _ _ (roomy _ _ _ (elements_most (length c.args.items.now)) c.args.places c.is_roomy.ensures c.if-not-is_roomy.false-raw) in omega arith

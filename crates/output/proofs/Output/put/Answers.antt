@@ -1,10 +1,5 @@
 -- `output::Output::put`: its segments in a row.
-use Prim.Native.Nat.{ℕ}
-use mathlib.Core.Path.{sym, ap, ◌∙◌}
-use Rattle.layout.specs.Field.{low_bytes}
-use lib.ListN.{drop}
-use Rattle.putting.proofs.Turns.{whole_as}
-use Rattle.output.specs.declared.Output.{Output}
+use mathlib.Core.Path.{ap}
 use Rattle.output.specs.Output.{output_bytes}
 use Rattle.emit.proofs.Segments.{joined, joined-three}
 use Rattle.output.proofs.Laws.{landed, landed_none}
@@ -21,9 +16,3 @@ returns-in-Two c = landed _ _ _ _ _ _ (ap output_bytes c.in-Two.is) (joined _ _ 
 
 pub returns-in-Three : goal.returns-in-Three
 returns-in-Three c = landed _ _ _ _ _ _ (ap output_bytes c.in-Three.is) (joined-three _ _ _ _ _ _ _ _ _ _ _ c.put_varint-in-Three.ensures c.put_varint-next.ensures c.put_varint-in-Three-2.ensures)
-
-pub returns-in-Four : goal.returns-in-Four
-returns-in-Four c = whole_as _ _ _ _ _ _ (ap (λ (v : ℕ). drop c.args.place (low_bytes 4 v)) c.from.ensures ∙ ap (λ (o : Output). drop c.args.place (output_bytes o)) (sym c.in-Four.is)) c.put_part.ensures
-
-pub returns-in-Eight : goal.returns-in-Eight
-returns-in-Eight c = whole_as _ _ _ _ _ _ (ap (λ (o : Output). drop c.args.place (output_bytes o)) (sym c.in-Eight.is)) c.put_part-in-Eight.ensures

@@ -24,6 +24,3 @@ returns-in-One c = let l = (let f : Fits w64 c.in-One.a = search rules in length
 
 pub returns-in-Two : goal.returns-in-Two
 returns-in-Two c = let h : c.args.pos ≤ length c.args.buf.now = (omega arith) in fitting_two c.args.buf.now c.args.pos (shortest c.in-Two.a) (shortest c.in-Two.b) (output_bytes c.args.self) _ _ _ _ h (ap output_bytes c.in-Two.is) c.put_fitting-mid.ensures c.put_fitting-in-Two.ensures (let f : Fits w64 c.in-Two.a = search rules in length-longest base c.in-Two.a f.fits) (let f : Fits w64 c.in-Two.b = search rules in length-longest base c.in-Two.b f.fits)
-
-pub returns-in_default : goal.returns-in_default
-returns-in_default c = c.put_bounded.ensures

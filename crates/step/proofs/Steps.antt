@@ -1,11 +1,15 @@
 -- A byte of a varint, a count or a float, as the machine's step in the form in which the code makes it: a law for each way out of a function.
-use mathlib.Core.Path.{◌≡◌, sym, ap, ◌∙◌, subst}
+use mathlib.Core.Path.{◌≡◌, refl, sym, ap, ◌∙◌, subst}
+use mathlib.Core.Logic.{inl, inr}
+use mathlib.Core.List.{[], ◌∷◌}
 use Prim.Native.Nat.{ℕ, ◌+◌, ◌*◌, ◌%◌, ◌^◌, ◌<◌, ◌≤◌}
 use native.Mathlib.Nat.{add_comm}
 use native.Mathlib.Omega.{arith}
 use lib.Pow.{shl_exact}
 use lib.Bits.{bit_or, or_shifted_r}
 use borrow.Author.Tests.{lt-ltb, le-ltb}
+use types.Run.{OneOf}
+use denote.Enum.Declared.{tag_of}
 use Rattle.std.specs.Prelude.{Some, None}
 use Rattle.layout.specs.Limits.{Limits}
 use Rattle.layout.specs.Varint as varints
@@ -20,6 +24,7 @@ use Rattle.varint.specs.declared.Push.{Push}
 use Rattle.varint.specs.declared.Push.TheVariants.{More, Value, Overlong}
 use Rattle.varint.specs.Varint.{Sound, pushed, unanswer}
 use Rattle.varint.proofs.Laws.{layout_step}
+use Rattle.varint.specs.contracts.Push.{the_type}
 use Rattle.event.specs.Event.{declared}
 use Rattle.phase.specs.declared.Phase.TheVariants.{Float}
 use Rattle.phase.specs.Phases.{phase_in, carried_at}
@@ -41,9 +46,16 @@ module _ (L : Limits) (a : Acc) (b : ℕ) (s : Sound L a) (p : Push) (e : p ≡ 
   unfolding within
   more_in x h = sym (ap stepped (pushing (More x) h))
 
-  pub over_in : p ≡ Overlong → None ≡ stepped (within d (varints.push L a.taken a.value b) P F)
+  pub over_in : OneOf (0 ∷ 2 ∷ []) (tag_of the_type p) → OneOf (1 ∷ 2 ∷ []) (tag_of the_type p) → None ≡ stepped (within d (varints.push L a.taken a.value b) P F)
   unfolding within
-  over_in h = sym (ap stepped (pushing Overlong h))
+  over_in h i = sym (ap stepped (pushing Overlong (overlong p h i)))
+    where
+      overlong : (p : Push) → OneOf (0 ∷ 2 ∷ []) (tag_of the_type p) → OneOf (1 ∷ 2 ∷ []) (tag_of the_type p) → p ≡ Overlong
+      overlong (More a) h (inl i) = absurd (omega arith)
+      overlong (More a) h (inr i) = absurd (omega arith)
+      overlong (Value v) (inl h) i = absurd (omega arith)
+      overlong (Value v) (inr h) i = absurd (omega arith)
+      overlong Overlong h i = refl
 
 -- ---- floats, low byte first
 

@@ -33,11 +33,14 @@ fn varint<P: FnOnce(Acc) -> Phase, V: FnOnce(u64) -> Option<Stepped>>(
     requires value { V.IsAlwaysCallable whole }
     ensures { Takes (P.post under_way) (V.post whole) carried.depth a b result }
 {
-    match a.push(b) {
-        Push::More(next) => Some(Stepped::On(under_way(next), carried)),
-        Push::Value(v) => whole(v),
-        Push::Overlong => None,
-    }
+    let p = a.push(b);
+    let Push::Value(v) = p else {
+        let Push::More(next) = p else {
+            return None;
+        };
+        return Some(Stepped::On(under_way(next), carried));
+    };
+    whole(v)
 }
 
 // A header's varint is whole: it is taken apart, and refused where its id is too large.

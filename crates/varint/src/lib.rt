@@ -78,7 +78,8 @@ impl Acc {
 pub fn zigzag_encode(v: i64) -> u64
     ensures { result ≡ zigzag v }
 {
-    let doubled = v.cast_unsigned().wrapping_mul(2);
+    let bits = v.cast_unsigned();
+    let doubled = bits.wrapping_add(bits);
     if v < 0 { !doubled } else { doubled }
 }
 

@@ -17,7 +17,7 @@ use write_slowly::{float_array, integer_array};
 impl OStream {
     // An array of unsigned integers.
     pub fn write_array_unsigned(
-        self,
+        mut self,
         buf: &mut [u8],
         id: u32,
         items: &[u64],
@@ -29,7 +29,13 @@ impl OStream {
     }
 
     // An array of signed integers.
-    pub fn write_array_signed(self, buf: &mut [u8], id: u32, items: &[i64], place: usize) -> Written
+    pub fn write_array_signed(
+        mut self,
+        buf: &mut [u8],
+        id: u32,
+        items: &[i64],
+        place: usize,
+    ) -> Written
         ensures { result_of result buf.new ≡ written (signed_array_call self (length buf.old) id items.now) self buf.old place }
     {
         self.write_integers(buf, id, items, place)
@@ -37,7 +43,7 @@ impl OStream {
 
     // An array of floats of 32 bits, by their bits. The word stands even where the array is empty.
     pub fn write_array_fp32_bits(
-        self,
+        mut self,
         buf: &mut [u8],
         id: u32,
         items: &[u32],
@@ -49,7 +55,13 @@ impl OStream {
     }
 
     // An array of floats of 32 bits. A NaN's bits are the one pattern that the logic knows.
-    pub fn write_array_fp32(self, buf: &mut [u8], id: u32, items: &[f32], place: usize) -> Written
+    pub fn write_array_fp32(
+        mut self,
+        buf: &mut [u8],
+        id: u32,
+        items: &[f32],
+        place: usize,
+    ) -> Written
         ensures { result_of result buf.new ≡ written (float_array_call self (length buf.old) id fp32 (map (to_bits binary32) items.now)) self buf.old place }
     {
         self.write_floats(buf, id, items, place)
@@ -57,7 +69,7 @@ impl OStream {
 
     // An array of floats of 64 bits, by their bits.
     pub fn write_array_fp64_bits(
-        self,
+        mut self,
         buf: &mut [u8],
         id: u32,
         items: &[u64],
@@ -69,7 +81,13 @@ impl OStream {
     }
 
     // An array of floats of 64 bits. A NaN's bits are the one pattern that the logic knows.
-    pub fn write_array_fp64(self, buf: &mut [u8], id: u32, items: &[f64], place: usize) -> Written
+    pub fn write_array_fp64(
+        mut self,
+        buf: &mut [u8],
+        id: u32,
+        items: &[f64],
+        place: usize,
+    ) -> Written
         ensures { result_of result buf.new ≡ written (float_array_call self (length buf.old) id fp64 (map (to_bits binary64) items.now)) self buf.old place }
     {
         self.write_floats(buf, id, items, place)

@@ -4,7 +4,8 @@
 
 use ostream::{Answer, OStream, Written};
 
-// What a message is made of; compare/ has the numbers, which come from C.
+// What a message is made of; compare/ has the numbers, which come from C. (The others, which it has none of, are pages whose settings are
+// numbers below 100, each written by itself.)
 #[derive(Clone, Copy)]
 enum Kind {
     Smalls,
@@ -14,6 +15,7 @@ enum Kind {
     Arrays,
     Nested,
     Pages,
+    Others,
 }
 
 impl From<u32> for Kind {
@@ -25,7 +27,8 @@ impl From<u32> for Kind {
             3 => Kind::Blobs,
             4 => Kind::Arrays,
             5 => Kind::Nested,
-            _ => Kind::Pages,
+            6 => Kind::Pages,
+            _ => Kind::Others,
         }
     }
 }
@@ -104,7 +107,7 @@ fn nth(kind: Kind, i: usize) -> Call {
         Kind::Blobs => Call::Blob(number(i)),
         Kind::Arrays => Call::Array(number(i)),
         Kind::Nested => nested(i),
-        Kind::Pages => page(i),
+        Kind::Pages | Kind::Others => page(i),
     }
 }
 

@@ -32,7 +32,7 @@ outcome_left least bs (broken r) = LeftOf bs r least
 
 -- ---- rests of rests
 
-all_left : (bs : List ℕ) → LeftOf bs bs 0
+pub all_left : (bs : List ℕ) → LeftOf bs bs 0
 all_left bs = record { passed = 0; enough = omega arith; within = omega arith; rest = refl }
 
 -- a byte before what came in
@@ -53,17 +53,17 @@ fewer : {bs r : List ℕ} {m n : ℕ} → n ≤ m → LeftOf bs r m → LeftOf b
 fewer h l = record { passed = l.passed; enough = omega (arith, h, l.enough); within = l.within; rest = l.rest }
 
 -- the same for outcomes
-outcome_before : {A : Type 0} (b : ℕ) (bs : List ℕ) (least : ℕ) (o : Outcome A) → outcome_left least bs o → outcome_left 1 (b ∷ bs) o
+pub outcome_before : {A : Type 0} (b : ℕ) (bs : List ℕ) (least : ℕ) (o : Outcome A) → outcome_left least bs o → outcome_left 1 (b ∷ bs) o
 outcome_before b bs least (whole a r) l = byte_before b l
 outcome_before b bs least short l = tt
 outcome_before b bs least (broken r) l = byte_before b l
 
-outcome_again : {A : Type 0} {bs r : List ℕ} {m : ℕ} (n : ℕ) → LeftOf bs r m → (o : Outcome A) → outcome_left n r o → outcome_left m bs o
+pub outcome_again : {A : Type 0} {bs r : List ℕ} {m : ℕ} (n : ℕ) → LeftOf bs r m → (o : Outcome A) → outcome_left n r o → outcome_left m bs o
 outcome_again n k (whole a s) l = left_again k l
 outcome_again n k short l = tt
 outcome_again n k (broken s) l = left_again k l
 
-outcome_fewer : {A : Type 0} (bs : List ℕ) {m n : ℕ} → n ≤ m → (o : Outcome A) → outcome_left m bs o → outcome_left n bs o
+pub outcome_fewer : {A : Type 0} (bs : List ℕ) {m n : ℕ} → n ≤ m → (o : Outcome A) → outcome_left m bs o → outcome_left n bs o
 outcome_fewer bs h (whole a r) l = fewer h l
 outcome_fewer bs h short l = tt
 outcome_fewer bs h (broken r) l = fewer h l
@@ -143,7 +143,7 @@ answer_left least bs left (Ok a) = LeftOf bs (left a).now least
 answer_left least bs left (Err Short) = Unit {0}
 answer_left least bs left (Err (Broken s)) = LeftOf bs s.now least
 
-stands_for : {A B : Type 0} (what : A → B) (left : A → Rest) (least : ℕ) (bs : List ℕ) (r : Result A (Stop Rest))
+pub stands_for : {A B : Type 0} (what : A → B) (left : A → Rest) (least : ℕ) (bs : List ℕ) (r : Result A (Stop Rest))
     → outcome_left least bs (outcome_in what left r) → answer_left least bs left r
 stands_for what left least bs (Ok a) l = l
 stands_for what left least bs (Err Short) l = l

@@ -14,7 +14,9 @@ pub fn word(desk: &[u64], i: usize) -> u64 {
     desk.get(i).copied().unwrap_or(0)
 }
 
-// Words from a place on, as far as the desk goes (`copy_from_slice` would need both cut to one length first).
+// Words from a place on, as far as the desk goes (`copy_from_slice` would need both cut to one length first). Out of line: in line, where
+// the words are a function's own, the loop becomes a call of `memcpy`, and an archive for C is to need nothing from outside.
+#[inline(never)]
 pub fn lay(desk: &mut [u64], at: usize, words: &[u64]) {
     for (place, n) in desk.iter_mut().skip(at).zip(words) {
         *place = *n;

@@ -86,12 +86,21 @@ pub fn put_rest(buf: &mut [u8], pos: usize, bytes: &[u8], from: usize) -> usize
     pos + n
 }
 
+// The same, out of line: in line, where the compiler sees that the bytes are a function's own, the loop becomes a call of `memcpy`, and an
+// archive for C is to need nothing from outside.
+#[inline(never)]
+fn put_own(buf: &mut [u8], pos: usize, bytes: &[u8], from: usize) -> usize
+    ensures { Puts buf.old pos (drop from bytes.now) buf.new result }
+{
+    put_rest(buf, pos, bytes, from)
+}
+
 // The n low bytes of x from the place `part` on, low byte first, as far as there is room; where they end.
 pub fn put_part(buf: &mut [u8], pos: usize, x: u64, n: usize, part: usize) -> usize
     requires { n ≤ 8 }
     ensures { Puts buf.old pos (drop part (low_bytes n x)) buf.new result }
 {
-    put_rest(buf, pos, &x.to_le_bytes()[..n], part)
+    put_own(buf, pos, &x.to_le_bytes()[..n], part)
 }
 
 impl Cursor {

@@ -2,7 +2,7 @@
 // crate `vectors` says what a row has.
 #![tactic(auto)]
 
-ghost use Rattle.std.specs.Prelude.{◌<◌, ⊤, MatchOption};
+ghost use Rattle.std.specs.Prelude.{◌≡◌, ◌<◌, ◌≤◌, ⊤, MatchOption, take};
 
 use desk::Desk;
 use desk::calls::{ArrayCall, CopierCall, WriterCall};
@@ -26,16 +26,39 @@ pub enum Call {
     Copy(CopierCall),
 }
 
+// The bytes of a word in hexadecimal, the first 256 of them, and how many. Fixed memory, so that to take them can't fail; behind them are
+// zeros, but for a last digit that has no other.
+#[derive(Clone, Copy, PartialEq, Eq)]
+pub struct Bytes {
+    pub bytes: [u8; 256],
+    pub len: usize,
+}
+
+impl Bytes {
+    pub fn as_slice(&self) -> &[u8]
+        ensures { self.now.len ≤ 256 → result.now ≡ take self.now.len self.now.bytes }
+    {
+        self.bytes.get(..self.len).unwrap_or_default()
+    }
+}
+
+pub fn bytes_of(hex: &[u8]) -> Bytes {
+    let mut bytes = [0u8; 256];
+    let len = unhex(hex, &mut bytes);
+    Bytes { bytes, len }
+}
+
 // What a call finds and leaves: the desk, and the buffer that is lent.
-#[derive(Clone, Drop)]
+#[derive(Clone, Copy)]
 pub struct State {
     pub desk: Desk,
-    pub buf: Vec<u8>,
+    pub buf: Bytes,
 }
 
 // ---- what a row says
 
-// (An Option, no TryFrom, here and below: its error would say no more than None.)
+// Arrays of floats by value have no call of their own: by their names a float of 64 bits is written. (An Option, no TryFrom, here and
+// below: its error would say no more than None.)
 fn writer_call(name: &[u8]) -> Option<WriterCall> {
     Some(match name {
         b"unsigned" => WriterCall::Unsigned,
@@ -43,7 +66,7 @@ fn writer_call(name: &[u8]) -> Option<WriterCall> {
         b"boolean" => WriterCall::Boolean,
         b"fixlen" => WriterCall::Fixlen,
         b"fp32" => WriterCall::Fp32,
-        b"fp64" => WriterCall::Fp64,
+        b"fp64" | b"fp32s" | b"fp64s" => WriterCall::Fp64,
         b"str" => WriterCall::Str,
         b"blob" => WriterCall::Blob,
         b"begin" => WriterCall::Begin,
@@ -88,14 +111,27 @@ pub fn row_named(name: &[u8]) -> Option<Row> {
 // The letters of the desk's words, in the order of compare/PROTOCOL.md.
 const LETTERS: [u8; 32] = *b"QRKICTVPDHABEFGJLMONSUWanikvoftp";
 
+// What is no digit counts as 0. (`parse` would refuse it, and a number beyond 64 bits.)
+fn digit(b: u8) -> u64 {
+    match b {
+        b'0'..=b'9' => u64::from(b - b'0'),
+        _ => 0,
+    }
+}
+
+// Of a number beyond 64 bits the low ones; of no digit at all, 0.
+fn number(text: &[u8]) -> u64 {
+    text.iter()
+        .fold(0u64, |n, &b| n.wrapping_mul(10).wrapping_add(digit(b)))
+}
+
 // A letter and a number: that letter's word, and what it is. Other words of a row set nothing.
 fn setting(word: &[u8]) -> Option<(usize, u64)>
     ensures { MatchOption result ⊤ (λ p. p.0 < 32) }
 {
     let (letter, digits) = word.split_first()?;
     let i = LETTERS.iter().position(|l| l == letter)?;
-    let n = str::from_utf8(digits).ok()?.parse::<u64>().ok()?;
-    Some((i, n))
+    Some((i, number(digits)))
 }
 
 pub fn set(text: &[u8], mut desk: Desk) -> Desk {
@@ -120,11 +156,11 @@ fn unnamed(told: &[u8], before: Desk, after: Desk) -> Desk {
     if told.contains(&b'~') { after } else { before }
 }
 
-// The buffer begins with these bytes, and is behind them as it was. (By `eq` on iterators, here and below, not == on slices: a row's bytes
-// never stand in memory.)
-fn same_bytes(start: &[u8], before: &[u8], after: &[u8]) -> bool {
-    let n = unhex(start).count();
-    before.get(n..) == after.get(n..) && unhex(start).eq(after.iter().take(n).copied())
+// The buffer begins with these bytes, and is behind them as it was.
+fn same_bytes(start: &[u8], before: &Bytes, after: &Bytes) -> bool {
+    let mut want = before.bytes;
+    unhex(start, &mut want);
+    want == after.bytes
 }
 
 // Whether desk and buffer are what the row tells.
@@ -134,6 +170,6 @@ pub fn right(told: &[u8], was: &State, is: &State) -> bool {
 }
 
 // Whether a part is the one that the row tells.
-pub fn same_part(told: &[u8], part: &[u8]) -> bool {
-    unhex(after(told, b'>')).eq(part.iter().copied())
+pub fn same_part(told: &[u8], part: Bytes) -> bool {
+    bytes_of(after(told, b'>')) == part
 }

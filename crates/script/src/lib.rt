@@ -1,8 +1,7 @@
 // A script on standard input, a case to a line, its words parted by one blank. A word that isn't there is empty.
 #![tactic(auto)]
 
-ghost use Rattle.std.specs.Iterator.{at_most};
-ghost use Rattle.std.specs.Prelude.{◌≡◌, ◌⊎◌, ◌≤◌, ◌<◌, ⊤, Contains, MatchOption, length, [], ◌∷◌, ◌++◌};
+ghost use Rattle.std.specs.Prelude.{◌≡◌, ◌⊎◌, ◌≤◌, Contains, length, [], ◌∷◌, ◌++◌};
 
 // The word of a line with this number, counted from 0.
 pub fn word(line: &[u8], k: usize) -> &[u8] {
@@ -34,36 +33,21 @@ fn nibble(b: u8) -> Option<u8> {
     }
 }
 
-// What is left of a word in hexadecimal. Its bytes come one by one, with no memory, so that to take them can't fail.
-#[derive(Drop)]
-pub struct Bytes<'a>(&'a [u8]);
-
-impl<'a> Bytes<'a> {
-    // The next digit; what is none is passed over.
-    fn digit(&mut self) -> Option<u8>
-        ensures no_more { length self.new.0.now ≤ length self.old.0.now }
-        ensures fewer { MatchOption result ⊤ (λ d. length self.new.0.now < length self.old.0.now) }
-    {
-        let at = self.0.iter().position(|b| nibble(*b).is_some())?;
-        let found = nibble(self.0[at]);
-        self.0 = &self.0[at + 1..];
-        found
+// The bytes of a word in hexadecimal, as far as there is room; how many went in. A digit goes into its byte from below: after two, nothing
+// else is left there. What is no digit is passed over.
+pub fn unhex(word: &[u8], out: &mut [u8]) -> usize
+    ensures { result ≤ length out.new }
+{
+    let mut digits = word.iter().filter_map(|b| nibble(*b));
+    for (whole, byte) in out.iter_mut().enumerate() {
+        let Some(high) = digits.next() else {
+            return whole;
+        };
+        *byte = *byte << 4 | high;
+        let Some(low) = digits.next() else {
+            return whole;
+        };
+        *byte = *byte << 4 | low;
     }
-}
-
-impl<'a> Iterator for Bytes<'a> {
-    type Item = u8;
-
-    ghost remaining = { λ bytes. at_most (length bytes.0.now) };
-
-    fn next(&mut self) -> Option<u8> {
-        let high = self.digit()?;
-        let low = self.digit()?;
-        Some(high << 4 | low)
-    }
-}
-
-// The bytes of a word in hexadecimal.
-pub fn unhex(word: &[u8]) -> Bytes<'_> {
-    Bytes(word)
+    out.len()
 }

@@ -1,19 +1,23 @@
 // Makes the calls of the script on standard input, a row each, and holds every call to what its row says: its answer, its state and the
 // buffer. A row that differs is printed; at the end, how many calls there were and how many differ. README.md says what a row has.
-// A read or a write that fails ends it with that error, and so does memory that runs out.
+// A read or a write that fails ends it with that error.
 #![tactic(auto)]
 
 mod calls;
 
 use calls::make;
 use desk::BLANK;
-use rows::{Call, Row, State, cleared, right, row_named, same_part, set};
-use script::{after, parted, unhex, word};
+use rows::{Call, Row, State, bytes_of, cleared, right, row_named, same_part, set};
+use script::{after, parted, word};
 use std::io::{self, Read};
+use streams::read_full;
 use trace::gatherer::trace_part;
 
+// A block of the script: no row goes over its end.
+const BLOCK: usize = 65536;
+
 // What the next call finds; the calls so far, and how many differ.
-#[derive(Drop)]
+#[derive(Clone, Copy)]
 struct Run {
     state: State,
     calls: u64,
@@ -31,26 +35,33 @@ impl Run {
         rt.write_all(b"\n")
     }
 
-    // The call, with the bytes behind `<`.
+    // The call, with the bytes behind `<`. What it leaves is told from the `=` on.
     fn make(&mut self, rt: &HostRuntime, call: Call, row: &[u8]) -> io::Result<()> {
-        let (given, told) = parted(parted(row, b' ').1, b'=');
+        let words = parted(row, b' ').1;
+        let given = parted(words, b'=').0;
+        let told = words.get(given.len()..).unwrap_or_default();
         self.state.desk = set(given, cleared(self.state.desk));
-        let was = self.state.clone()?;
-        let data: Vec<u8> = unhex(after(given, b'<')).collect(rt.alloc())?;
-        make(call, &mut self.state.desk, &data, &mut self.state.buf);
+        let was = self.state;
+        let data = bytes_of(after(given, b'<'));
+        let lent = self.state.buf.len;
+        let buf = self.state.buf.bytes.get_mut(..lent).unwrap_or_default();
+        make(call, &mut self.state.desk, data.as_slice(), buf);
         let right = right(told, &was, &self.state);
         self.count(rt, right, row)
     }
 
     // The part that the gatherer's second call returns, on the answer of the row before or of its own words.
     fn part(&mut self, rt: &HostRuntime, row: &[u8]) -> io::Result<()> {
-        let alloc = rt.alloc();
         let desk = set(parted(row, b' ').1, self.state.desk);
-        let data: Vec<u8> = unhex(after(row, b'<')).collect(alloc)?;
-        let mut part = vec![in alloc; 0u8; self.state.buf.len().max(data.len())]?;
-        let len = trace_part(&desk, &self.state.buf, &data, &mut part);
-        part.truncate(len);
-        self.count(rt, same_part(row, &part), row)
+        let data = bytes_of(after(row, b'<'));
+        let mut part = bytes_of(b"");
+        part.len = trace_part(
+            &desk,
+            self.state.buf.as_slice(),
+            data.as_slice(),
+            &mut part.bytes,
+        );
+        self.count(rt, same_part(row, part), row)
     }
 
     // A row that begins with `#` is a remark.
@@ -59,7 +70,7 @@ impl Run {
             return Ok(());
         }
         match row_named(word(text, 0)) {
-            Some(Row::Buffer) => self.state.buf = unhex(word(text, 1)).collect(rt.alloc())?,
+            Some(Row::Buffer) => self.state.buf = bytes_of(word(text, 1)),
             Some(Row::Fresh) => self.state.desk = BLANK,
             Some(Row::Part) => return self.part(rt, text),
             Some(Row::Call(call)) => return self.make(rt, call, text),
@@ -67,21 +78,33 @@ impl Run {
         }
         Ok(())
     }
+
+    // Block by block, in fixed memory. (No `loop`: no Read says that it ends. So the blocks are counted, up to a number that no run uses
+    // up.)
+    fn rows(&mut self, rt: &HostRuntime, input: &mut impl Read) -> io::Result<()> {
+        let mut block = [0u8; BLOCK];
+        for _ in 0..u64::MAX {
+            let n = read_full(input, &mut block)?;
+            for row in block[..n].split(|b| *b == b'\n') {
+                self.row(rt, row)?;
+            }
+            if n < BLOCK {
+                break;
+            }
+        }
+        Ok(())
+    }
 }
 
 fn main(rt: HostRuntime) -> io::Result<()> {
-    let mut script = Vec::new(rt.alloc());
-    rt.stdin().read_to_end(&mut script)?;
     let mut run = Run {
         state: State {
             desk: BLANK,
-            buf: Vec::new(rt.alloc()),
+            buf: bytes_of(b""),
         },
         calls: 0,
         differ: 0,
     };
-    for row in script.split(|b| *b == b'\n') {
-        run.row(&rt, row)?;
-    }
+    run.rows(&rt, &mut rt.stdin())?;
     println!(rt; "{} calls, {} differences", run.calls, run.differ)
 }

@@ -2,7 +2,7 @@
 // text goes out where it may have no room for the next. Nothing of the message is held but the reader's state.
 #![tactic(auto)]
 
-ghost use Rattle.std.specs.Prelude.{◌≡◌, ◌+◌, ◌*◌, ◌≤◌, leb, length, take};
+ghost use Rattle.std.specs.Prelude.{◌≡◌, ◌+◌, ◌*◌, ◌≤◌, ◌<◌, leb, length, take};
 
 use istream::{Answer, IStream, Status};
 use last_line::Verdict;
@@ -47,17 +47,29 @@ fn roomy(at: usize, chunk: &[u8], out: &[u8]) -> bool
     at as u128 + (LINE + BYTE_LINE * chunk.len() as u128) <= out.len() as u128
 }
 
-// A chunk's calls, the reader lent to each by mutable reference, and the lines of their events. Where `out` has no room for those of one
-// event of the chunk, they are cut off: `roomy` tells how much is enough. (No `for`: how many events a chunk has, its calls alone say.)
-pub fn list<F: FnMut(&[u8])>(l: Listing, chunk: &[u8], out: &mut [u8], mut send: F) -> Listing
-    requires { F.IsAlwaysCallable send }
+// Where the text goes that is to make room. (No closure: `list` would ask of its callers that it may be called.)
+pub trait Outlet {
+    fn send(&mut self, text: &[u8]);
+}
+
+// A chunk's calls, the reader lent to each by mutable reference, and the lines of their events. The text goes out before a call where the
+// lines of any event of the chunk might find no room: of the whole chunk, not of its rest, so that no text waits longer than that. Where
+// they would find none in all of `out`, nothing is read. (No `for`: how many events a chunk has, its calls alone say.)
+pub fn list(l: Listing, chunk: &[u8], out: &mut [u8], outlet: &mut impl Outlet) -> Listing
+    ensures unread { length out.old < 80 + 6 * length chunk.now → (result.stream ≡ l.stream) × (result.at ≡ l.at) × (out.new ≡ out.old) }
 {
+    if !roomy(0, chunk, out) {
+        return Listing {
+            verdict: Verdict::Incomplete,
+            ..l
+        };
+    }
     let mut stream = l.stream;
     let mut at = l.at;
     let mut rest = chunk;
     loop {
-        if !roomy(at, rest, out) {
-            send(out.get(..at).unwrap_or_default());
+        if !roomy(at, chunk, out) {
+            outlet.send(out.get(..at).unwrap_or_default());
             at = 0;
         }
         let told = istream::lent(stream, rest);

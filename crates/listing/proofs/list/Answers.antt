@@ -5,10 +5,10 @@ use Rattle.call_end.specs.declared.Answer.TheVariants.{Event}
 use Rattle.reading.proofs.Ends.{read_few, read_nearer}
 use Rattle.listing.proofs.list.Goals as goal
 
-pub loop-send-smaller : goal.loop-send-smaller
-loop-send-smaller g c =
+pub loop-outlet-smaller : goal.loop-outlet-smaller
+loop-outlet-smaller g c =
     let a : c.lent-told.result.answer ≡ Ok (Event c.in-Ok-Event.e) = search rules in
-    read_nearer base c.loop-send.stream c.loop-send.rest.now c.lent-told.result c.in-Ok-Event.e c.lent-told.ensures a
+    read_nearer base c.loop-outlet.stream c.loop-outlet.rest.now c.lent-told.result c.in-Ok-Event.e c.lent-told.ensures a
 
 pub slice_bounds-rest-start : goal.slice_bounds-rest-start
 slice_bounds-rest-start g c = read_few base _ _ _ c.lent-told.ensures

@@ -3,8 +3,5 @@ use Rattle.machine.proofs.Ends.{turns}
 use Rattle.istream.specs.Stream.{state_of}
 use Rattle.listing.proofs.list.Given as goal
 
-abbrev pub invariant-loop-send : goal.invariant-loop-send
-invariant-loop-send g l = goal.F-IsAlwaysCallable g l.send
-
-abbrev pub decreases-loop-send : goal.decreases-loop-send
-decreases-loop-send g l = turns (state_of l.stream) l.rest
+abbrev pub decreases-loop-outlet : goal.decreases-loop-outlet
+decreases-loop-outlet g l = turns (state_of l.stream) l.rest

@@ -3,18 +3,28 @@
 #![tactic(auto)]
 
 use last_line::Verdict;
-use listing::{Listing, list};
+use listing::{Listing, Outlet, list};
 use std::io::{self, Read};
 use streams::{Failure, unwritten};
 
 const NAME: &[u8] = b"events";
 
-// The text so far goes out.
-fn send(rt: &impl Print, text: &[u8]) -> Result<(), Failure> {
-    rt.write_all(text).map_err(|e| Failure::Unwritten(e.kind()))
+// Standard output, and whether it has taken all: a write that failed is not tried again, nor is another.
+#[derive(Drop)]
+struct Output<'a, P> {
+    rt: &'a P,
+    sent: Result<(), Failure>,
 }
 
-// (A write that failed is not tried again: the text's closure keeps its error, here and in `listing_vectors`, since `list` can't fail.)
+impl<P: Print> Outlet for Output<'_, P> {
+    fn send(&mut self, text: &[u8]) {
+        if self.sent.is_ok() {
+            let sent = self.rt.write_all(text);
+            self.sent = sent.map_err(|e| Failure::Unwritten(e.kind()));
+        }
+    }
+}
+
 // Chunk by chunk to the end of the input; a message found broken is read no further. (Tried as a `loop`: its measure stayed open, since no
 // Read says that it ends. So the chunks are counted, up to a number that no run uses up.)
 fn list_all(
@@ -32,13 +42,9 @@ fn list_all(
         if n == 0 {
             break;
         }
-        let mut sent = Ok(());
-        *l = list(*l, &chunk[..n], out, |text| {
-            if sent.is_ok() {
-                sent = send(rt, text);
-            }
-        });
-        sent?;
+        let mut output = Output { rt, sent: Ok(()) };
+        *l = list(*l, &chunk[..n], out, &mut output);
+        output.sent?;
     }
     Ok(())
 }

@@ -4,57 +4,72 @@
 // A record: the lengths of the message's two chunks, a byte each, and their bytes.
 #![tactic(auto)]
 
-ghost use Rattle.std.specs.Iterator.{at_most};
-ghost use Rattle.std.specs.Prelude.{length};
-
 use last_line::put_verdict;
-use listing::{Listing, list};
+use listing::{Listing, Outlet, list};
 use std::io::{self, Read};
+use streams::read_full;
 
-// The records that are left. One that the bytes end within is none.
+// Standard output, and whether it has taken all: after a write that failed there is no other.
 #[derive(Drop)]
-struct Records<'a>(&'a [u8]);
+struct Output<'a, P> {
+    rt: &'a P,
+    sent: io::Result<()>,
+}
 
-impl<'a> Iterator for Records<'a> {
-    // A message in its two chunks.
-    type Item = (&'a [u8], &'a [u8]);
-
-    ghost remaining = { λ records. at_most (length records.0.now) };
-
-    fn next(&mut self) -> Option<(&'a [u8], &'a [u8])> {
-        let [na, nb, rest @ ..] = self.0 else {
-            return None;
-        };
-        let (first, behind) = rest.split_at_checked(usize::from(*na))?;
-        let (second, left) = behind.split_at_checked(usize::from(*nb))?;
-        self.0 = left;
-        Some((first, second))
+impl<P: Print> Outlet for Output<'_, P> {
+    fn send(&mut self, text: &[u8]) {
+        if self.sent.is_ok() {
+            self.sent = self.rt.write_all(text);
+        }
     }
 }
 
 // The list of a message, the verdict behind it.
-fn print(rt: &impl Print, first: &[u8], second: &[u8], out: &mut [u8]) -> io::Result<()> {
-    let mut sent = Ok(());
+fn print(rt: &impl Print, chunks: [&[u8]; 2], out: &mut [u8]) -> io::Result<()> {
+    let mut output = Output { rt, sent: Ok(()) };
     let mut l = Listing::new();
-    for chunk in [first, second] {
-        l = list(l, chunk, out, |text| {
-            if sent.is_ok() {
-                sent = rt.write_all(text);
-            }
-        });
+    for chunk in chunks {
+        l = list(l, chunk, out, &mut output);
     }
-    sent?;
+    output.sent?;
     let end = put_verdict(out, l.at, l.verdict);
     rt.write_all(out.get(..end).unwrap_or_default())
 }
 
+// The input's next bytes, and whether there were enough of them.
+fn fill(input: &mut impl Read, bytes: &mut [u8]) -> io::Result<bool> {
+    Ok(read_full(input, bytes)? == bytes.len())
+}
+
+// A message in its two chunks; whether there was one, and then its list is out. One that the input ends within is none.
+fn record(input: &mut impl Read, rt: &impl Print, out: &mut [u8]) -> io::Result<bool> {
+    let mut lengths = [0u8; 2];
+    if !fill(input, &mut lengths)? {
+        return Ok(false);
+    }
+    let [first, second] = lengths;
+    // Fixed memory, as much as a length of a byte can ask for.
+    let mut a = [0u8; 255];
+    let mut b = [0u8; 255];
+    let a = &mut a[..usize::from(first)];
+    let b = &mut b[..usize::from(second)];
+    if !fill(input, a)? || !fill(input, b)? {
+        return Ok(false);
+    }
+    print(rt, [a, b], out)?;
+    Ok(true)
+}
+
+// Record by record, each list printed before the next is read. (No `loop`: no Read says that it ends. So the records are counted, up to a
+// number that no run uses up.)
 fn main(rt: HostRuntime) -> io::Result<()> {
-    let mut script = Vec::new(rt.alloc());
-    rt.stdin().read_to_end(&mut script)?;
+    let mut input = rt.stdin();
     // Fixed memory, with room for the lines of any record.
     let mut out = [0u8; 65536];
-    for (first, second) in Records(&script) {
-        print(&rt, first, second, &mut out)?;
+    for _ in 0..u64::MAX {
+        if !record(&mut input, &rt, &mut out)? {
+            break;
+        }
     }
     Ok(())
 }

@@ -1,8 +1,8 @@
 // One reading of a torn message: a sum over the lines of its events, as `list_events` prints them.
 use crate::draw::{Cuts, Turn};
 use last_line::Verdict;
-use listing::{Listing, list};
-use std::io::{self, Write};
+use listing::{Listing, Outlet, list};
+use std::io;
 
 // What a reading comes to: it is the same for the same events, and for others hardly ever.
 #[derive(Clone, Copy, PartialEq, Eq)]
@@ -26,16 +26,22 @@ impl Sum {
     }
 }
 
+impl Outlet for Sum {
+    fn send(&mut self, text: &[u8]) {
+        *self = self.with(text);
+    }
+}
+
 // The bytes, torn and read: the lines of a chunk, as far as there is room for them, and where it is spent another chunk. At the end the
 // verdict stays; where it isn't complete there is no sum. (Tried as `loop`: its measure stayed open, since the end is drawn at random.
 // The text is fixed memory.)
-pub fn read(log: &mut impl Write, bytes: &[u8], seed: u64) -> io::Result<Option<Sum>> {
+pub fn read(log: Option<&impl Print>, bytes: &[u8], seed: u64) -> io::Result<Option<Sum>> {
     let mut text = [0u8; 65536];
     let mut listing = Listing::new();
     let mut cuts = Cuts::new(seed, bytes);
     let mut s = Sum { sum: 0, bytes: 0 };
     for _ in 0..u64::MAX {
-        listing = list(listing, cuts.chunk, &mut text, |lines| s = s.with(lines));
+        listing = list(listing, cuts.chunk, &mut text, &mut s);
         if cuts.turn(log)? == Turn::End {
             break;
         }

@@ -1,7 +1,7 @@
 // Random numbers, and what they choose: where a message is cut, when a buffer is drained, and how long it is.
 ghost use Rattle.std.specs.Prelude.{◌≤◌};
 
-use std::io::{self, Write};
+use std::io;
 
 // The next number: Marsaglia's xorshift. 0 alone stays as it is.
 pub fn next(r: u64) -> u64 {
@@ -54,13 +54,15 @@ impl<'a> Cuts<'a> {
         self.chunk = self.chunk.get(n..).unwrap_or_default();
     }
 
-    // The chunk is spent: another one, also an empty one, or the end. A drain comes at the end, and now and then between. Each length goes
-    // to the log.
-    pub fn turn(&mut self, log: &mut impl Write) -> io::Result<Turn> {
+    // The chunk is spent: another one, also an empty one, or the end. A drain comes at the end, and now and then between. Where there is a
+    // log, the length goes there.
+    pub fn turn(&mut self, log: Option<&impl Print>) -> io::Result<Turn> {
         let left = self.behind.len();
         self.random = next(self.random);
         let n = length(self.random, left);
-        write!(log, "{n} ")?;
+        if let Some(log) = log {
+            print!(log; "{n} ")?;
+        }
         let (chunk, behind) = self.behind.split_at(n);
         self.chunk = chunk;
         self.behind = behind;

@@ -9,8 +9,9 @@ mod torn;
 ghost use Rattle.std.specs.Prelude.{◌≤◌};
 
 use back::Sum;
-use piping::copy_all;
-use std::io::{self, Write};
+use copier::{Answer, Copier};
+use istream::Status;
+use std::io::{self, Read};
 use std::rt::Env;
 use streams::{read_full, unread, unwritten};
 
@@ -19,8 +20,8 @@ const NAME: &[u8] = b"tear";
 // How many runs where none are asked for.
 const RUNS: u64 = 1000;
 
-// How many bytes of a message are held.
-const MOST: usize = 65536;
+// A run that is as expected shows nothing.
+const NO_LOG: Option<&HostRuntime> = None;
 
 // The length of a run's buffer.
 fn size(random: u64) -> usize
@@ -43,18 +44,23 @@ struct Trial<'a> {
 }
 
 impl Trial<'_> {
+    // Whether a copy through a buffer of a length drawn is the one expected.
+    fn copies(&self, log: Option<&impl Print>, random: u64) -> io::Result<bool> {
+        let mut buf = [0u8; 4096]; // fixed memory, as all arrays here: there is no heap
+        let room = &mut buf[..size(random)];
+        torn::copies(log, self.ticket, self.manifest, room, draw::next(random))
+    }
+
     // Whether one reading of these bytes is the one expected.
-    fn reads(&self, log: &mut impl Write, bytes: &[u8], random: u64) -> io::Result<bool> {
+    fn reads(&self, log: Option<&impl Print>, bytes: &[u8], random: u64) -> io::Result<bool> {
         let read = back::read(log, bytes, draw::next(random))?;
         Ok(read.is_some() && read == self.sum)
     }
 
-    // Whether one run is as expected, its cuts shown in the log: a copy, and the message and the copy read back.
-    fn run(&self, log: &mut impl Write, seed: u64) -> io::Result<bool> {
+    // Whether one run is as expected, its cuts shown where there is a log: a copy, and the message and the copy read back.
+    fn run(&self, log: Option<&impl Print>, seed: u64) -> io::Result<bool> {
         let random = draw::next(seed);
-        let mut buf = [0u8; 4096]; // fixed memory, as all arrays here: there is no heap
-        let room = &mut buf[..size(random)];
-        if !torn::copies(log, self.ticket, self.manifest, room, draw::next(random))? {
+        if !self.copies(log, random)? {
             return Ok(false);
         }
         if !self.reads(log, self.ticket, random >> 1)? {
@@ -66,7 +72,7 @@ impl Trial<'_> {
     // The first of n runs that isn't as expected.
     fn first_other(&self, n: u64) -> io::Result<Option<u64>> {
         for run in 0..n {
-            if !self.run(&mut io::sink(), seed(run))? {
+            if !self.run(NO_LOG, seed(run))? {
                 return Ok(Some(run));
             }
         }
@@ -80,7 +86,7 @@ impl Trial<'_> {
             "tear: run {run} differs: buffer {}, chunks ",
             size(draw::next(from))
         )?;
-        self.run(&mut io::writer(err), from)?;
+        self.run(Some(err), from)?;
         println!(err; "")
     }
 }
@@ -88,7 +94,7 @@ impl Trial<'_> {
 // The runs, and what they showed.
 fn try_all(rt: &HostRuntime, n: u64, ticket: &[u8], manifest: &[u8]) -> io::Result<()> {
     let err = rt.stderr();
-    let sum = back::read(&mut io::sink(), ticket, seed(n))?;
+    let sum = back::read(NO_LOG, ticket, seed(n))?;
     let trial = Trial {
         ticket,
         manifest,
@@ -104,21 +110,17 @@ fn try_all(rt: &HostRuntime, n: u64, ticket: &[u8], manifest: &[u8]) -> io::Resu
     said.or_else(|e| unwritten(&err, NAME, e.kind()))
 }
 
-// First the copy in one piece, in one call. (Its three arrays are fixed memory.)
+// First the copy in one piece, in one call. No copy is longer than its message: the buffer holds it.
 fn tear(rt: &HostRuntime, n: u64, ticket: &[u8]) -> io::Result<()> {
-    let mut chunk = [0u8; 65536];
-    let mut out = [0u8; 65536];
     let mut manifest = [0u8; 65536];
-    let mut message = ticket;
-    let mut sink = manifest.as_mut_slice();
-    match copy_all(&mut message, &mut sink, &mut chunk, &mut out) {
-        Ok(sent) => try_all(
-            rt,
-            n,
-            ticket,
-            manifest.get(..sent as usize).unwrap_or_default(),
-        ),
-        Err(trouble) => trouble.say(&rt.stderr(), NAME),
+    let copied = Copier::new(&manifest, 0).copier.feed(ticket, &mut manifest);
+    match copied.answer {
+        Ok(Answer::Status(Status::Complete)) => {
+            let sent = copied.copier.flush(&manifest).answer.unwrap_or(0);
+            try_all(rt, n, ticket, manifest.get(..sent).unwrap_or_default())
+        }
+        Ok(_) => { eprintln!(rt; "tear: incomplete, it ends after byte {}", ticket.len()) }
+        Err(_) => eprintln!(rt; "tear: broken at byte {}", copied.used),
     }
 }
 
@@ -143,13 +145,20 @@ fn runs_asked(rt: &impl Env) -> u64 {
     }
 }
 
-// A byte more than is held is read, to tell a message that is longer. Only a line that standard error doesn't take ends it with an error of
-// its own.
+// How many bytes the message has, if they are held: a byte more is asked for, to tell one that is longer.
+fn held(input: &mut impl Read, ticket: &mut [u8]) -> io::Result<Option<usize>> {
+    let n = read_full(input, ticket)?;
+    let mut spare = [0u8; 1];
+    let more = read_full(input, &mut spare)?;
+    Ok((more == 0).then_some(n))
+}
+
+// Only a line that standard error doesn't take ends it with an error of its own.
 fn main(rt: HostRuntime) -> io::Result<()> {
-    let mut ticket = [0u8; 65537]; // fixed memory
-    match read_full(&mut rt.stdin(), &mut ticket) {
-        Ok(n) if n <= MOST => tear(&rt, runs_asked(&rt), &ticket[..n]),
-        Ok(_) => {
+    let mut ticket = [0u8; 65536]; // fixed memory
+    match held(&mut rt.stdin(), &mut ticket) {
+        Ok(Some(n)) => { tear(&rt, runs_asked(&rt), ticket.get(..n).unwrap_or_default()) }
+        Ok(None) => {
             eprintln!(rt;
                 "tear: the message is longer than 65536 bytes, which is all that is held here"
             )

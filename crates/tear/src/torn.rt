@@ -1,7 +1,7 @@
 // One copy of a torn message, through a buffer that is drained at "full", at the end, and now and then between, beside the copy expected.
 use crate::draw::{Cuts, Turn};
 use copier::{Answer, Copier};
-use std::io::{self, Write};
+use std::io;
 
 // The buffer's first bytes are sent: what is due of the copy expected after them, if they are its next ones.
 fn drained<'a>(copier: &mut Copier, buf: &[u8], due: &'a [u8]) -> Option<&'a [u8]> {
@@ -13,7 +13,7 @@ fn drained<'a>(copier: &mut Copier, buf: &[u8], due: &'a [u8]) -> Option<&'a [u8
 
 // Whether such a copy is the one expected, all of it. (Tried as `loop`: its measure stayed open, since the end is drawn at random.)
 pub fn copies(
-    log: &mut impl Write,
+    log: Option<&impl Print>,
     ticket: &[u8],
     manifest: &[u8],
     buf: &mut [u8],

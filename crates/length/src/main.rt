@@ -23,7 +23,7 @@ fn measure(message: &[u8]) -> Result<u64, Trouble> {
 }
 
 // One that may be longer is copied, and what would go out is counted: for every complete message that is the same number. Where the buffer
-// isn't full, the input has ended. Fixed memory: the message, chunk and output below.
+// isn't full, the input has ended. Fixed memory: the message, chunk and output below, which is short, since nothing of it is kept.
 fn length(input: &mut impl Read) -> Result<u64, Trouble> {
     let mut message = [0u8; 65536];
     let n = read_full(input, &mut message).map_err(|_| Failure::Unread)?;
@@ -31,7 +31,7 @@ fn length(input: &mut impl Read) -> Result<u64, Trouble> {
         return measure(&message[..n]);
     }
     let mut chunk = [0u8; 65536];
-    let mut out = [0u8; 65536];
+    let mut out = [0u8; 1024];
     let mut whole = message.as_slice().chain(input);
     copy_all(&mut whole, &mut io::sink(), &mut chunk, &mut out)
 }

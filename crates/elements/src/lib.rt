@@ -96,10 +96,10 @@ pub fn put_fittings<T: Integer>(buf: &mut [u8], pos: usize, items: &[T]) -> usiz
 fn put_next(buf: &mut [u8], pos: usize, v: u64) -> usize
     ensures { Puts buf.old pos (shortest v) buf.new result }
 {
-    if VARINT_MAX <= buf.len().saturating_sub(pos) {
-        return put_fitting(buf, pos, v);
+    match buf.len().checked_sub(pos) {
+        Some(room) if VARINT_MAX <= room => put_fitting(buf, pos, v),
+        _ => put_whole(buf, pos, v),
     }
-    put_whole(buf, pos, v)
 }
 
 // Where the elements' varints go on after the first `skip` bytes of them.

@@ -127,7 +127,9 @@ impl Float for f64 {
     }
 }
 
-// The elements where there is room for all: no test at each byte. (Room: as `emit::put_fitting`.)
+// The elements where there is room for all: no test at each byte. (Room: as `emit::put_fitting`. Out of line: among the rest of a call's
+// code the loop came to lie where 64-bit floats took 1.7 times as long.)
+#[inline(never)]
 fn put_fittings<T: Float>(buf: &mut [u8], pos: usize, items: &[T]) -> usize
     requires { pos + T.BYTES * length items.now ≤ length buf.old }
     ensures { Puts buf.old pos (each (λ x. low_bytes T.BYTES (T.bits x)) items.now) buf.new result }

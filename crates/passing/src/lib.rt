@@ -21,9 +21,10 @@ pub enum Stop<P = usize> {
 
 // ---- varints: a value and the bytes after it
 
-// Any varint, out of line. (`own` and `read_at_once` push bytes so too: each has another thing to do at each answer, and all that they
-// share are these three arms.)
-pub fn long_varint_at(bytes: &[u8]) -> Result<(u64, &[u8]), Stop<&[u8]>>
+// Any varint. (`own` and `read_at_once` push bytes so too: each has another thing to do at each answer, and all that they share are these
+// three arms. In line, here and in `skip_at`: what is left would go through memory on the way to the next.)
+#[inline(always)]
+fn value_at(bytes: &[u8]) -> Result<(u64, &[u8]), Stop<&[u8]>>
     ensures { Reaches (varint base bytes.now) result }
 {
     let mut acc = Acc::new();
@@ -38,6 +39,14 @@ pub fn long_varint_at(bytes: &[u8]) -> Result<(u64, &[u8]), Stop<&[u8]>>
         rest = after;
     }
     Err(Stop::Short)
+}
+
+// The same, out of line.
+#[inline(never)]
+pub fn long_varint_at(bytes: &[u8]) -> Result<(u64, &[u8]), Stop<&[u8]>>
+    ensures { Reaches (varint base bytes.now) result }
+{
+    value_at(bytes)
 }
 
 // Most words and counts are one byte.
@@ -59,7 +68,7 @@ pub fn header_at(bytes: &[u8]) -> Result<(u64, &[u8]), Stop<&[u8]>>
         [b, c, rest @ ..] if *c < 128 => return Ok(((*b % 128) as u64 + *c as u64 * 128, rest)),
         _ => {}
     }
-    let (h, rest) = long_varint_at(bytes)?;
+    let (h, rest) = value_at(bytes)?;
     if (ID_MAX as u64) < h / 8 {
         return Err(Stop::Broken(rest));
     }
@@ -79,9 +88,9 @@ pub fn count_at(bytes: &[u8]) -> Result<(u64, &[u8]), Stop<&[u8]>>
 
 // ---- varints whose values are not asked for: the bytes after them
 
-// A varint, out of line: its end, and the rule of the tenth byte. (`shortest` looks for such an end too, but of the shortest form alone,
-// which has another rule for the last byte at each length: what they share is the loop's head.)
-#[inline(never)]
+// A varint: its end, and the rule of the tenth byte. (`shortest` looks for such an end too, but of the shortest form alone, which has
+// another rule for the last byte at each length: what they share is the loop's head.)
+#[inline(always)]
 pub fn skip_at(bytes: &[u8]) -> Result<&[u8], Stop<&[u8]>>
     ensures { Passes (λ d. ends d (varint base bytes.now)) result }
 {

@@ -7,4 +7,4 @@ use Rattle.emit.proofs.put_part.Goals as goal
 
 pub returns : goal.returns
 returns c =
-    whole_as _ _ _ _ _ _ (ap (drop c.args.part) (first_low c.args.n c.args.x _ c.requires c.to_le_bytes.ensures)) c.put_rest.ensures
+    whole_as _ _ _ _ _ _ (ap (drop c.args.part) (first_low c.args.n c.args.x _ c.requires c.to_le_bytes.ensures)) c.put_own.ensures

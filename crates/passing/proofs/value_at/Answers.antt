@@ -1,7 +1,7 @@
--- `passing::long_varint_at` meets its contract: what is left of the varint is read from the state reached.
+-- `passing::value_at` meets its contract: what is left of the varint is read from the state reached.
 use mathlib.Core.Path.{sym, ◌∙◌}
 use Rattle.passing.proofs.Varints.{under_more, under_value, under_over, under_end}
-use Rattle.passing.proofs.long_varint_at.Goals as goal
+use Rattle.passing.proofs.value_at.Goals as goal
 
 pub loop-rest-preserved : goal.loop-rest-preserved
 loop-rest-preserved c = under_more c.loop-rest.invariant _ c.in-len1-up.len_at_least (sym c.push.ensures ∙ c.in-More.is)

@@ -131,7 +131,7 @@ impl Cursor {
     {
         let Cursor { pos, skip } = self;
         Cursor {
-            pos: put_rest(buf, pos, bytes, skip),
+            pos: put_own(buf, pos, bytes, skip),
             skip: skip.saturating_sub(bytes.len()),
         }
     }

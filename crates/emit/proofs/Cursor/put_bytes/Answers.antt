@@ -5,4 +5,4 @@ use Rattle.emit.proofs.Segments.{some_left}
 use Rattle.emit.proofs.Cursor.put_bytes.Goals as goal
 
 pub returns : goal.returns
-returns c = some_left _ _ _ _ _ _ _ (omega arith) refl c.put_rest.ensures.0 c.put_rest.ensures.1
+returns c = some_left _ _ _ _ _ _ _ (omega arith) refl c.put_own.ensures.0 c.put_own.ensures.1

@@ -3,7 +3,7 @@
 
 usage: python3 tools/cited_names.py      at the top
 
-The pages are README.md, docs/*.md but PORT.md and DESIGN-PASS.md (which have what went), compare/*.md and crates/*/README.md. A name is there where a source, a script, a file or a folder
+The pages are README.md, docs/*.md but PORT.md, DESIGN-PASS.md and LOOK-BACK.md (which have what went), compare/*.md and crates/*/README.md. A name is there where a source, a script, a file or a folder
 has it. In docs/SENTENCES.md, a name that follows a file must be declared in that file. Names of the Rust, of the processor and of
 what went are listed below. The status is 1 where a name is missing.
 """
@@ -15,7 +15,7 @@ import sys
 # the Rust's own, which has no part here; an instruction; what went; a variable; parts of names; marks of a script's row
 KNOWN = set("""require check_install push_raw write_id_type commit_pending on_header on_fixlen_len on_array_count advance_after_element payload_chunk
 step_fixlen_val NoFlush push_byte Handoff Handover config from_raw bsr TMPDIR shm _bits _slowly K V J
-ARCHITECTURE SENTENCES DECISIONS DIFFERENCES CHANGES PORT DESIGN-PASS NOTICE cited_names""".split())
+ARCHITECTURE SENTENCES DECISIONS DIFFERENCES CHANGES PORT DESIGN-PASS LOOK-BACK NOTICE cited_names""".split())
 TOPS = ("crates", "compare", "examples", "include", "tools", "sofab", "crates.txt", ".ci")
 
 
@@ -51,7 +51,7 @@ def declared(path, name):
 def main():
     names = tree() | KNOWN
     missing = []
-    pages = ["README.md"] + sorted(p for p in glob.glob("docs/*.md") if os.path.basename(p) not in ("PORT.md", "DESIGN-PASS.md"))
+    pages = ["README.md"] + sorted(p for p in glob.glob("docs/*.md") if os.path.basename(p) not in ("PORT.md", "DESIGN-PASS.md", "LOOK-BACK.md"))
     for page in pages + sorted(glob.glob("compare/*.md") + glob.glob("crates/*/README.md")):
         with open(page, encoding="utf-8") as f:
             for number, line in enumerate(f, 1):

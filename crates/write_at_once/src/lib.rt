@@ -70,7 +70,8 @@ pub fn put_pair(
 }
 
 // Two varints and bytes after them, likewise. (Out of line, as `put_integers`; `put_longer` in the place of the two varints here and there
-// would be one line for two, and a call more.)
+// would be one line for two, and a call more. By the attribute, since a float's bytes in line came to be a call of `memcpy`: `emit`.)
+#[inline(never)]
 pub fn put_field(
     buf: &mut [u8],
     pos: usize,

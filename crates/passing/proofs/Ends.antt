@@ -16,7 +16,7 @@ use Rattle.layout.specs.Varint.{Outcome, whole, short, broken, varint}
 use Rattle.layout.specs.Message.{checked, header_of}
 use Rattle.passing.specs.declared.Stop.{Stop}
 use Rattle.passing.specs.declared.Stop.TheVariants.{Short, Broken}
-use Rattle.passing.proofs.Varints.{tail, one, two}
+use Rattle.passing.proofs.Varints.{tail, one, two, three}
 use Rattle.passing.specs.Passing.{Rest, stop_in, Passes, ends, followed, skips}
 
 -- what a `?` passes on is the reason that it met
@@ -44,8 +44,8 @@ module _ (ok : ℕ → Bool) {o : Outcome ℕ} where
   unfolding checked
   checked_stops s r = stopped s (checked ok) refl (λ bs. refl) r
 
--- a header of one byte or two has a small id
-small_header : (bs rest : List ℕ) (v : ℕ) → varint base bs ≡ whole v rest → v < 16384 → header_of base bs ≡ whole v rest
+-- a header of one byte, two or three has a small id
+small_header : (bs rest : List ℕ) (v : ℕ) → varint base bs ≡ whole v rest → v < 2097152 → header_of base bs ≡ whole v rest
 small_header bs rest v e l = checked_passes (λ h. leb (h / 8) base.id) e (le-leb (v / 8) base.id (omega arith))
 
 pub one_header : (bs : List ℕ) → 1 ≤ length bs → get_or bs 0 0 < 128 → header_of base bs ≡ whole (get_or bs 0 0) (tail 1 bs)
@@ -55,6 +55,13 @@ pub two_header : (bs : List ℕ) → 128 ≤ get_or bs 0 0 → 2 ≤ length bs �
     header_of base bs ≡ whole (get_or bs 0 0 % 128 + get_or bs 1 0 * 128) (tail 2 bs)
 two_header bs g h l =
     small_header bs (tail 2 bs) (get_or bs 0 0 % 128 + get_or bs 1 0 * 128) (two bs g h l) (omega (arith, mod-lt (get_or bs 0 0) {m = 128} (lit< tt)))
+
+pub three_header : (bs : List ℕ) → 128 ≤ get_or bs 0 0 → 128 ≤ get_or bs 1 0 → 3 ≤ length bs → get_or bs 2 0 < 128 →
+    header_of base bs ≡ whole (get_or bs 0 0 % 128 + get_or bs 1 0 % 128 * 128 + get_or bs 2 0 * 16384) (tail 3 bs)
+three_header bs g f h l =
+    let m = mod-lt (get_or bs 0 0) {m = 128} (lit< tt) in
+    let n = mod-lt (get_or bs 1 0) {m = 128} (lit< tt) in
+    small_header bs (tail 3 bs) (get_or bs 0 0 % 128 + get_or bs 1 0 % 128 * 128 + get_or bs 2 0 * 16384) (three bs g f h l) (omega arith)
 
 -- ---- varints in a row: n of them, of which the last n - k are still to come
 

@@ -79,6 +79,20 @@ two (b ∷ c ∷ bs) g h l =
     ∙ step c bs 1 (0 + digit 0 b) (value (b % 128 + c * 128)) (steps.ends base 1 (0 + digit 0 b) c (lit< tt) l ∙ ap value e)
     ∙ ap (whole (b % 128 + c * 128)) (sym (tail_is 2 (b ∷ c ∷ bs)))
 
+-- and of three
+pub three : (bs : List ℕ) → 128 ≤ get_or bs 0 0 → 128 ≤ get_or bs 1 0 → 3 ≤ length bs → get_or bs 2 0 < 128 →
+    varint base bs ≡ whole (get_or bs 0 0 % 128 + get_or bs 1 0 % 128 * 128 + get_or bs 2 0 * 16384) (tail 3 bs)
+unfolding after
+three [] g f h l = absurd (omega arith)
+three (b ∷ []) g f h l = absurd (omega arith)
+three (b ∷ c ∷ []) g f h l = absurd (omega arith)
+three (b ∷ c ∷ d ∷ bs) g f h l =
+    let e : 0 + digit 0 b + digit 1 c + digit 2 d ≡ b % 128 + c % 128 * 128 + d * 16384 = omega (arith, mod-eq_of_lt l) in
+    step b (c ∷ d ∷ bs) 0 0 (more 1 (0 + digit 0 b)) (steps.goes_on base 0 0 b (lit< tt) g)
+    ∙ step c (d ∷ bs) 1 (0 + digit 0 b) (more 2 (0 + digit 0 b + digit 1 c)) (steps.goes_on base 1 (0 + digit 0 b) c (lit< tt) f)
+    ∙ step d bs 2 (0 + digit 0 b + digit 1 c) (value (b % 128 + c % 128 * 128 + d * 16384)) (steps.ends base 2 (0 + digit 0 b + digit 1 c) d (lit< tt) l ∙ ap value e)
+    ∙ ap (whole (b % 128 + c % 128 * 128 + d * 16384)) (sym (tail_is 3 (b ∷ c ∷ d ∷ bs)))
+
 -- their ends
 module _ (d : ℕ) (bs : List ℕ) where
   pub one_ends : 1 ≤ length bs → get_or bs 0 0 < 128 → ends d (varint base bs) ≡ whole d (tail 1 bs)

@@ -59,20 +59,31 @@ pub fn varint_at(bytes: &[u8]) -> Result<(u64, &[u8]), Stop<&[u8]>>
     }
 }
 
-// A header of one byte or two has a small id.
-pub fn header_at(bytes: &[u8]) -> Result<(u64, &[u8]), Stop<&[u8]>>
+// A header, out of line.
+#[inline(never)]
+fn long_header_at(bytes: &[u8]) -> Result<(u64, &[u8]), Stop<&[u8]>>
     ensures { Reaches (header_of base bytes.now) result }
 {
-    match bytes {
-        [b, rest @ ..] if *b < 128 => return Ok((*b as u64, rest)),
-        [b, c, rest @ ..] if *c < 128 => return Ok(((*b % 128) as u64 + *c as u64 * 128, rest)),
-        _ => {}
-    }
     let (h, rest) = value_at(bytes)?;
     if (ID_MAX as u64) < h / 8 {
         return Err(Stop::Broken(rest));
     }
     Ok((h, rest))
+}
+
+// A header of one byte, two or three has a small id.
+pub fn header_at(bytes: &[u8]) -> Result<(u64, &[u8]), Stop<&[u8]>>
+    ensures { Reaches (header_of base bytes.now) result }
+{
+    match bytes {
+        [b, rest @ ..] if *b < 128 => Ok((*b as u64, rest)),
+        [b, c, rest @ ..] if *c < 128 => Ok(((*b % 128) as u64 + *c as u64 * 128, rest)),
+        [b, c, d, rest @ ..] if *d < 128 => Ok((
+            (*b % 128) as u64 + (*c % 128) as u64 * 128 + *d as u64 * 16384,
+            rest,
+        )),
+        _ => long_header_at(bytes),
+    }
 }
 
 // An array's count.

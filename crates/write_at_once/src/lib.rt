@@ -14,7 +14,7 @@ ghost use Rattle.at_ease.specs.AtOnce.{pair_most, roomy_at, easy_at, easy_with, 
 
 use at_ease::{at_ease, at_ease_with, closes_at_ease, has_room, put_end};
 use elements::{Integer, put_fittings};
-use emit::{put_fitting, put_rest};
+use emit::put_fitting;
 use held::tagged;
 use places::{Nest, unused_zero};
 use types::{ARRAY_MAX, FIXLEN_MAX, FixlenType, LAZY_SEQ_DEPTH, T_FIXLEN};
@@ -69,9 +69,21 @@ pub fn put_pair(
     Some(put_two(buf, pos, header, second))
 }
 
-// Two varints and bytes after them, likewise. (Out of line, as `put_integers`; `put_longer` in the place of the two varints here and there
-// would be one line for two, and a call more. By the attribute, since a float's bytes in line came to be a call of `memcpy`: `emit`.)
-#[inline(never)]
+// Bytes for which there is room; where they end. (Room: as `emit::put_fitting`. `emit::put_rest` would test for it again, and where the
+// compiler sees that the bytes are a float's own, a loop of a length that it doesn't know becomes a call of `memcpy`: see `emit::put_own`.)
+#[inline(always)]
+fn put_all(buf: &mut [u8], pos: usize, bytes: &[u8]) -> usize
+    requires { pos + length bytes.now ≤ length buf.old }
+    ensures { Puts buf.old pos bytes.now buf.new result }
+{
+    for k in 0..bytes.len() {
+        buf[pos + k] = bytes[k];
+    }
+    pos + bytes.len()
+}
+
+// Two varints and bytes after them, likewise. (`put_longer` in the place of the two varints here and there would be one line for two, and a
+// call more.)
 pub fn put_field(
     buf: &mut [u8],
     pos: usize,
@@ -87,7 +99,7 @@ pub fn put_field(
     }
     let mid = put_fitting(buf, pos, header);
     let end = put_fitting(buf, mid, second);
-    Some(put_rest(buf, end, bytes, 0))
+    Some(put_all(buf, end, bytes))
 }
 
 // An array of integers, likewise: header, count, elements. (How many, the test before it has told: ten bytes each then fit a usize.)

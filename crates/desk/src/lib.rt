@@ -14,12 +14,13 @@ pub fn word(desk: &[u64], i: usize) -> u64 {
     desk.get(i).copied().unwrap_or(0)
 }
 
-// Words from a place on, as far as the desk goes (`copy_from_slice` would need both cut to one length first). Out of line: in line, where
-// the words are a function's own, the loop becomes a call of `memcpy`, and an archive for C is to need nothing from outside.
-#[inline(never)]
+// Words from a place on, as far as the desk goes. (Word by word, each with its own test: a loop over both cut to one length becomes a call of
+// `memcpy` where the words are a function's own, and an archive for C is to need nothing from outside.)
 pub fn lay(desk: &mut [u64], at: usize, words: &[u64]) {
-    for (place, n) in desk.iter_mut().skip(at).zip(words) {
-        *place = *n;
+    for (i, n) in words.iter().enumerate() {
+        if let Some(place) = desk.get_mut(at.saturating_add(i)) {
+            *place = *n;
+        }
     }
 }
 

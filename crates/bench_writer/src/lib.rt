@@ -249,9 +249,10 @@ fn copy(bytes: &[u8], out: &mut [u8], at: usize) -> usize {
     let end = at.wrapping_add(bytes.len());
     match out.get_mut(at..end) {
         Some(place) => {
-            // Byte by byte: `copy_from_slice` calls `memmove`, which the archive for C is not to need from outside.
-            for (to, from) in place.iter_mut().zip(bytes) {
-                *to = *from;
+            // By index, as `emit::put_rest`: `copy_from_slice` calls `memmove`, which the archive for C is not to need from outside, and over
+            // two iterators the loop went byte by byte.
+            for i in 0..bytes.len().min(place.len()) {
+                place[i] = bytes[i];
             }
             end
         }

@@ -11,7 +11,7 @@ ghost use Rattle.lengths.specs.Lengths.{Sizes, BodySizes, sized, varint_length, 
 
 use bodies::{bytes_at, floats_at};
 use passing::{Stop, count_at, long_varint_at, varint_at};
-use shortest::long_number_at;
+use shortest::number_at;
 use varint::{varint_len, width};
 
 // ---- varints
@@ -30,7 +30,7 @@ fn value_len(bytes: &[u8]) -> Result<(usize, &[u8]), Stop<&[u8]>>
 fn long_len(bytes: &[u8]) -> Result<(usize, &[u8]), Stop<&[u8]>>
     ensures { Sizes (λ n. sized varint_length n (varint base bytes.now)) result }
 {
-    if let Some(rest) = long_number_at(bytes) {
+    if let Some(rest) = number_at(bytes) {
         return Ok((bytes.len() - rest.len(), rest));
     }
     value_len(bytes)

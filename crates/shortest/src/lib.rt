@@ -10,8 +10,8 @@ use varint::LAST_BYTE;
 
 // What is behind a varint; none where it is longer than needed, or not whole. Passing's loop to a varint's end takes longer ones too: one
 // loop for both would take a flag.
-#[inline(never)]
-pub fn long_number_at(t: &[u8]) -> Option<&[u8]>
+#[inline(always)]
+pub fn number_at(t: &[u8]) -> Option<&[u8]>
     ensures { IfSome result (λ r. Ends t.now Number r.now) }
 {
     for (k, &b) in t.iter().enumerate() {
@@ -27,6 +27,14 @@ pub fn long_number_at(t: &[u8]) -> Option<&[u8]>
         }
     }
     None
+}
+
+// The same, out of line.
+#[inline(never)]
+pub fn long_number_at(t: &[u8]) -> Option<&[u8]>
+    ensures { IfSome result (λ r. Ends t.now Number r.now) }
+{
+    number_at(t)
 }
 
 // How many bytes a float has whose word, its length × 8 + subtype, this is.

@@ -1,9 +1,9 @@
--- `shortest::long_number_at` meets its contract: the bytes so far go on, and any number above 0 may follow them.
+-- `shortest::number_at` meets its contract: the bytes so far go on, and any number above 0 may follow them.
 use native.Mathlib.Omega.{arith}
 use Rattle.shortest.proofs.Spans.{ends_behind}
 use Rattle.shortest.proofs.Varints.{going_start, going_more, going_ends, going_one, going_last}
-use Rattle.shortest.proofs.long_number_at.Goals as goal
-use Rattle.shortest.proofs.long_number_at.Goals.{else-b-eq0-via-then-b-eq0+else-k-gt0, else-b-eq0-via-else-b-eq0}
+use Rattle.shortest.proofs.number_at.Goals as goal
+use Rattle.shortest.proofs.number_at.Goals.{else-b-eq0-via-then-b-eq0+else-k-gt0, else-b-eq0-via-else-b-eq0}
 
 pub loop-k-init : goal.loop-k-init
 loop-k-init c = going_start c.args.t.now

@@ -11,7 +11,7 @@ pub loop-k-preserved : goal.loop-k-preserved
 loop-k-preserved c =
     let e : 0 + c.loop-k.k ≡ c.loop-k.k = omega arith in
     subst (λ (k : ℕ). Left c.args.buf.now c.args.pos c.args.bytes.now (set c.loop-k.buf (c.args.pos + c.loop-k.k) (get_or c.args.bytes.now k 0)) (c.args.pos + (c.loop-k.k + 1)) (drop (0 + (c.loop-k.k + 1)) c.args.bytes.now)) e
-        (copied _ _ _ _ _ 0 _ c.loop-k.invariant (omega arith) (omega arith))
+    (copied _ _ _ _ _ 0 _ c.loop-k.invariant (omega arith) (omega arith))
 
 pub returns : goal.returns
 returns c =

@@ -249,8 +249,7 @@ fn copy(bytes: &[u8], out: &mut [u8], at: usize) -> usize {
     let end = at.wrapping_add(bytes.len());
     match out.get_mut(at..end) {
         Some(place) => {
-            // By index, as `emit::put_rest`: `copy_from_slice` calls `memmove`, which the archive for C is not to need from outside, and over
-            // two iterators the loop went byte by byte.
+            // By index, as `emit::put_rest`: `copy_from_slice` calls `memmove`, which the archive for C is not to need from outside.
             for i in 0..bytes.len().min(place.len()) {
                 place[i] = bytes[i];
             }
